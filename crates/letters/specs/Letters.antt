@@ -3,6 +3,7 @@
 use mathlib.Core.Bool.{Bool, true, false, _&&_, _||_}
 use Prim.Native.Nat.{ℕ}
 use lib.Dec.{eqb, leb}
+use Rattle.letters.specs.Choice.{pick}
 use Rattle.letters.specs.declared.kind.Kind.{Kind}
 use Rattle.letters.specs.declared.kind.Kind.the-variants.{Consonant, IndependentVowel, Medial, VowelMark, Tone, Killer, Stacker, GreatSa, Digit, Stop, Sign, Foreign}
 
@@ -50,24 +51,20 @@ isStop x = within 0x104A 0x104B x
 abbrev pub isSign : ℕ → Bool
 isSign x = within 0x104C 0x104F x
 
-unfoldable pub pickKind : Bool → Kind → Kind → Kind
-pickKind true a b = a
-pickKind false a b = b
-
 -- the class that has the value; "Everything else is foreign"
 abbrev pub kindOf : ℕ → Kind
 kindOf x =
-    pickKind (isConsonant x) Consonant
-    (pickKind (isIndependentVowel x) IndependentVowel
-    (pickKind (isMedial x) Medial
-    (pickKind (isVowelMark x) VowelMark
-    (pickKind (isTone x) Tone
-    (pickKind (isKiller x) Killer
-    (pickKind (isStacker x) Stacker
-    (pickKind (isGreatSa x) GreatSa
-    (pickKind (isDigit x) Digit
-    (pickKind (isStop x) Stop
-    (pickKind (isSign x) Sign Foreign))))))))))
+    pick (isConsonant x) Consonant
+    (pick (isIndependentVowel x) IndependentVowel
+    (pick (isMedial x) Medial
+    (pick (isVowelMark x) VowelMark
+    (pick (isTone x) Tone
+    (pick (isKiller x) Killer
+    (pick (isStacker x) Stacker
+    (pick (isGreatSa x) GreatSa
+    (pick (isDigit x) Digit
+    (pick (isStop x) Stop
+    (pick (isSign x) Sign Foreign))))))))))
 
 -- the value has one of the eleven classes
 abbrev pub isAdmitted : ℕ → Bool

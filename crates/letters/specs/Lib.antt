@@ -1,3 +1,4 @@
+pub mod Choice
 pub mod Letters
 pub mod Marks
 pub mod Weights

@@ -4,18 +4,11 @@ use mathlib.Core.Bool.{Bool, true, false, _&&_, _||_}
 use mathlib.Core.List.{List, [], _∷_}
 use Prim.Native.Nat.{ℕ, _+_, _-_}
 use lib.Dec.{eqb, leb}
+use Rattle.letters.specs.Choice.{pick}
 use Rattle.letters.specs.Letters.{within, isConsonant, isIndependentVowel, isDigit, isStop, isSign}
 use Rattle.letters.specs.Marks.{YaRa, neither, ya, ra, MedialGroup, group, Vowel, no-vowel, vowel-aa, vowel-i, vowel-ii, vowel-u, vowel-uu, vowel-e, vowel-ai, vowel-e-aa, vowel-e-aa-killer, vowel-am, vowel-i-u, vowel-u-am, ToneMark, no-tone, dot, visarga}
 use Rattle.letters.specs.declared.weight.Weighed.{Weighed}
 use Rattle.letters.specs.declared.weight.Weighed.the-variants.{Weight, Nothing}
-
-unfoldable pub pick : Bool → ℕ → ℕ → ℕ
-pick true a b = a
-pick false a b = b
-
-unfoldable pub pickWeighed : Bool → Weighed → Weighed → Weighed
-pickWeighed true a b = a
-pickWeighed false a b = b
 
 -- a value that may be the head of a syllable
 abbrev pub isHead : ℕ → Bool
@@ -79,7 +72,7 @@ medialGroups =
 -- the weight of the group among these that has the set of medials n
 abbrev pub weightIn : List MedialGroup → ℕ → Weighed
 weightIn [] n = Nothing
-weightIn (g ∷ gs) n = pickWeighed (eqb n (medialSet g)) (Weight (medialWeight g)) (weightIn gs n)
+weightIn (g ∷ gs) n = pick (eqb n (medialSet g)) (Weight (medialWeight g)) (weightIn gs n)
 
 -- the weight of a set of medials; a set with Y and R, or with anything else, is no group's
 abbrev pub medialSetWeight : ℕ → Weighed
@@ -137,29 +130,29 @@ toneWeight visarga = 2
 -- the vowel that is written with the one mark x, by weight
 abbrev pub vowelOfMark : ℕ → Weighed
 vowelOfMark x =
-    pickWeighed (within 0x102B 0x102C x) (Weight 1)
-    (pickWeighed (within 0x102D 0x1032 x) (Weight (x - 0x102D + 2)) (pickWeighed (eqb x 0x1036) (Weight 10) Nothing))
+    pick (within 0x102B 0x102C x) (Weight 1)
+    (pick (within 0x102D 0x1032 x) (Weight (x - 0x102D + 2)) (pick (eqb x 0x1036) (Weight 10) Nothing))
 
 -- the vowel that is written as the vowel of weight v and then x, by weight: each of the twelve by its last mark
 abbrev pub vowelWith : ℕ → ℕ → Weighed
 vowelWith v x =
-    pickWeighed (eqb v 0) (vowelOfMark x)
-    (pickWeighed (eqb v 6 && within 0x102B 0x102C x) (Weight 8)
-    (pickWeighed (eqb v 8 && eqb x 0x103A) (Weight 9)
-    (pickWeighed (eqb v 2 && eqb x 0x102F) (Weight 11) (pickWeighed (eqb v 4 && eqb x 0x1036) (Weight 12) Nothing))))
+    pick (eqb v 0) (vowelOfMark x)
+    (pick (eqb v 6 && within 0x102B 0x102C x) (Weight 8)
+    (pick (eqb v 8 && eqb x 0x103A) (Weight 9)
+    (pick (eqb v 2 && eqb x 0x102F) (Weight 11) (pick (eqb v 4 && eqb x 0x1036) (Weight 12) Nothing))))
 
 -- what a value weighs where it is of the class, and that it is not where it isn't
 abbrev pub headWeighed : ℕ → Weighed
-headWeighed x = pickWeighed (isHead x) (Weight (headWeight x)) Nothing
+headWeighed x = pick (isHead x) (Weight (headWeight x)) Nothing
 
 abbrev pub independentVowelWeighed : ℕ → Weighed
-independentVowelWeighed x = pickWeighed (isIndependentVowel x) (Weight (independentVowelWeight x)) Nothing
+independentVowelWeighed x = pick (isIndependentVowel x) (Weight (independentVowelWeight x)) Nothing
 
 abbrev pub finalNumbered : ℕ → Weighed
-finalNumbered x = pickWeighed (isFinalLetter x) (Weight (finalNumber x)) Nothing
+finalNumbered x = pick (isFinalLetter x) (Weight (finalNumber x)) Nothing
 
 abbrev pub finalWeighed : ℕ → Weighed
-finalWeighed x = pickWeighed (isFinalLetter x) (Weight (finalWeight x)) Nothing
+finalWeighed x = pick (isFinalLetter x) (Weight (finalWeight x)) Nothing
 
 abbrev pub toneWeighed : ℕ → Weighed
-toneWeighed x = pickWeighed (eqb x 0x1037) (Weight 1) (pickWeighed (eqb x 0x1038) (Weight 2) Nothing)
+toneWeighed x = pick (eqb x 0x1037) (Weight 1) (pick (eqb x 0x1038) (Weight 2) Nothing)
