@@ -1,0 +1,7 @@
+pub mod Limits
+pub mod Held
+pub mod Syllable
+pub mod Row
+pub mod Record
+pub mod Spelled
+pub mod Weighing

@@ -1,0 +1,33 @@
+-- Document 01, "Syllable records": the seven bytes of a syllable.
+-- Assumes nothing.
+use mathlib.Core.List.{List, [], _∷_}
+use Prim.Native.Nat.{ℕ, _-_}
+use Rattle.letters.specs.Weights.{medialWeight, vowelWeight, vowelTall, finalNumber, toneWeight}
+use Rattle.formula.specs.Syllable.{Final, no-final, plain, stacked, kinzi, great-sa, Syllable, syllable}
+use Rattle.formula.specs.Row.{Row}
+
+-- the number of a final's letter; "Absent is 0"
+abbrev pub finalNumberOf : Final → ℕ
+finalNumberOf no-final = 0
+finalNumberOf (plain c) = finalNumber c
+finalNumberOf (stacked c) = finalNumber c
+finalNumberOf kinzi = finalNumber 0x1004
+finalNumberOf great-sa = finalNumber 0x101E
+
+-- "Link is 0 none, 1 plain, 2 stacked or kinzi, 3 great sa."
+abbrev pub linkOf : Final → ℕ
+linkOf no-final = 0
+linkOf (plain c) = 1
+linkOf (stacked c) = 2
+linkOf kinzi = 2
+linkOf great-sa = 3
+
+-- "head minus 1000; medial weight; vowel weight; 1 for a tall AA, else 0; final weight; link; tone weight"
+unfoldable pub recordOf : Syllable → List ℕ
+recordOf (syllable h m v f t) =
+    (h - 0x1000) ∷ medialWeight m ∷ vowelWeight v ∷ vowelTall v ∷ finalNumberOf f ∷ linkOf f ∷ toneWeight t ∷ []
+
+-- the records of a row, in its order
+abbrev pub recordsOf : Row → List (List ℕ)
+recordsOf [] = []
+recordsOf (s ∷ row) = recordOf s ∷ recordsOf row
