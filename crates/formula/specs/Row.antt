@@ -6,7 +6,7 @@ use mathlib.Core.List.{List, [], _∷_, _++_}
 use Prim.Native.Nat.{ℕ, _≤_, _<_}
 use lib.Dec.{T}
 use lib.ListN.{length, take}
-use Rattle.formula.specs.Syllable.{Final, no-final, Syllable, finalOf, isClosed, isSyllable, follows, part}
+use Rattle.formula.specs.Syllable.{Final, no-final, Syllable, headOf, finalOf, isClosed, isSyllable, follows, part}
 
 -- a list of syllables, "of any length or empty"
 abbrev pub Row : Type 0
@@ -15,7 +15,7 @@ Row = List Syllable
 -- the list is a row where a syllable with the final f stands before it
 abbrev pub isRowAfter : Final → Row → Bool
 isRowAfter f [] = isClosed f
-isRowAfter f (s ∷ row) = follows f s && (isSyllable s && isRowAfter (finalOf s) row)
+isRowAfter f (s ∷ row) = follows f (headOf s) && (isSyllable s && isRowAfter (finalOf s) row)
 
 -- Document 01: "A row of syllables is a list of syllables under these rules".
 abbrev pub IsRow : Row → Type 0

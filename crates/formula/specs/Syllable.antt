@@ -26,15 +26,18 @@ pub data Syllable : Type 0 where
 abbrev pub bare : ℕ → Syllable
 bare h = syllable h no-medial no-vowel no-final no-tone
 
+abbrev pub headOf : Syllable → ℕ
+headOf (syllable h m v f t) = h
+
 abbrev pub finalOf : Syllable → Final
 finalOf (syllable h m v f t) = f
 
 -- "The head is a C": the heads that may carry a medial group and a vowel
-abbrev pub carriesMarks : ℕ → Bool
+unfoldable pub carriesMarks : ℕ → Bool
 carriesMarks h = isConsonant h
 
 -- and those that may carry a final and a tone
-abbrev pub carriesFinal : ℕ → Bool
+unfoldable pub carriesFinal : ℕ → Bool
 carriesFinal h = isConsonant h
 
 abbrev pub isNoMedial : MedialGroup → Bool
@@ -94,14 +97,14 @@ abbrev pub isSyllable : Syllable → Bool
 isSyllable (syllable h m v f t) =
     isHead h && ((carriesMarks h || (isNoMedial m && isNoVowel v)) && ((carriesFinal h || (isNoFinal f && isNoTone t)) && (isFinal f && takesTone f t)))
 
--- what a final asks of the next syllable. After a stacked final or kinzi "the next syllable must be full with a head of 1000 to 1020,
--- written as a letter"; after great sa it begins with 103F, which is "the head 101E of its own".
-abbrev pub follows : Final → Syllable → Bool
-follows no-final s = true
-follows (plain c) s = true
-follows (stacked c) (syllable h m v f t) = isFinalLetter h
-follows kinzi (syllable h m v f t) = isFinalLetter h
-follows great-sa (syllable h m v f t) = eqb h 0x101E
+-- what a final asks of the next syllable's head. After a stacked final or kinzi "the next syllable must be full with a head of 1000 to
+-- 1020, written as a letter"; after great sa it begins with 103F, which is "the head 101E of its own". Those heads are all of C.
+abbrev pub follows : Final → ℕ → Bool
+follows no-final h = true
+follows (plain c) h = true
+follows (stacked c) h = isFinalLetter h
+follows kinzi h = isFinalLetter h
+follows great-sa h = eqb h 0x101E
 
 -- a great sa is written with the head of the next syllable
 abbrev pub finalText : Final → List ℕ

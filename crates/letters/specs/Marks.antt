@@ -12,6 +12,23 @@ pub data YaRa : Type 0 where
 pub data MedialGroup : Type 0 where
   group : YaRa → Bool → Bool → MedialGroup
 
+-- the twelve groups, the empty one first
+abbrev pub medialGroups : List MedialGroup
+medialGroups =
+    group neither false false
+    ∷ group ya false false
+    ∷ group ra false false
+    ∷ group neither true false
+    ∷ group neither false true
+    ∷ group ya true false
+    ∷ group ra true false
+    ∷ group ya false true
+    ∷ group ra false true
+    ∷ group neither true true
+    ∷ group ya true true
+    ∷ group ra true true
+    ∷ []
+
 -- the absence of a medial group
 abbrev pub no-medial : MedialGroup
 no-medial = group neither false false
@@ -69,3 +86,27 @@ abbrev pub toneText : ToneMark → List ℕ
 toneText no-tone = []
 toneText dot = 0x1037 ∷ []
 toneText visarga = 0x1038 ∷ []
+
+-- every vowel, and every tone
+abbrev pub vowels : List Vowel
+vowels =
+    no-vowel
+    ∷ vowel-aa false
+    ∷ vowel-aa true
+    ∷ vowel-i
+    ∷ vowel-ii
+    ∷ vowel-u
+    ∷ vowel-uu
+    ∷ vowel-e
+    ∷ vowel-ai
+    ∷ vowel-e-aa false
+    ∷ vowel-e-aa true
+    ∷ vowel-e-aa-killer false
+    ∷ vowel-e-aa-killer true
+    ∷ vowel-am
+    ∷ vowel-i-u
+    ∷ vowel-u-am
+    ∷ []
+
+abbrev pub toneMarks : List ToneMark
+toneMarks = no-tone ∷ dot ∷ visarga ∷ []

@@ -6,7 +6,7 @@ use Prim.Native.Nat.{ℕ, _+_, _-_}
 use lib.Dec.{eqb, leb}
 use Rattle.letters.specs.Choice.{pick}
 use Rattle.letters.specs.Letters.{within, isConsonant, isIndependentVowel, isDigit, isStop, isSign}
-use Rattle.letters.specs.Marks.{YaRa, neither, ya, ra, MedialGroup, group, Vowel, no-vowel, vowel-aa, vowel-i, vowel-ii, vowel-u, vowel-uu, vowel-e, vowel-ai, vowel-e-aa, vowel-e-aa-killer, vowel-am, vowel-i-u, vowel-u-am, ToneMark, no-tone, dot, visarga}
+use Rattle.letters.specs.Marks.{YaRa, neither, ya, ra, MedialGroup, group, medialGroups, Vowel, no-vowel, vowel-aa, vowel-i, vowel-ii, vowel-u, vowel-uu, vowel-e, vowel-ai, vowel-e-aa, vowel-e-aa-killer, vowel-am, vowel-i-u, vowel-u-am, ToneMark, no-tone, dot, visarga}
 use Rattle.letters.specs.declared.weight.Weighed.{Weighed}
 use Rattle.letters.specs.declared.weight.Weighed.the-variants.{Weight, Nothing}
 
@@ -51,23 +51,6 @@ yaRaSet ra = 2
 
 abbrev pub medialSet : MedialGroup → ℕ
 medialSet (group yr w h) = yaRaSet yr + (bitIf w 4 + bitIf h 8)
-
--- the twelve groups, the empty one first
-abbrev pub medialGroups : List MedialGroup
-medialGroups =
-    group neither false false
-    ∷ group ya false false
-    ∷ group ra false false
-    ∷ group neither true false
-    ∷ group neither false true
-    ∷ group ya true false
-    ∷ group ra true false
-    ∷ group ya false true
-    ∷ group ra false true
-    ∷ group neither true true
-    ∷ group ya true true
-    ∷ group ra true true
-    ∷ []
 
 -- the weight of the group among these that has the set of medials n
 abbrev pub weightIn : List MedialGroup → ℕ → Weighed

@@ -1,0 +1,64 @@
+-- Equality of lists of numbers as a test that computes, for tables of examples.
+-- Assumes nothing.
+use mathlib.Core.Path.{_≡_, refl, ap}
+use mathlib.Core.Bool.{Bool, true, false, _&&_}
+use mathlib.Core.List.{List, [], _∷_}
+use Prim.Native.Nat.{ℕ}
+use lib.Dec.{T, eqb, eqb→eq}
+
+pub both-left : (a b : Bool) → T (a && b) → T a
+both-left true b t = tt
+both-left false b t = t
+
+pub both-right : (a b : Bool) → T (a && b) → T b
+both-right true b t = t
+both-right false b t = absurd t
+
+pub both : (a b : Bool) → T a → T b → T (a && b)
+both true b s t = t
+both false b s t = absurd s
+
+-- the test f passes at each element
+abbrev pub every : {A : Type 0} → (A → Bool) → List A → Bool
+every f [] = true
+every f (x ∷ xs) = f x && every f xs
+
+-- P holds of each element
+abbrev pub All : {A : Type 0} → (A → Type 0) → List A → Type 0
+All P [] = Unit {0}
+All P (x ∷ xs) = P x × All P xs
+
+-- a test over a whole list, turned into what it says of each element
+pub every-all : {A : Type 0} (f : A → Bool) (P : A → Type 0) → ((x : A) → T (f x) → P x) → (xs : List A) → T (every f xs) → All P xs
+every-all f P g [] t = tt
+every-all f P g (x ∷ xs) t = (g x (both-left (f x) (every f xs) t), every-all f P g xs (both-right (f x) (every f xs) t))
+
+module _ {A : Type 0} (same : A → A → Bool) where
+  -- two lists whose elements pass the test pairwise
+  abbrev pub sameBy : List A → List A → Bool
+  sameBy [] [] = true
+  sameBy [] (y ∷ ys) = false
+  sameBy (x ∷ xs) [] = false
+  sameBy (x ∷ xs) (y ∷ ys) = same x y && sameBy xs ys
+
+  pub sameBy-equal : ((x y : A) → T (same x y) → x ≡ y) → (xs ys : List A) → T (sameBy xs ys) → xs ≡ ys
+  sameBy-equal f [] [] t = refl
+  sameBy-equal f [] (y ∷ ys) t = absurd t
+  sameBy-equal f (x ∷ xs) [] t = absurd t
+  sameBy-equal f (x ∷ xs) (y ∷ ys) t =
+      let e : x ≡ y = f x y (both-left (same x y) (sameBy xs ys) t) in
+      let d : xs ≡ ys = sameBy-equal f xs ys (both-right (same x y) (sameBy xs ys) t) in
+      rw (e, d)
+
+-- lists of numbers, and lists of those
+abbrev pub sameList : List ℕ → List ℕ → Bool
+sameList = sameBy eqb
+
+abbrev pub sameLists : List (List ℕ) → List (List ℕ) → Bool
+sameLists = sameBy sameList
+
+pub sameList-equal : (xs ys : List ℕ) → T (sameList xs ys) → xs ≡ ys
+sameList-equal = sameBy-equal eqb eqb→eq
+
+pub sameLists-equal : (xs ys : List (List ℕ)) → T (sameLists xs ys) → xs ≡ ys
+sameLists-equal = sameBy-equal sameList sameList-equal

@@ -1,0 +1,183 @@
+-- The words of document 01, "Words to try", that are rows, and rows that break each rule: one table each, computed.
+-- Assumes nothing.
+use mathlib.Core.Path.{_≡_}
+use mathlib.Core.Bool.{Bool, true, false, not, _&&_}
+use mathlib.Core.List.{List, [], _∷_}
+use Prim.Native.Nat.{ℕ}
+use lib.Dec.{T}
+use lib.ListN.{replicate}
+use Rattle.letters.specs.Choice.{pick}
+use Rattle.letters.specs.Marks.{ya, ra, MedialGroup, group, medialGroups, no-medial, medialText, Vowel, vowels, no-vowel, vowel-aa, vowel-ii, vowel-e-aa-killer, vowel-i-u, vowelText, ToneMark, toneMarks, no-tone, dot, visarga, toneText}
+use Rattle.formula.specs.Syllable.{no-final, plain, stacked, kinzi, great-sa, syllable, bare, carriesMarks, carriesFinal}
+use Rattle.formula.specs.Row.{Row, isRowAfter, join, Gives}
+use Rattle.formula.specs.Spelled.{spelled}
+use Rattle.formula.specs.Weighing.{weightsOf, weights}
+use Rattle.formula.proofs.Lists.{both-left, both-right, every, All, every-all, sameList, sameLists, sameList-equal, sameLists-equal}
+
+-- a word, the row that gives it, the row's weights and its spelled syllables
+pub record Example : Type 0 where
+  pub word : List ℕ
+  pub row : Row
+  pub weigh : List (List ℕ)
+  pub spell : List (List ℕ)
+
+abbrev pub examples : List Example
+examples =
+    record { word = []; row = []; weigh = []; spell = [] }
+    ∷ record {
+      word = 0x1000 ∷ [];
+      row = bare 0x1000 ∷ [];
+      weigh = (13 ∷ 0 ∷ 0 ∷ 0 ∷ 0 ∷ []) ∷ [];
+      spell = (0x1000 ∷ []) ∷ [];
+    }
+    ∷ record {
+      word = 0x101E ∷ 0x1019 ∷ 0x102E ∷ 0x1038 ∷ [];
+      row = bare 0x101E ∷ syllable 0x1019 no-medial vowel-ii no-final visarga ∷ [];
+      weigh = (43 ∷ 0 ∷ 0 ∷ 0 ∷ 0 ∷ []) ∷ (38 ∷ 0 ∷ 0 ∷ 3 ∷ 2 ∷ []) ∷ [];
+      spell = (0x101E ∷ []) ∷ (0x1019 ∷ 0x102E ∷ 0x1038 ∷ []) ∷ [];
+    }
+    ∷ record {
+      word = 0x1010 ∷ 0x1000 ∷ 0x1039 ∷ 0x1000 ∷ 0x101E ∷ 0x102D ∷ 0x102F ∷ 0x101C ∷ 0x103A ∷ [];
+      row = syllable 0x1010 no-medial no-vowel (stacked 0x1000) no-tone ∷ bare 0x1000 ∷ syllable 0x101E no-medial vowel-i-u (plain 0x101C) no-tone ∷ [];
+      weigh = (29 ∷ 0 ∷ 1 ∷ 0 ∷ 0 ∷ []) ∷ (13 ∷ 0 ∷ 0 ∷ 0 ∷ 0 ∷ []) ∷ (43 ∷ 0 ∷ 29 ∷ 11 ∷ 0 ∷ []) ∷ [];
+      spell = (0x1010 ∷ 0x1000 ∷ 0x103A ∷ []) ∷ (0x1000 ∷ []) ∷ (0x101E ∷ 0x102D ∷ 0x102F ∷ 0x101C ∷ 0x103A ∷ []) ∷ [];
+    }
+    ∷ record {
+      word = 0x1021 ∷ 0x1004 ∷ 0x103A ∷ 0x1039 ∷ 0x1002 ∷ 0x101C ∷ 0x1014 ∷ 0x103A ∷ [];
+      row = syllable 0x1021 no-medial no-vowel kinzi no-tone ∷ bare 0x1002 ∷ syllable 0x101C no-medial no-vowel (plain 0x1014) no-tone ∷ [];
+      weigh = (46 ∷ 0 ∷ 5 ∷ 0 ∷ 0 ∷ []) ∷ (15 ∷ 0 ∷ 0 ∷ 0 ∷ 0 ∷ []) ∷ (41 ∷ 0 ∷ 21 ∷ 0 ∷ 0 ∷ []) ∷ [];
+      spell = (0x1021 ∷ 0x1004 ∷ 0x103A ∷ []) ∷ (0x1002 ∷ []) ∷ (0x101C ∷ 0x1014 ∷ 0x103A ∷ []) ∷ [];
+    }
+    ∷ record {
+      word = 0x1015 ∷ 0x103C ∷ 0x103F ∷ 0x1014 ∷ 0x102C ∷ [];
+      row = syllable 0x1015 (group ra false false) no-vowel great-sa no-tone ∷ bare 0x101E ∷ syllable 0x1014 no-medial (vowel-aa false) no-final no-tone ∷ [];
+      weigh = (34 ∷ 2 ∷ 31 ∷ 0 ∷ 0 ∷ []) ∷ (43 ∷ 0 ∷ 0 ∷ 0 ∷ 0 ∷ []) ∷ (33 ∷ 0 ∷ 0 ∷ 1 ∷ 0 ∷ []) ∷ [];
+      spell = (0x1015 ∷ 0x103C ∷ 0x101E ∷ 0x103A ∷ []) ∷ (0x101E ∷ []) ∷ (0x1014 ∷ 0x102C ∷ []) ∷ [];
+    }
+    ∷ record {
+      word = 0x1000 ∷ 0x1031 ∷ 0x102C ∷ 0x103A ∷ [];
+      row = syllable 0x1000 no-medial (vowel-e-aa-killer false) no-final no-tone ∷ [];
+      weigh = (13 ∷ 0 ∷ 0 ∷ 9 ∷ 0 ∷ []) ∷ [];
+      spell = (0x1000 ∷ 0x1031 ∷ 0x102C ∷ 0x103A ∷ []) ∷ [];
+    }
+    ∷ record {
+      word = 0x1000 ∷ 0x1014 ∷ 0x103A ∷ 0x1037 ∷ [];
+      row = syllable 0x1000 no-medial no-vowel (plain 0x1014) dot ∷ [];
+      weigh = (13 ∷ 0 ∷ 21 ∷ 0 ∷ 1 ∷ []) ∷ [];
+      spell = (0x1000 ∷ 0x1014 ∷ 0x103A ∷ 0x1037 ∷ []) ∷ [];
+    }
+    ∷ record {
+      word = 0x1026 ∷ [];
+      row = bare 0x1026 ∷ [];
+      weigh = (46 ∷ 0 ∷ 0 ∷ 5 ∷ 0 ∷ []) ∷ [];
+      spell = (0x1026 ∷ []) ∷ [];
+    }
+    ∷ record {
+      word = replicate 64 0x1000;
+      row = replicate 64 (bare 0x1000);
+      weigh = replicate 64 (13 ∷ 0 ∷ 0 ∷ 0 ∷ 0 ∷ []);
+      spell = replicate 64 (0x1000 ∷ []);
+    }
+    ∷ []
+
+abbrev pub isRight : Example → Bool
+isRight e =
+    isRowAfter no-final (e .row) && (sameList (join (e .row)) (e .word) && (sameLists (weights (e .row)) (e .weigh) && sameLists (spelled (e .row)) (e .spell)))
+
+examples-right : T (every isRight examples)
+unfolding weightsOf pick carriesMarks carriesFinal
+examples-right = tt
+
+-- what the test says of each example
+pub record Right (e : Example) : Type 0 where
+  pub gives : Gives (e .row) (e .word)
+  pub weighs : weights (e .row) ≡ e .weigh
+  pub spells : spelled (e .row) ≡ e .spell
+
+right : (e : Example) → T (isRight e) → Right e
+right e t =
+    let is = isRowAfter no-final (e .row) in
+    let joins = sameList (join (e .row)) (e .word) in
+    let weigh = sameLists (weights (e .row)) (e .weigh) in
+    let spell = sameLists (spelled (e .row)) (e .spell) in
+    let after : T (joins && (weigh && spell)) = both-right is (joins && (weigh && spell)) t in
+    let last : T (weigh && spell) = both-right joins (weigh && spell) after in
+    record {
+      gives =
+          record {
+            is-row = both-left is (joins && (weigh && spell)) t;
+            joined = sameList-equal (join (e .row)) (e .word) (both-left joins (weigh && spell) after);
+          };
+      weighs = sameLists-equal (weights (e .row)) (e .weigh) (both-left weigh spell last);
+      spells = sameLists-equal (spelled (e .row)) (e .spell) (both-right weigh spell last);
+    }
+
+pub words-right : All Right examples
+words-right = every-all isRight Right right examples examples-right
+
+-- lists of syllables, each of which breaks one rule
+broken : List Row
+broken =
+    -- the head is no letter, or a mark, a stacker, 103F or a foreign value
+    (bare 0x102C ∷ [])
+    ∷ (bare 0x1039 ∷ [])
+    ∷ (bare 0x103F ∷ [])
+    ∷ (bare 0x1022 ∷ [])
+    -- an I, N, P or S carries nothing
+    ∷ (syllable 0x1025 (group ya false false) no-vowel no-final no-tone ∷ [])
+    ∷ (syllable 0x1025 no-medial (vowel-aa false) no-final no-tone ∷ [])
+    ∷ (syllable 0x1040 no-medial no-vowel (plain 0x1000) no-tone ∷ [])
+    ∷ (syllable 0x104A no-medial no-vowel no-final dot ∷ [])
+    ∷ (syllable 0x104E no-medial no-vowel (stacked 0x1000) no-tone ∷ bare 0x1000 ∷ [])
+    -- a plain final 1021, and a final that is no letter
+    ∷ (syllable 0x1000 no-medial no-vowel (plain 0x1021) no-tone ∷ [])
+    ∷ (syllable 0x1000 no-medial no-vowel (plain 0x1025) no-tone ∷ [])
+    -- a stacked 1004, and a stacked 1021
+    ∷ (syllable 0x1000 no-medial no-vowel (stacked 0x1004) no-tone ∷ bare 0x1000 ∷ [])
+    ∷ (syllable 0x1000 no-medial no-vowel (stacked 0x1021) no-tone ∷ bare 0x1000 ∷ [])
+    -- a tone after a stacked final, kinzi or before 103F
+    ∷ (syllable 0x1000 no-medial no-vowel (stacked 0x1000) dot ∷ bare 0x1000 ∷ [])
+    ∷ (syllable 0x1000 no-medial no-vowel kinzi visarga ∷ bare 0x1000 ∷ [])
+    ∷ (syllable 0x1000 no-medial no-vowel great-sa dot ∷ bare 0x101E ∷ [])
+    -- a stacked final, kinzi or 103F at the end
+    ∷ (syllable 0x1000 no-medial no-vowel (stacked 0x1000) no-tone ∷ [])
+    ∷ (syllable 0x1000 no-medial no-vowel kinzi no-tone ∷ [])
+    ∷ (syllable 0x1000 no-medial no-vowel great-sa no-tone ∷ [])
+    -- a stacked final or kinzi before 1021, an I, a digit
+    ∷ (syllable 0x1000 no-medial no-vowel (stacked 0x1000) no-tone ∷ bare 0x1021 ∷ [])
+    ∷ (syllable 0x1000 no-medial no-vowel kinzi no-tone ∷ bare 0x1025 ∷ [])
+    ∷ (syllable 0x1000 no-medial no-vowel (stacked 0x1000) no-tone ∷ bare 0x1040 ∷ [])
+    -- 103F begins a syllable with the head 101E alone, and follows a full syllable alone
+    ∷ (syllable 0x1000 no-medial no-vowel great-sa no-tone ∷ bare 0x1000 ∷ [])
+    ∷ (syllable 0x1023 no-medial no-vowel great-sa no-tone ∷ bare 0x101E ∷ [])
+    ∷ []
+
+broken-right : T (every (λ (row : Row). not (isRowAfter no-final row)) broken)
+unfolding broken carriesMarks carriesFinal
+broken-right = tt
+
+-- values that are no medial group, no vowel and no tone: Y with R, an order other than Y R W H, a member twice; 103A after AA without
+-- 1031, AA before E, two vowels; two tones
+unwritten : List (List ℕ)
+unwritten =
+    (0x103B ∷ 0x103C ∷ [])
+    ∷ (0x103C ∷ 0x103B ∷ [])
+    ∷ (0x103D ∷ 0x103B ∷ [])
+    ∷ (0x103E ∷ 0x103D ∷ [])
+    ∷ (0x103B ∷ 0x103B ∷ [])
+    ∷ (0x102C ∷ 0x103A ∷ [])
+    ∷ (0x102C ∷ 0x1031 ∷ [])
+    ∷ (0x102C ∷ 0x102D ∷ [])
+    ∷ (0x102F ∷ 0x102D ∷ [])
+    ∷ (0x1037 ∷ 0x1038 ∷ [])
+    ∷ (0x1038 ∷ 0x1038 ∷ [])
+    ∷ []
+
+abbrev isUnwritten : List ℕ → Bool
+isUnwritten text =
+    every (λ (g : MedialGroup). not (sameList (medialText g) text)) medialGroups
+    && (every (λ (v : Vowel). not (sameList (vowelText v) text)) vowels && every (λ (t : ToneMark). not (sameList (toneText t) text)) toneMarks)
+
+unwritten-right : T (every isUnwritten unwritten)
+unfolding unwritten
+unwritten-right = tt
