@@ -9,3 +9,7 @@ limit = 64
 -- the most bytes of a line: three for each value
 abbrev pub lineLimit : ℕ
 lineLimit = 3 * limit
+
+-- the most bytes of a word's records: seven for each value
+abbrev pub recordLimit : ℕ
+recordLimit = 7 * limit

@@ -1,6 +1,6 @@
 -- Document 01, "Syllable records": the seven bytes of a syllable.
 -- Assumes nothing.
-use mathlib.Core.List.{List, [], _∷_}
+use mathlib.Core.List.{List, [], _∷_, _++_}
 use Prim.Native.Nat.{ℕ, _-_}
 use Rattle.letters.specs.Weights.{medialWeight, vowelWeight, vowelTall, finalNumber, toneWeight}
 use Rattle.formula.specs.Syllable.{Final, no-final, plain, stacked, kinzi, great-sa, Syllable, syllable}
@@ -27,7 +27,7 @@ unfoldable pub recordOf : Syllable → List ℕ
 recordOf (syllable h m v f t) =
     (h - 0x1000) ∷ medialWeight m ∷ vowelWeight v ∷ vowelTall v ∷ finalNumberOf f ∷ linkOf f ∷ toneWeight t ∷ []
 
--- the records of a row, in its order
-abbrev pub recordsOf : Row → List (List ℕ)
-recordsOf [] = []
-recordsOf (s ∷ row) = recordOf s ∷ recordsOf row
+-- the row as a list of bytes, "seven a syllable in word order"
+abbrev pub recordBytes : Row → List ℕ
+recordBytes [] = []
+recordBytes (s ∷ row) = recordOf s ++ recordBytes row

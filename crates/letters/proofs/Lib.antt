@@ -1,1 +1,5 @@
+pub mod Arms
+pub mod Counted
 pub mod Picks
+pub mod Table
+pub mod Written

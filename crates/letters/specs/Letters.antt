@@ -1,6 +1,6 @@
 -- Document 01, "The letters": the 75 admitted values by class, and the kind of every value.
 -- Assumes nothing.
-use mathlib.Core.Bool.{Bool, true, false, _&&_, _||_}
+use mathlib.Core.Bool.{Bool, _&&_, _||_}
 use Prim.Native.Nat.{ℕ}
 use lib.Dec.{eqb, leb}
 use Rattle.letters.specs.Choice.{pick}

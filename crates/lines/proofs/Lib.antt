@@ -1,0 +1,4 @@
+pub mod Threes
+pub mod Passing
+pub mod RoundTrip
+pub mod Words

@@ -1,0 +1,38 @@
+-- Number and place determine the refusal: both give it back, the number as the index of its variant.
+-- Assumes nothing.
+use mathlib.Core.Path.{_≡_, refl}
+use mathlib.Core.List.{[], _∷_}
+use Prim.Native.Nat.{ℕ}
+use lib.ListN.{getD}
+use Rattle.refusals.specs.declared.Refusal.{Refusal}
+use Rattle.refusals.specs.declared.Refusal.the-variants.{TooLong, Foreign, NoContinuation, Unfinished, OutputTooShort, NoSuchRow, FaultyLine, EmptyWord, NotABook, AlreadyLive, NotLive, BookFull, RankTooHigh}
+use Rattle.refusals.specs.Refusal.{numberOf, placeOf}
+
+-- the refusal of a number and a place; `NotLive` stands where there is no refusal, at 0, 9 and 10
+refusalOf : ℕ → ℕ → Refusal
+refusalOf n p =
+    getD
+    (NotLive ∷ TooLong ∷ Foreign p ∷ NoContinuation p ∷ Unfinished p ∷ OutputTooShort p ∷ NoSuchRow ∷ FaultyLine p ∷ EmptyWord ∷ NotLive ∷ NotLive ∷ NotABook p ∷ AlreadyLive p ∷ NotLive ∷ BookFull p ∷ RankTooHigh p ∷ [])
+    n
+    NotLive
+
+-- a refusal's own number and place give it back
+refusalOf-own : (r : Refusal) → refusalOf (numberOf r) (placeOf r) ≡ r
+unfolding refusalOf
+refusalOf-own TooLong = refl
+refusalOf-own (Foreign p) = refl
+refusalOf-own (NoContinuation p) = refl
+refusalOf-own (Unfinished p) = refl
+refusalOf-own (OutputTooShort p) = refl
+refusalOf-own NoSuchRow = refl
+refusalOf-own (FaultyLine p) = refl
+refusalOf-own EmptyWord = refl
+refusalOf-own (NotABook p) = refl
+refusalOf-own (AlreadyLive p) = refl
+refusalOf-own NotLive = refl
+refusalOf-own (BookFull p) = refl
+refusalOf-own (RankTooHigh p) = refl
+
+-- refusals with equal number and equal place are equal
+pub number-place-injective : (r s : Refusal) → numberOf r ≡ numberOf s → placeOf r ≡ placeOf s → r ≡ s
+number-place-injective r s e f = cc (refusalOf-own r, refusalOf-own s)

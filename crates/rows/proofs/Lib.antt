@@ -1,0 +1,4 @@
+pub mod Sound
+pub mod Complete
+pub mod Viable
+pub mod Begin
