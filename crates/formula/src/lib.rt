@@ -21,10 +21,8 @@ impl Word {
     pub fn empty() -> Self
         ensures { λ r. ⌜ r ≡ wordOf [] ⌝ }
     {
-        Self {
-            values: [0; Self::LIMIT],
-            count: 0,
-        }
+        let values = [0; Self::LIMIT];
+        Self { values, count: 0 }
     }
 
     // The reading state in which no value of the word is read yet.
