@@ -2,7 +2,7 @@
 -- Assumes nothing.
 use Prim.Native.Nat.{ℕ, _-_}
 use Rattle.letters.specs.Weights.{medialSet, vowelWeight, vowelTall, toneWeight}
-use Rattle.formula.specs.Syllable.{Syllable, syllable}
+use Rattle.formula.specs.Syllable.{Syllable, syllable, bare}
 use Rattle.formula.specs.Record.{finalNumberOf, linkOf}
 use Rattle.formula.specs.declared.Syllable.{Syllable as Numbers}
 use Rattle.formula.specs.declared.Window.{Window}
@@ -23,6 +23,10 @@ numbersOf (syllable h m v f t) =
 -- what stands before the first syllable: no head has this number, so it carries nothing
 abbrev pub nothing : Numbers
 nothing = record { head = 0xff; medials = 0; vowel = 0; tall = 0; letter = 0; link = 0; tone = 0 }
+
+-- the head 101E that 103F is, with nothing on it yet
+abbrev pub greatSaHead : Numbers
+greatSaHead = numbersOf (bare 0x101E)
 
 -- no syllable read yet
 abbrev pub unread : Window

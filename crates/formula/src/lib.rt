@@ -2,7 +2,7 @@
 ghost use mathlib.Core.Path.{_≡_};
 ghost use mathlib.Core.List.{[]};
 ghost use Rattle.formula.specs.Held.{wordOf};
-ghost use Rattle.formula.specs.Numbers.{nothing, unread};
+ghost use Rattle.formula.specs.Numbers.{nothing, greatSaHead, unread};
 
 // A word by value: the first `count` of `values`; the others are zero.
 pub struct Word {
@@ -55,6 +55,21 @@ impl Syllable {
     {
         Self {
             head: 0xff,
+            medials: 0,
+            vowel: 0,
+            tall: 0,
+            letter: 0,
+            link: 0,
+            tone: 0,
+        }
+    }
+
+    // The head that great sa begins a syllable with.
+    pub fn great_sa() -> Self
+        ensures { λ r. ⌜ r ≡ greatSaHead ⌝ }
+    {
+        Self {
+            head: 0x1e,
             medials: 0,
             vowel: 0,
             tall: 0,

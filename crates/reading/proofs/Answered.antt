@@ -1,0 +1,177 @@
+-- The answer where a pass has stopped is right: what the machine kept is the word's row, or shows that there is none.
+-- Assumes nothing.
+use mathlib.Core.Path.{_≡_, refl, ap, sym, subst, _∙_}
+use mathlib.Core.Bool.{Bool, true, false, not, false≢true}
+use mathlib.Core.List.{List, [], _∷_, _++_, map, append-assoc, append-nil, reverse, reverseAux, reverse-reverse}
+use mathlib.Core.Option.{Option, none, some, Option·none-ne-some, Option·some-injective}
+use Prim.Native.Nat.{ℕ, zero, suc, _+_, _-_, _≤_, _<_}
+use native.Mathlib.Nat.{le-of-suc-le-suc, not-suc-le-zero}
+use native.Mathlib.Decide.{decLt}
+use native.Mathlib.Omega.{arith}
+use lib.Dec.{T}
+use lib.ListN.{length, getD, take, length-take, length-reverse}
+use lib.Seq.{take-all, getD-take}
+use Rattle.letters.specs.Letters.{isAdmitted, kindOf}
+use Rattle.letters.specs.declared.kind.Kind.{Kind}
+use Rattle.letters.proofs.Counted.{unadmitted-foreign}
+use Rattle.formula.specs.Limits.{limit}
+use Rattle.formula.specs.Syllable.{Final, no-final, plain, stacked, kinzi, great-sa, Syllable, syllable, isClosed, finalOf}
+use Rattle.formula.specs.Row.{Row, Gives, Viable, LongestViable}
+use Rattle.formula.specs.Record.{linkOf}
+use Rattle.formula.specs.Numbers.{numbersOf}
+use Rattle.formula.specs.declared.Syllable.{Syllable as Numbers}
+use Rattle.formula.specs.declared.Window.{Window}
+use Rattle.rows.specs.Kept.{endOf, isNotGreatSa, act, step, andThen, run}
+use Rattle.rows.proofs.Sound.{RunOut, sound}
+use Rattle.rows.proofs.Viable.{read-back, only-row, unfinished, alive, stops, longest}
+use Rattle.steps.specs.Agree.{topOf}
+use Rattle.reading.specs.Answer.{Admissible, FirstForeign, RefusedWith, too-long, foreign, no-continuation, unfinished as open-end, Reads, nothings}
+use Rattle.reading.specs.Concluded.{AdmittedTo}
+use Rattle.reading.specs.Scanned.{keptNumbers, WindowOf, Stopped}
+use Rattle.reading.proofs.Reach.{kept-right}
+
+-- a value that is read is admitted
+step-admitted : (x : ℕ) (a b : Row) → step a x ≡ some b → T (isAdmitted x)
+step-admitted x a b e = go (isAdmitted x) refl
+  where
+    go : (t : Bool) → isAdmitted x ≡ t → T t
+    go true d = tt
+    go false d = absurd (Option·none-ne-some b (sym (ap (λ (k : Kind). act k x a) (unadmitted-foreign x d)) ∙ e))
+
+run-admitted : (w : List ℕ) (a b : Row) → run w a ≡ some b → (k : ℕ) → k < length w → T (isAdmitted (getD w k 0))
+run-admitted [] a b e k h = absurd (not-suc-le-zero h)
+run-admitted (x ∷ w) a b e k h = go (step a x) refl e (run-admitted w)
+  where
+    at : (c : Row) → step a x ≡ some c → run w c ≡ some b → ((d : Row) (f : Row) → run w d ≡ some f → (j : ℕ) → j < length w → T (isAdmitted (getD w j 0)))
+        → (j : ℕ) → j < suc (length w) → T (isAdmitted (getD (x ∷ w) j 0))
+    at c d f r zero i = step-admitted x a c d
+    at c d f r (suc j) i = r c b f j (le-of-suc-le-suc i)
+
+    go : (o : Option Row) → step a x ≡ o → andThen o (run w) ≡ some b
+        → ((d : Row) (f : Row) → run w d ≡ some f → (j : ℕ) → j < length w → T (isAdmitted (getD w j 0))) → T (isAdmitted (getD (x ∷ w) k 0))
+    go none d f r = absurd (Option·none-ne-some b f)
+    go (some c) d f r = at c d f r k h
+
+top-link : (kept : Row) → topOf kept .link ≡ linkOf (endOf kept)
+top-link [] = refl
+top-link (syllable h m v f t ∷ kept) = refl
+
+-- link 2 is that of a final that waits; great sa never stands on top
+waits : (f : Final) → linkOf f ≡ 2 → T (isClosed f) → ⊥
+waits no-final e t = omega arith
+waits (plain c) e t = omega arith
+waits (stacked c) e t = t
+waits kinzi e t = t
+waits great-sa e t = t
+
+waits-not : (f : Final) → T (isNotGreatSa f) → (linkOf f ≡ 2 → ⊥) → T (isClosed f)
+waits-not no-final g n = tt
+waits-not (plain c) g n = tt
+waits-not (stacked c) g n = n refl
+waits-not kinzi g n = n refl
+waits-not great-sa g n = g
+
+module _ (word : List ℕ) (at : ℕ) (window : Window) (s : Stopped word at window) where
+  -- the values before the place where the pass stopped
+  passed : (k : ℕ) → k < at → T (isAdmitted (getD word k 0))
+  passed k h =
+      subst (λ (x : ℕ). T (isAdmitted x)) (getD-take at word k 0 h)
+      (run-admitted (take at word) [] (s .kept) (s .came) k (let i = s .within in omega (arith, length-take at word)))
+
+  -- and those up to the first foreign one
+  admitted-before : (place : ℕ) → AdmittedTo word at place → (k : ℕ) → k < place → T (isAdmitted (getD word k 0))
+  admitted-before place f k h = go (decLt k at)
+    where
+      go : Dec (k < at) → T (isAdmitted (getD word k 0))
+      go (yes i) = passed k i
+      go (no i) = f .before k (omega arith) h
+
+  pub answer-foreign : (place : ℕ) → AdmittedTo word at place → place < length word → RefusedWith word 2 place
+  answer-foreign place f h =
+      foreign (record { short = s .short; within = h; foreign = f .foreign h; before = admitted-before place f })
+
+  pub answer-no-continuation : (place : ℕ) → AdmittedTo word at place → at < length word → length word ≤ place → RefusedWith word 3 at
+  answer-no-continuation place f h i =
+      no-continuation (record { short = s .short; admitted = λ k j. admitted-before place f k (omega arith) })
+      (λ v. stops word at (s .kept) h (s .came) (s .refused h) (length word) h (subst Viable (sym (take-all (length word) word (omega arith))) v))
+      (longest word at (s .kept) h (s .came) (s .refused h))
+
+  module _ (end : length word ≤ at) where
+    whole : take at word ≡ word
+    whole = take-all at word end
+
+    came-whole : run word [] ≡ some (s .kept)
+    came-whole = subst (λ (w : List ℕ). run w [] ≡ some (s .kept)) whole (s .came)
+
+    all-admitted : Admissible word
+    all-admitted = record { short = s .short; admitted = λ k h. passed k (omega arith) }
+
+    at-end : at ≡ length word
+    at-end = let i = s .within in omega arith
+
+    -- the link of the last syllable says whether its final waits
+    last-link : window .last .link ≡ linkOf (endOf (s .kept))
+    last-link = ap (λ (n : Numbers). n .link) (s .window-of .last) ∙ top-link (s .kept)
+
+    pub answer-unfinished : window .last .link ≡ 2 → RefusedWith word 4 at
+    answer-unfinished e =
+        subst (RefusedWith word 4) (sym at-end)
+        (open-end all-admitted
+        (unfinished word (s .kept) came-whole (waits (endOf (s .kept)) (sym last-link ∙ e))) (alive word (s .kept) came-whole))
+
+    closes : (window .last .link ≡ 2 → ⊥) → T (isClosed (endOf (s .kept)))
+    closes n =
+        waits-not (endOf (s .kept)) (kept-right word at (s .kept) (s .came) .2 tt) (λ (e : linkOf (endOf (s .kept)) ≡ 2). n (last-link ∙ e))
+
+    gives-kept : (window .last .link ≡ 2 → ⊥) → Gives (reverse (s .kept)) word
+    gives-kept n = sound word (s .kept) came-whole (closes n)
+
+    pub answer-syllables : (window .last .link ≡ 2 → ⊥) → Reads word (window .count)
+    answer-syllables n =
+        record {
+          admissible = all-admitted;
+          row = reverse (s .kept);
+          gives = gives-kept n;
+          only = λ other g. only-row other (reverse (s .kept)) word g (gives-kept n);
+          count = length-reverse (s .kept) ∙ sym (s .window-of .count);
+        }
+
+    -- the syllables by numbers, in the word's order
+    pub kept-is : (row : Row) → Gives row word → row ≡ reverse (s .kept)
+    kept-is row g = sym (reverse-reverse row) ∙ ap reverse (Option·some-injective (reverse row) (s .kept) (sym (read-back row word g) ∙ came-whole))
+
+pub numbers-reverse : (a r : Row) → map numbersOf (reverseAux a r) ≡ keptNumbers a ++ map numbersOf r
+numbers-reverse [] r = refl
+numbers-reverse (s ∷ a) r = numbers-reverse a (s ∷ r) ∙ sym (append-assoc (keptNumbers a) (numbersOf s ∷ []) (map numbersOf r))
+
+-- a row that gives the word shows that it is viable
+row-viable : (row : Row) (word : List ℕ) → Gives row word → Viable word
+row-viable row word g = record { continuation = []; by = row; gives = record { is-row = g .is-row; joined = g .joined ∙ sym (append-nil word) } }
+
+-- a word that is read was read to its end
+pub read-ends : (word : List ℕ) (at : ℕ) (window : Window) → Stopped word at window → (n : ℕ) → Reads word n → length word ≤ at
+read-ends word at window s n r = go (decLt at (length word))
+  where
+    go : Dec (at < length word) → length word ≤ at
+    go (yes h) =
+        absurd
+        (stops word at (s .kept) h (s .came) (s .refused h) (length word) h
+        (subst Viable (sym (take-all (length word) word (omega arith))) (row-viable (r .row) word (r .gives))))
+    go (no h) = omega arith
+
+pub syllables-right : (word : List ℕ) (at : ℕ) (window : Window) (s : Stopped word at window) (n : ℕ) → Reads word n → (syllables : List Numbers)
+    → (length word ≤ at → syllables ≡ keptNumbers (s .kept) ++ nothings (limit - length (s .kept)))
+    → (row : Row) → Gives row word → syllables ≡ map numbersOf row ++ nothings (limit - n)
+syllables-right word at window s n r syllables e row g =
+    let end : length word ≤ at = read-ends word at window s n r in
+    let k : row ≡ reverse (s .kept) = kept-is word at window s end row g in
+    let c : length (s .kept) ≡ n = sym (length-reverse (s .kept)) ∙ sym (ap length k) ∙ ap length (r .only row g) ∙ r .count in
+    e end ∙ ap (λ (m : ℕ). keptNumbers (s .kept) ++ nothings (limit - m)) c
+    ∙ ap (λ (l : List Numbers). l ++ nothings (limit - n)) (sym (ap (map numbersOf) k ∙ numbers-reverse (s .kept) [] ∙ append-nil (keptNumbers (s .kept))))
+
+-- a refused word of admitted values within the limit is given by no row
+pub refused-no-row : (word : List ℕ) (number place : ℕ) → RefusedWith word number place → Admissible word → (row : Row) → Gives row word → ⊥
+refused-no-row word number place (too-long h) a row g = let s = a .short in omega arith
+refused-no-row word number place (foreign f) a row g = f .foreign (a .admitted place (f .within))
+refused-no-row word number place (no-continuation b n l) a row g = n (row-viable row word g)
+refused-no-row word number place (open-end b n v) a row g = n row g

@@ -1,0 +1,4 @@
+pub mod Reach
+pub mod Answered
+pub mod Recorded
+pub mod Parted

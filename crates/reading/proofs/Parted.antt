@@ -1,0 +1,150 @@
+-- The part by number is the row's: a syllable's part lies between the places where it and the next one begin.
+-- Assumes nothing.
+use mathlib.Core.Path.{_≡_, refl, ap, sym, subst, _∙_}
+use mathlib.Core.Bool.{Bool, true, false}
+use mathlib.Core.List.{List, [], _∷_, _++_, append-assoc, append-nil, reverse, reverseAux}
+use Prim.Native.Nat.{ℕ, zero, suc, _+_, _-_, _≤_, _<_}
+use native.Mathlib.Nat.{le-of-suc-le-suc, not-suc-le-zero}
+use native.Mathlib.Decide.{decLt}
+use native.Mathlib.Numerals.{add-one}
+use native.Mathlib.Omega.{arith}
+use borrow.Author.Tests.{lt-ltb, le-ltb}
+use lib.Dec.{ltb}
+use lib.ListN.{length, getD, take, drop, length-append, length-reverse, List·getD-eq-default}
+use lib.Seq.{take-at, drop-at, getD-take}
+use Rattle.letters.specs.Choice.{pick}
+use Rattle.formula.specs.Syllable.{Final, no-final, Syllable, finalOf, part}
+use Rattle.formula.specs.Row.{Row, joinAfter, join, partsAfter, parts, Gives}
+use Rattle.formula.specs.declared.Window.{Window}
+use Rattle.rows.specs.Kept.{endOf, keptJoin}
+use Rattle.reading.specs.Answer.{Admissible, RefusedWith, Reads}
+use Rattle.reading.specs.Parts.{endBy, PartRight}
+use Rattle.reading.specs.Scanned.{keptStarts, StartsOf, Stopped}
+use Rattle.reading.proofs.Answered.{read-ends, kept-is, refused-no-row}
+
+-- where the syllables of a row begin, from the place n on
+abbrev placesAfter : Final → ℕ → Row → List ℕ
+placesAfter f n [] = []
+placesAfter f n (s ∷ row) = n ∷ placesAfter (finalOf s) (n + length (part f s)) row
+
+places-kept : (a r : Row) → placesAfter no-final 0 (reverseAux a r) ≡ keptStarts a ++ placesAfter (endOf a) (length (keptJoin a)) r
+places-kept [] r = refl
+places-kept (s ∷ a) r =
+    places-kept a (s ∷ r)
+    ∙ ap (λ (n : ℕ). keptStarts a ++ (length (keptJoin a) ∷ placesAfter (finalOf s) n r)) (sym (length-append (keptJoin a) (part (endOf a) s)))
+    ∙ sym (append-assoc (keptStarts a) (length (keptJoin a) ∷ []) (placesAfter (finalOf s) (length (keptJoin (s ∷ a))) r))
+
+-- the part k of a row that begins at n: what stands before it and after it, and its places
+record Located (f : Final) (n : ℕ) (row : Row) (k : ℕ) : Type 0 where
+  before : List ℕ
+  after : List ℕ
+  split : joinAfter f row ≡ before ++ (getD (partsAfter f row) k [] ++ after)
+  from : getD (placesAfter f n row) k 0 ≡ n + length before
+  next : suc k < length row → getD (placesAfter f n row) (suc k) 0 ≡ n + length before + length (getD (partsAfter f row) k [])
+  last : length row ≤ suc k → after ≡ []
+
+located : (f : Final) (n : ℕ) (row : Row) (k : ℕ) → k < length row → Located f n row k
+located f n [] k h = absurd (not-suc-le-zero h)
+located f n (s ∷ []) zero h =
+    record { before = []; after = []; split = refl; from = omega arith; next = λ i. let z : ⊥ = omega arith in absurd z; last = λ _. refl }
+located f n (s ∷ t ∷ row) zero h =
+    record {
+      before = [];
+      after = joinAfter (finalOf s) (t ∷ row);
+      split = refl;
+      from = omega arith;
+      next = λ i. omega arith;
+      last = λ i. let z : ⊥ = omega arith in absurd z;
+    }
+located f n (s ∷ row) (suc k) h =
+    let l = located (finalOf s) (n + length (part f s)) row k (le-of-suc-le-suc h) in
+    record {
+      before = part f s ++ l .before;
+      after = l .after;
+      split =
+          ap (λ (w : List ℕ). part f s ++ w) (l .split)
+          ∙ sym (append-assoc (part f s) (l .before) (getD (partsAfter (finalOf s) row) k [] ++ l .after));
+      from = let e = l .from in omega (arith, length-append (part f s) (l .before));
+      next = λ i. let e = l .next (le-of-suc-le-suc i) in omega (arith, length-append (part f s) (l .before));
+      last = λ i. l .last (le-of-suc-le-suc i);
+    }
+
+module _ (word : List ℕ) (at : ℕ) (window : Window) (s : Stopped word at window) (starts : List ℕ) (o : StartsOf (s .kept) starts) (n : ℕ) (r : Reads word n)
+    (k : ℕ) (h : k < n) where
+  row-is : r .row ≡ reverse (s .kept)
+  row-is = kept-is word at window s (read-ends word at window s n r) (r .row) (r .gives)
+
+  kept-count : length (s .kept) ≡ n
+  kept-count = sym (length-reverse (s .kept)) ∙ sym (ap length row-is) ∙ r .count
+
+  places : placesAfter no-final 0 (r .row) ≡ keptStarts (s .kept)
+  places = ap (placesAfter no-final 0) row-is ∙ places-kept (s .kept) [] ∙ append-nil (keptStarts (s .kept))
+
+  start-at : (j : ℕ) → j < n → getD starts j 0 ≡ getD (placesAfter no-final 0 (r .row)) j 0
+  start-at j i =
+      let e = kept-count in
+      sym (getD-take (length (s .kept)) starts j 0 (omega arith)) ∙ ap (λ (l : List ℕ). getD l j 0) (o .front ∙ sym places)
+
+  place : Located no-final 0 (r .row) k
+  place = located no-final 0 (r .row) k (let c = r .count in omega arith)
+
+  from-is : getD starts k 0 ≡ length (place .before)
+  from-is = let e = place .from in start-at k h ∙ (omega arith)
+
+  word-is : word ≡ place .before ++ (getD (parts (r .row)) k [] ++ place .after)
+  word-is = sym (r .gives .joined) ∙ place .split
+
+  length-is : length word ≡ length (place .before) + (length (getD (parts (r .row)) k []) + length (place .after))
+  length-is =
+      ap length word-is ∙ length-append (place .before) (getD (parts (r .row)) k [] ++ place .after)
+      ∙ ap (λ (m : ℕ). length (place .before) + m) (length-append (getD (parts (r .row)) k []) (place .after))
+
+  end-is : endBy starts n k (length word) ≡ length (place .before) + length (getD (parts (r .row)) k [])
+  unfolding endBy pick
+  end-is = go (decLt (k + 1) n)
+    where
+      go : Dec (k + 1 < n) → endBy starts n k (length word) ≡ length (place .before) + length (getD (parts (r .row)) k [])
+      go (yes i) =
+          let c = r .count in
+          let e = place .next (omega (arith, add-one k)) in
+          rw (lt-ltb (k + 1) n i, add-one k) (start-at (suc k) (omega (arith, add-one k)) ∙ (omega arith))
+      go (no i) =
+          let c = r .count in
+          let e : length (place .after) ≡ 0 = ap length (place .last (omega (arith, add-one k))) in
+          rw (le-ltb (k + 1) n (omega arith)) (let l = length-is in omega arith)
+
+  -- the two places, by what the code found
+  module _ (from to : ℕ) (e : from ≡ getD starts k 0) (d : to ≡ endBy starts n k (length word)) where
+    pub from-to : from ≤ to
+    from-to = omega (arith, e, d, from-is, end-is)
+
+    pub to-end : to ≤ length word
+    to-end = omega (arith, d, end-is, length-is)
+
+    cut : take (to - from) (drop from word) ≡ getD (parts (r .row)) k []
+    cut =
+        ap (λ (w : List ℕ). take (to - from) (drop from w)) word-is
+        ∙ ap (take (to - from)) (drop-at (place .before) (getD (parts (r .row)) k [] ++ place .after) from (sym (e ∙ from-is)))
+        ∙ take-at (getD (parts (r .row)) k []) (place .after) (to - from) (omega (arith, e, d, from-is, end-is))
+
+    pub part-right : PartRight word k (take (to - from) (drop from word))
+    part-right =
+        record {
+          has = λ _ row g. cut ∙ ap (λ (w : Row). getD (parts w) k []) (sym (r .only row g));
+          refused = λ no. absurd (no (r .admissible) (r .row) (r .gives));
+        }
+
+parts-length : (f : Final) (row : Row) → length (partsAfter f row) ≡ length row
+parts-length f [] = refl
+parts-length f (s ∷ row) = ap suc (parts-length (finalOf s) row)
+
+-- a word with no such syllable, and refused words
+pub part-beyond : (word : List ℕ) (n k : ℕ) → Reads word n → n ≤ k → PartRight word k []
+part-beyond word n k r h =
+    record {
+      has = λ _ row g. sym (List·getD-eq-default (parts row) [] (let c = ap length (r .only row g) ∙ r .count in omega (arith, parts-length no-final row)));
+      refused = λ _. refl;
+    }
+
+pub part-refused : (word : List ℕ) (k number place : ℕ) → RefusedWith word number place → PartRight word k []
+part-refused word k number place w = record { has = λ a row g. absurd (refused-no-row word number place w a row g); refused = λ _. refl }

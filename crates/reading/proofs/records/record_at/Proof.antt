@@ -1,0 +1,88 @@
+-- `reading::records::record_at` meets its contract: the record is that of the row whose syllables the reading holds.
+-- Assumes nothing.
+use mathlib.Core.Path.{_≡_, refl, sym, subst}
+use native.Mathlib.Omega.{arith}
+use borrow.Author.Needs.{needs}
+use Rattle.reading.specs.Answer.{outcomeOf, Answers}
+use Rattle.reading.specs.Records.{RecordRight}
+use Rattle.reading.specs.declared.read.ReadAnswer.{ReadAnswer}
+use Rattle.reading.proofs.Recorded.{count-limit, reads, has-record}
+use Rattle.reading.proofs.records.record_at.Statement.{statement}
+use Rattle.reading.proofs.records.record_at.Tie as tie
+
+read-requires : tie.Need-read-requires
+read-requires c κs = search needs
+
+enum-known-answer : tie.Need-enum-known-answer
+enum-known-answer c = search needs
+
+without-record-requires : tie.Need-without-record-requires
+without-record-requires c κs = search needs
+
+enum-known-answer-2 : tie.Need-enum-known-answer-2
+enum-known-answer-2 c = search needs
+
+without-record-requires-2 : tie.Need-without-record-requires-2
+without-record-requires-2 c κs = search needs
+
+returns : tie.Need-returns
+returns c =
+    let a = c .before .before .before .before .before in
+    let s = a .before .before .args in
+    let r = reads (s .word .now) (a .read .result) (a .read .ensures) (c .before .before .before .answer2 .given .0 .0) (c .before .before .before .answer2 .given .1) in
+    subst (RecordRight (s .word .now) (s .number)) (sym (c .without-record2 .ensures))
+    (record { admissible = r .admissible; row = r .row; gives = r .gives; beyond = let h = c .before .if1 .taken in omega (arith, r .count); is = refl })
+
+mul-bytes-of : tie.Need-mul-bytes-of
+mul-bytes-of c =
+    let a = c .before .before .before .before .before in
+    let h = c .before .if1 .left in
+    omega (
+      arith,
+      count-limit (a .before .before .args .word .now) (c .before .before .before .answer2 .given .0 .0)
+          (reads (a .before .before .args .word .now) (a .read .result) (a .read .ensures) (c .before .before .before .answer2 .given .0 .0) (c .before .before .before .answer2 .given .1)),
+    )
+
+array-copy-out-bytes-of : tie.Need-array-copy-out-bytes-of
+array-copy-out-bytes-of c =
+    let a = c .before .before .before .before .before in
+    let h = c .before .if1 .left in
+    omega (
+      arith,
+      count-limit (a .before .before .args .word .now) (c .before .before .before .answer2 .given .0 .0)
+          (reads (a .before .before .args .word .now) (a .read .result) (a .read .ensures) (c .before .before .before .answer2 .given .0 .0) (c .before .before .before .answer2 .given .1)),
+    )
+
+bytes-of-requires : tie.Need-bytes-of-requires
+bytes-of-requires c κs = search needs
+
+returns-2 : tie.Need-returns-2
+returns-2 c =
+    let a = c .before .before .before .before in
+    let s = a .before .before .args in
+    subst (RecordRight (s .word .now) (s .number)) (sym (c .without-record .ensures))
+    (record { refused = subst (λ (r : ReadAnswer). Answers (s .word .now) (outcomeOf r)) (c .before .before .answer .given .1) (a .read .ensures .answers); is = refl })
+
+returns-3 : tie.Need-returns-3
+returns-3 c =
+    let e = c .before .before .before in
+    let a = e .before .before .before .before in
+    let s = a .before .before .args in
+    has-record (s .word .now) (a .read .result) (a .read .ensures) (e .before .before .answer2 .given .0 .0) (e .before .before .answer2 .given .1) (s .number) (e .if1 .left)
+    _ (c .bytes-of .result) (c .bytes-of .ensures)
+
+pub record-at-spec : {M : Type 1} → statement M
+record-at-spec =
+    tie.close
+    (tie.spec
+    read-requires
+    enum-known-answer
+    without-record-requires
+    enum-known-answer-2
+    without-record-requires-2
+    returns
+    mul-bytes-of
+    array-copy-out-bytes-of
+    bytes-of-requires
+    returns-2
+    returns-3)

@@ -1,0 +1,5 @@
+pub mod Answer
+pub mod Scanned
+pub mod Concluded
+pub mod Records
+pub mod Parts

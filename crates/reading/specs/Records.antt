@@ -1,0 +1,76 @@
+-- The record of a syllable by number (document 01, "Syllable records"), by the formula alone.
+-- Assumes nothing.
+use mathlib.Core.Path.{_≡_}
+use mathlib.Core.List.{List, [], _∷_}
+use Prim.Native.Nat.{ℕ, _≤_, _<_}
+use lib.ListN.{length, getD, replicate}
+use Rattle.letters.specs.Weights.{medialSetWeight}
+use Rattle.letters.specs.declared.weight.Weighed.{Weighed}
+use Rattle.letters.specs.declared.weight.Weighed.the-variants.{Weight, Nothing}
+use Rattle.formula.specs.Syllable.{bare}
+use Rattle.formula.specs.Row.{Row, Gives}
+use Rattle.formula.specs.Record.{recordOf}
+use Rattle.formula.specs.declared.Syllable.{Syllable as Numbers}
+use Rattle.refusals.specs.Refusal.{numberOf, placeOf}
+use Rattle.reading.specs.Answer.{Admissible, RefusedWith}
+use Rattle.reading.specs.declared.records.RecordAnswer.{RecordAnswer}
+use Rattle.reading.specs.declared.records.RecordAnswer.the-variants.{Found, NoSyllable, Refused}
+use Rattle.reading.specs.declared.records.SyllableRecord.{SyllableRecord}
+
+-- an answer in document 01's terms
+pub data RecordOutcome : Type 0 where
+  found : RecordOutcome
+  no-syllable : RecordOutcome
+  refuses : ℕ → ℕ → RecordOutcome
+
+abbrev pub recordOutcomeOf : RecordAnswer → RecordOutcome
+recordOutcomeOf Found = found
+recordOutcomeOf NoSyllable = no-syllable
+recordOutcomeOf (Refused r) = refuses (numberOf r) (placeOf r)
+
+abbrev pub noBytes : List ℕ
+noBytes = replicate 7 0
+
+-- "Where the word is a row of syllables, number and records are those of that row, in its order"
+pub record HasRecord (word : List ℕ) (number : ℕ) (bytes : List ℕ) : Type 0 where
+  pub admissible : Admissible word
+  pub row : Row
+  pub gives : Gives row word
+  pub below : number < length row
+  pub is : bytes ≡ recordOf (getD row number (bare 0x1000))
+
+-- "the answer tells whether there is such a syllable, and if not, the seven bytes are 0"
+pub record NoRecord (word : List ℕ) (number : ℕ) (bytes : List ℕ) : Type 0 where
+  pub admissible : Admissible word
+  pub row : Row
+  pub gives : Gives row word
+  pub beyond : length row ≤ number
+  pub is : bytes ≡ noBytes
+
+-- with a refusal "a record handed back with it is all zeros"
+pub record NoReading (word : List ℕ) (number place : ℕ) (bytes : List ℕ) : Type 0 where
+  pub refused : RefusedWith word number place
+  pub is : bytes ≡ noBytes
+
+abbrev pub RecordAnswers : List ℕ → ℕ → RecordOutcome → List ℕ → Type 0
+RecordAnswers word number found bytes = HasRecord word number bytes
+RecordAnswers word number no-syllable bytes = NoRecord word number bytes
+RecordAnswers word number (refuses refusal place) bytes = NoReading word refusal place bytes
+
+-- the promise of a record by number
+abbrev pub RecordRight : List ℕ → ℕ → SyllableRecord → Type 0
+RecordRight word number r = RecordAnswers word number (recordOutcomeOf (r .answer)) (r .bytes)
+
+-- the bytes of a syllable by numbers; inner contracts cite what follows
+abbrev pub weightOr : Weighed → ℕ
+weightOr (Weight n) = n
+weightOr Nothing = 0
+
+unfoldable pub medialWeightBy : ℕ → ℕ
+medialWeightBy set = weightOr (medialSetWeight set)
+
+abbrev pub bytesBy : Numbers → List ℕ
+bytesBy s = s .head ∷ medialWeightBy (s .medials) ∷ s .vowel ∷ s .tall ∷ s .letter ∷ s .link ∷ s .tone ∷ []
+
+abbrev pub withoutRecord : RecordAnswer → SyllableRecord
+withoutRecord answer = record { answer = answer; bytes = noBytes }

@@ -1,0 +1,69 @@
+// The record of a syllable by number.
+use crate::read::ReadAnswer;
+use crate::read::read;
+use formula::Syllable;
+use letters::weight::Weighed;
+use refusals::Refusal;
+ghost use mathlib.Core.Path.{_≡_};
+ghost use Rattle.reading.specs.Records.{medialWeightBy, bytesBy, withoutRecord, RecordRight};
+
+pub enum RecordAnswer {
+    Found,
+    NoSyllable,
+    Refused(Refusal),
+}
+
+// Seven bytes, and whether there is such a syllable; zeros where there is none.
+pub struct SyllableRecord {
+    pub answer: RecordAnswer,
+    pub bytes: [u8; 7],
+}
+
+// The weight of a set of medials; a syllable has no other set than a group's.
+fn medial_weight(set: u8) -> u8
+    ensures { λ r. ⌜ r ≡ medialWeightBy set ⌝ }
+{
+    let weighed = letters::weight::medial_weight(set);
+    let Weighed::Weight(weight) = weighed else {
+        return 0;
+    };
+    weight
+}
+
+fn bytes_of(s: Syllable) -> [u8; 7]
+    ensures { λ r. ⌜ r ≡ bytesBy s ⌝ }
+{
+    let medial = medial_weight(s.medials);
+    [s.head, medial, s.vowel, s.tall, s.letter, s.link, s.tone]
+}
+
+fn without_record(answer: RecordAnswer) -> SyllableRecord
+    ensures { λ r. ⌜ r ≡ withoutRecord answer ⌝ }
+{
+    SyllableRecord {
+        answer,
+        bytes: [0; 7],
+    }
+}
+
+// The record of the syllable `number`, from 0.
+pub fn record_at(word: &[u16], number: usize) -> SyllableRecord
+    ensures { λ r. ⌜ RecordRight (now (word .entry)) number r ⌝ }
+{
+    let reading = read(word);
+    let answer = reading.answer;
+    match answer {
+        ReadAnswer::Refused(refusal) => without_record(RecordAnswer::Refused(refusal)),
+        ReadAnswer::Syllables(count) => {
+            if count <= number {
+                return without_record(RecordAnswer::NoSyllable);
+            }
+            let syllables = reading.syllables;
+            let bytes = bytes_of(syllables[number]);
+            SyllableRecord {
+                answer: RecordAnswer::Found,
+                bytes,
+            }
+        }
+    }
+}

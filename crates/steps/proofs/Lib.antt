@@ -1,0 +1,5 @@
+pub mod Branches
+pub mod Classes
+pub mod Tests
+pub mod Pieces
+pub mod Moved
