@@ -1,6 +1,7 @@
 -- What the reader's answers mean, by the formula alone (document 01, "The syllable", "Syllable records" and the refusals 1 to 4).
 -- Assumes nothing.
 use mathlib.Core.Path.{_≡_}
+use mathlib.Core.Bool.{Bool, true, false}
 use mathlib.Core.List.{List, [], _∷_, _++_, map}
 use Prim.Native.Nat.{ℕ, _≤_, _<_, _-_}
 use lib.Dec.{T}
@@ -67,3 +68,15 @@ SyllablesFor word (refuses number place) syllables = syllables ≡ nothings limi
 pub record ReadRight (word : List ℕ) (reading : Reading) : Type 0 where
   pub answers : Answers word (outcomeOf (reading .answer))
   pub syllables : SyllablesFor word (outcomeOf (reading .answer)) (reading .syllables)
+
+-- some row gives the word, and only one
+pub record Readable (word : List ℕ) : Type 0 where
+  pub admissible : Admissible word
+  pub row : Row
+  pub gives : Gives row word
+  pub only : (other : Row) → Gives other word → other ≡ row
+
+-- the promise of a test for rows
+abbrev pub RowTest : List ℕ → Bool → Type 0
+RowTest word true = Readable word
+RowTest word false = Readable word → ⊥

@@ -8,7 +8,7 @@ use refusals::Refusal;
 ghost use mathlib.Core.Path.{_≡_};
 ghost use Prim.Native.Nat.{_≤_};
 ghost use lib.ListN.{length};
-ghost use Rattle.reading.specs.Answer.{Answers, outcomeOf, ReadRight};
+ghost use Rattle.reading.specs.Answer.{Answers, outcomeOf, ReadRight, RowTest};
 ghost use Rattle.reading.specs.Concluded.{isForeign, AdmittedTo, refusedReading};
 ghost use Rattle.reading.specs.Scanned.{Stopped};
 
@@ -90,4 +90,19 @@ pub fn read(word: &[u16]) -> Reading
     }
     let syllables = scan.syllables;
     Reading { answer, syllables }
+}
+
+// Whether a word is a row of syllables of admitted values within the limit.
+pub fn is_row(word: &[u16]) -> bool
+    ensures { λ r. ⌜ RowTest (now (word .entry)) r ⌝ }
+{
+    if Word::LIMIT < word.len() {
+        return false;
+    }
+    let scan = scan_word(word);
+    let answer = conclude(word, scan.at, scan.window);
+    let ReadAnswer::Syllables(_) = answer else {
+        return false;
+    };
+    true
 }
