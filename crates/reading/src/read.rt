@@ -48,6 +48,13 @@ fn foreign_from(word: &[u16], from: usize) -> usize
     at
 }
 
+// The place of the first foreign value, or the word's length.
+pub fn first_foreign(word: &[u16]) -> usize
+    ensures { λ r. ⌜ AdmittedTo (now (word .entry)) 0 r ⌝ }
+{
+    foreign_from(word, 0)
+}
+
 // The answer where a pass over the word has stopped.
 pub(crate) fn conclude(word: &[u16], at: usize, window: Window) -> ReadAnswer
     requires { ⌜ Stopped (now word) at window ⌝ }

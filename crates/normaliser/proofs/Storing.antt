@@ -1,0 +1,158 @@
+-- A word and its stored form have foreign values together, so a refusal of the stored form is one of the word.
+-- Assumes nothing.
+use mathlib.Core.Path.{_≡_, refl, ap, sym, subst, _∙_}
+use mathlib.Core.Bool.{Bool, true, false, _&&_, _||_}
+use mathlib.Core.List.{List, [], _∷_, _++_}
+use Prim.Native.Nat.{ℕ, zero, suc, _-_, _≤_, _<_}
+use native.Mathlib.Nat.{le-of-suc-le-suc, not-suc-le-zero}
+use native.Mathlib.Decide.{decLt, ℕ-discrete}
+use native.Mathlib.Omega.{arith}
+use lib.Dec.{T, eqb, eqb→eq}
+use lib.ListN.{length, getD, take, drop, replicate, length-append}
+use lib.Seq.{take-at}
+use Rattle.letters.specs.Choice.{pick}
+use Rattle.letters.specs.Letters.{isAdmitted}
+use Rattle.formula.specs.Limits.{limit}
+use Rattle.formula.specs.Held.{wordOf}
+use Rattle.formula.specs.declared.Word.{Word}
+use Rattle.formula.proofs.Lists.{both, both-left, both-right, every}
+use Rattle.refusals.specs.Refusal.{numberOf, placeOf}
+use Rattle.refusals.specs.declared.Refusal.{Refusal}
+use Rattle.reading.specs.Answer.{accepts, refuses, outcomeOf, Admissible, FirstForeign, RefusedWith, too-long, foreign, no-continuation, unfinished}
+use Rattle.reading.specs.Concluded.{AdmittedTo}
+use Rattle.reading.specs.declared.read.ReadAnswer.{ReadAnswer}
+use Rattle.reading.specs.declared.read.ReadAnswer.the-variants.{Syllables}
+use Rattle.storage.specs.Stored.{isRunMark, goesBehind, insert, makesLongVowel, makesLetter, storedForm}
+use Rattle.storage.specs.Front.{joinFront, putFront}
+use Rattle.storage.proofs.Composing.{stored-front}
+use Rattle.storage.proofs.Outcome.{stored-shorter, stored-admitted}
+use Rattle.normaliser.specs.Normal.{StoreRefusedWith, foreign as strange, outcome, Stores, StoreAnswers, WordFor, NormalRight, NormaliseRight, writes, too-short, HandedIn}
+use Rattle.normaliser.specs.declared.Normalised.{Normalised}
+
+-- a test of every value, by places
+every-at : (f : ℕ → Bool) (w : List ℕ) → T (every f w) → (k : ℕ) → k < length w → T (f (getD w k 0))
+every-at f [] t k h = absurd (not-suc-le-zero h)
+every-at f (x ∷ w) t zero h = both-left (f x) (every f w) t
+every-at f (x ∷ w) t (suc k) h = every-at f w (both-right (f x) (every f w) t) k (le-of-suc-le-suc h)
+
+at-every : (f : ℕ → Bool) (w : List ℕ) → ((k : ℕ) → k < length w → T (f (getD w k 0))) → T (every f w)
+at-every f [] g = tt
+at-every f (x ∷ w) g = both (f x) (every f w) (g 0 (omega arith)) (at-every f w (λ k h. g (suc k) (omega arith)))
+
+-- what is admitted with x put in front was admitted, and so is x
+insert-front : (x : ℕ) (values : List ℕ) → T (every isAdmitted (insert x values)) → T (isAdmitted x) × T (every isAdmitted values)
+unfolding pick
+insert-front x [] t = (both-left (isAdmitted x) true t, tt)
+insert-front x (y ∷ values) t = go (goesBehind x y) t (insert-front x values)
+  where
+    go : (b : Bool) → T (every isAdmitted (pick b (y ∷ insert x values) (x ∷ y ∷ values)))
+        → (T (every isAdmitted (insert x values)) → T (isAdmitted x) × T (every isAdmitted values)) → T (isAdmitted x) × T (isAdmitted y && every isAdmitted values)
+    go true u f =
+        let r = f (both-right (isAdmitted y) (every isAdmitted (insert x values)) u) in
+        (r .0, both (isAdmitted y) (every isAdmitted values) (both-left (isAdmitted y) (every isAdmitted (insert x values)) u) (r .1))
+    go false u f = (both-left (isAdmitted x) _ u, both-right (isAdmitted x) (isAdmitted y && every isAdmitted values) u)
+
+at-value : (x y : ℕ) → T (eqb x y) → T (isAdmitted y) → T (isAdmitted x)
+at-value x y e t = subst (λ (z : ℕ). T (isAdmitted z)) (sym (eqb→eq x y e)) t
+
+join-front : (x : ℕ) (values : List ℕ) → T (every isAdmitted (joinFront x values)) → T (isAdmitted x) × T (every isAdmitted values)
+unfolding pick makesLongVowel makesLetter
+join-front x [] t = (both-left (isAdmitted x) true t, tt)
+join-front x (y ∷ values) t = go (makesLongVowel x y) (λ u. u) (makesLetter x y) (λ u. u) t
+  where
+    go : (b : Bool) → (T b → T (makesLongVowel x y)) → (d : Bool) → (T d → T (makesLetter x y))
+        → T (every isAdmitted (pick b (0x1026 ∷ values) (pick d 0x1009 x ∷ y ∷ values))) → T (isAdmitted x) × T (isAdmitted y && every isAdmitted values)
+    go true f d g u = (
+      at-value x 0x1025 (both-left (eqb x 0x1025) (eqb y 0x102E) (f tt)) tt,
+      both (isAdmitted y) (every isAdmitted values) (at-value y 0x102E (both-right (eqb x 0x1025) (eqb y 0x102E) (f tt)) tt) u,
+    )
+    go false f true g u = (at-value x 0x1025 (both-left (eqb x 0x1025) _ (g tt)) tt, u)
+    go false f false g u = (both-left (isAdmitted x) _ u, both-right (isAdmitted x) (isAdmitted y && every isAdmitted values) u)
+
+put-front : (x : ℕ) (values : List ℕ) → T (every isAdmitted (putFront x values)) → T (isAdmitted x) × T (every isAdmitted values)
+unfolding pick putFront
+put-front x values t = go (isRunMark x) t
+  where
+    go : (b : Bool) → T (every isAdmitted (pick b (insert x values) (joinFront x values))) → T (isAdmitted x) × T (every isAdmitted values)
+    go true u = insert-front x values u
+    go false u = join-front x values u
+
+pub unstored-admitted : (word : List ℕ) → T (every isAdmitted (storedForm word)) → T (every isAdmitted word)
+unstored-admitted [] t = tt
+unstored-admitted (x ∷ word) t =
+    let r = put-front x (storedForm word) (subst (λ (l : List ℕ). T (every isAdmitted l)) (stored-front x word) t) in
+    both (isAdmitted x) (every isAdmitted word) (r .0) (unstored-admitted word (r .1))
+
+module _ (word : List ℕ) (short : length word ≤ limit) where
+  stored-short : length (storedForm word) ≤ limit
+  stored-short = let s = stored-shorter word in omega arith
+
+  pub word-admissible : Admissible (storedForm word) → Admissible word
+  word-admissible a =
+      record { short = short; admitted = every-at isAdmitted word (unstored-admitted word (at-every isAdmitted (storedForm word) (a .admitted))) }
+
+  -- a refusal of the stored form that is not for a foreign value
+  store-refused : (number place : ℕ) → RefusedWith (storedForm word) number place → (number ≡ 2 → ⊥) → StoreRefusedWith word number place
+  store-refused number place (too-long h) n = let z : ⊥ = (let s = stored-short in omega arith) in absurd z
+  store-refused number place (foreign f) n = absurd (n refl)
+  store-refused number place (no-continuation a v l) n = outcome (word-admissible a) (no-continuation a v l)
+  store-refused number place (unfinished a r v) n = outcome (word-admissible a) (unfinished a r v)
+
+  -- a foreign value in the stored form is one in the word
+  has-foreign : (number place : ℕ) → RefusedWith (storedForm word) number place → number ≡ 2 → T (every isAdmitted word) → ⊥
+  has-foreign number place (too-long h) e t = omega arith
+  has-foreign number place (foreign f) e t = f .foreign (every-at isAdmitted (storedForm word) (stored-admitted word t) place (f .within))
+  has-foreign number place (no-continuation a v l) e t = omega arith
+  has-foreign number place (unfinished a r v) e t = omega arith
+
+  first-foreign : (p : ℕ) → AdmittedTo word 0 p → (T (every isAdmitted word) → ⊥) → FirstForeign word p
+  first-foreign p a n = go (decLt p (length word))
+    where
+      go : Dec (p < length word) → FirstForeign word p
+      go (yes h) = record { short = short; within = h; foreign = a .foreign h; before = λ k i. a .before k (omega arith) i }
+      go (no h) = absurd (n (at-every isAdmitted word (λ k i. a .before k (omega arith) (omega arith))))
+
+  pub refused-right : (refusal answer : Refusal) → RefusedWith (storedForm word) (numberOf refusal) (placeOf refusal) → HandedIn word refusal answer
+      → StoreRefusedWith word (numberOf answer) (placeOf answer)
+  refused-right refusal answer r h = go (ℕ-discrete (numberOf refusal) 2)
+    where
+      go : Dec (numberOf refusal ≡ 2) → StoreRefusedWith word (numberOf answer) (placeOf answer)
+      go (yes e) =
+          let f = h .first e in
+          subst (λ (n : ℕ). StoreRefusedWith word n (placeOf answer)) (sym (f .0))
+          (strange (first-foreign (placeOf answer) (f .1) (has-foreign (numberOf refusal) (placeOf refusal) r e)))
+      go (no n) =
+          subst (λ (a : Refusal). StoreRefusedWith word (numberOf a) (placeOf a)) (sym (h .same n))
+          (store-refused (numberOf refusal) (placeOf refusal) r n)
+
+-- what is known of a word whose stored form is read
+module _ (word : List ℕ) (r : Normalised) (right : NormalRight word r) (n : ℕ) (e : r .answer ≡ Syllables n) where
+  stores : Stores word n
+  stores = subst (λ (a : ReadAnswer). StoreAnswers word (outcomeOf a)) e (right .answers)
+
+  pub held-form : r .word ≡ wordOf (storedForm word)
+  held-form = subst (λ (a : ReadAnswer). WordFor word (outcomeOf a) (r .word)) e (right .held)
+
+  held-count : r .word .count ≡ length (storedForm word)
+  held-count = ap (λ (w : Word). w .count) held-form
+
+  pub held-limit : r .word .count ≤ limit
+  held-limit = let s = stores .admissible .short in let t = stored-shorter word in omega (arith, held-count)
+
+  pub held-room : r .word .count ≤ length (r .word .values)
+  held-room =
+      let s = held-limit in
+      omega (arith, ap (λ (w : Word). length (w .values)) held-form, length-append (storedForm word) (replicate (limit - length (storedForm word)) 0), held-count)
+
+  pub short-right : (before after : List ℕ) → length before < r .word .count → after ≡ before → NormaliseRight word before after (refuses 5 (r .word .count))
+  short-right before after h d =
+      subst (λ (k : ℕ). NormaliseRight word before after (refuses 5 k)) (sym held-count)
+      (too-short stores (omega (arith, held-count)) d)
+
+  pub written-right : (before after : List ℕ) → r .word .count ≤ length before → after ≡ take (r .word .count) (r .word .values) ++ drop (r .word .count) before
+      → NormaliseRight word before after (accepts (r .word .count))
+  written-right before after h d =
+      subst (λ (k : ℕ). NormaliseRight word before after (accepts k)) (sym held-count)
+      (writes stores (omega (arith, held-count))
+      (d ∙ ap (λ (w : Word). take (w .count) (w .values) ++ drop (w .count) before) held-form
+      ∙ ap (λ (l : List ℕ). l ++ drop (length (storedForm word)) before) (take-at (storedForm word) (replicate (limit - length (storedForm word)) 0) (length (storedForm word)) refl)))

@@ -1,0 +1,112 @@
+-- `normaliser::normal_form` meets its contract: the stored form is read, and its refusal is one of the word.
+-- Assumes nothing.
+use mathlib.Core.Path.{_≡_, refl, ap, sym, subst, _∙_}
+use mathlib.Core.List.{List, _++_}
+use Prim.Native.Nat.{ℕ, _≤_, _-_}
+use native.Mathlib.Omega.{arith}
+use lib.ListN.{length, take, replicate, length-append}
+use lib.Seq.{take-at}
+use borrow.Author.Needs.{needs}
+use Rattle.formula.specs.Limits.{limit}
+use Rattle.formula.specs.Held.{wordOf}
+use Rattle.formula.specs.declared.Word.{Word}
+use Rattle.reading.specs.Answer.{outcomeOf, Answers, ReadRight}
+use Rattle.reading.specs.declared.read.ReadAnswer.{ReadAnswer}
+use Rattle.reading.specs.declared.read.Reading.{Reading}
+use Rattle.storage.specs.Stored.{storedForm}
+use Rattle.normaliser.specs.Normal.{too-long, StoreAnswers, WordFor, NormalRight}
+use Rattle.normaliser.proofs.Storing.{word-admissible, refused-right}
+use Rattle.normaliser.proofs.normal_form.Statement.{statement}
+use Rattle.normaliser.proofs.normal_form.Tie as tie
+
+-- what a held word's array has at its front
+front : (held : Word) (values : List ℕ) → held ≡ wordOf values → take (held .count) (held .values) ≡ values
+front held values e =
+    ap (λ (w : Word). take (w .count) (w .values)) e ∙ take-at values (replicate (limit - length values) 0) (length values) refl
+
+fits : (held : Word) (values : List ℕ) → held ≡ wordOf values → held .count ≤ length (held .values)
+fits held values e = subst (λ (w : Word). w .count ≤ length (w .values)) (sym e) (simp length-append (omega arith))
+
+refused-requires : tie.Need-refused-requires
+refused-requires c κs = search needs
+
+returns : tie.Need-returns
+returns c =
+    subst (NormalRight (c .before .before .before .args .word .now)) (sym (c .refused .ensures))
+    (record { answers = too-long (c .before .if1 .taken); held = refl; syllables = refl })
+
+stored-requires : tie.Need-stored-requires
+stored-requires c κs = search needs
+
+array-share-prefix-values : tie.Need-array-share-prefix-values
+array-share-prefix-values c = fits (c .before .stored .result) (storedForm (c .before .before .before .before .args .word .now)) (c .before .stored .ensures)
+
+slice-aggregate-read : tie.Need-slice-aggregate-read
+slice-aggregate-read c =
+    let s = c .before .before .stored in
+    let form = storedForm (c .before .before .before .before .before .args .word .now) in
+    ap (λ (w : Word). w .count) (s .ensures) ∙ sym (ap length (front (s .result) form (s .ensures)))
+
+read-requires : tie.Need-read-requires
+read-requires c κs = search needs
+
+enum-known-answer : tie.Need-enum-known-answer
+enum-known-answer c = search needs
+
+as-handed-in-requires : tie.Need-as-handed-in-requires
+as-handed-in-requires c κs = search needs
+
+refused-requires-2 : tie.Need-refused-requires-2
+refused-requires-2 c κs = search needs
+
+returns-2 : tie.Need-returns-2
+returns-2 c =
+    let k = c .before .before in
+    let a = k .before .before .before in
+    let s = a .before .before .before in
+    let word = s .before .before .before .args .word .now in
+    let r : ReadRight (storedForm word) (a .read .result) = subst (λ (l : List ℕ). ReadRight l (a .read .result)) (front (s .stored .result) (storedForm word) (s .stored .ensures)) (a .read .ensures) in
+    subst (NormalRight word) (sym (c .refused2 .ensures))
+    (record {
+      answers =
+          refused-right word (s .before .if1 .left) (k .before .answer .given .0 .0) (c .before .as-handed-in .result)
+          (subst (λ (w : ReadAnswer). Answers (storedForm word) (outcomeOf w)) (k .before .answer .given .1) (r .answers)) (c .before .as-handed-in .ensures);
+      held = refl;
+      syllables = refl;
+    })
+
+enum-told : tie.Need-enum-told
+enum-told c = search needs
+
+returns-3 : tie.Need-returns-3
+returns-3 c =
+    let a = c .before .before .before in
+    let s = a .before .before .before in
+    let word = s .before .before .before .args .word .now in
+    let r : ReadRight (storedForm word) (a .read .result) = subst (λ (l : List ℕ). ReadRight l (a .read .result)) (front (s .stored .result) (storedForm word) (s .stored .ensures)) (a .read .ensures) in
+    let e = c .before .enum-told .given .1 in
+    let q = subst (λ (w : ReadAnswer). Answers (storedForm word) (outcomeOf w)) e (r .answers) in
+    record {
+      answers =
+          subst (λ (w : ReadAnswer). StoreAnswers word (outcomeOf w)) (sym e)
+          (record { admissible = word-admissible word (s .before .if1 .left) (q .admissible); reads = q });
+      held = subst (λ (w : ReadAnswer). WordFor word (outcomeOf w) (s .stored .result)) (sym e) (s .stored .ensures);
+      syllables = r .syllables;
+    }
+
+pub normal-form-spec : {M : Type 1} → statement M
+normal-form-spec =
+    tie.close
+    (tie.spec
+    refused-requires
+    returns
+    stored-requires
+    array-share-prefix-values
+    slice-aggregate-read
+    read-requires
+    enum-known-answer
+    as-handed-in-requires
+    refused-requires-2
+    returns-2
+    enum-told
+    returns-3)

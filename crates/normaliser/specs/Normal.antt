@@ -1,0 +1,68 @@
+-- Document 01, "Storage order": the stored form of a word, which "must be a row of syllables, else the word is refused, with a place in
+-- that outcome". Assumes nothing.
+use mathlib.Core.Path.{_≡_}
+use mathlib.Core.List.{List, [], _++_}
+use Prim.Native.Nat.{ℕ, _≤_, _<_}
+use lib.ListN.{length, drop}
+use Rattle.formula.specs.Limits.{limit}
+use Rattle.formula.specs.Held.{wordOf}
+use Rattle.formula.specs.declared.Syllable.{Syllable as Numbers}
+use Rattle.formula.specs.declared.Word.{Word}
+use Rattle.refusals.specs.Refusal.{numberOf, placeOf}
+use Rattle.refusals.specs.declared.Refusal.{Refusal}
+use Rattle.refusals.specs.declared.Refusal.the-variants.{Foreign}
+use Rattle.reading.specs.Answer.{Outcome, accepts, refuses, outcomeOf, Admissible, FirstForeign, RefusedWith, Reads, nothings, SyllablesFor}
+use Rattle.reading.specs.Concluded.{AdmittedTo}
+use Rattle.reading.specs.declared.read.ReadAnswer.the-variants.{Refused}
+use Rattle.storage.specs.Stored.{storedForm}
+use Rattle.normaliser.specs.declared.Normalised.{Normalised}
+use Rattle.normaliser.specs.declared.NormaliseAnswer.{NormaliseAnswer}
+use Rattle.normaliser.specs.declared.NormaliseAnswer.the-variants.{Stored, Refused as Turned}
+
+-- the refusals of a word that is normalised first: 1 and 2 speak of the word as handed in, 3 and 4 of its stored form
+pub data StoreRefusedWith (word : List ℕ) : ℕ → ℕ → Type 0 where
+  too-long : limit < length word → StoreRefusedWith word 1 limit
+  foreign : {place : ℕ} → FirstForeign word place → StoreRefusedWith word 2 place
+  outcome : {number place : ℕ} → Admissible word → RefusedWith (storedForm word) number place → StoreRefusedWith word number place
+
+-- the stored form is a row of n syllables
+pub record Stores (word : List ℕ) (n : ℕ) : Type 0 where
+  pub admissible : Admissible word
+  pub reads : Reads (storedForm word) n
+
+abbrev pub StoreAnswers : List ℕ → Outcome → Type 0
+StoreAnswers word (accepts n) = Stores word n
+StoreAnswers word (refuses number place) = StoreRefusedWith word number place
+
+-- the word that goes with an answer: the stored form, and none with a refusal
+abbrev pub WordFor : List ℕ → Outcome → Word → Type 0
+WordFor word (accepts n) held = held ≡ wordOf (storedForm word)
+WordFor word (refuses number place) held = held ≡ wordOf []
+
+-- the promise of a stored word by value
+pub record NormalRight (word : List ℕ) (r : Normalised) : Type 0 where
+  pub answers : StoreAnswers word (outcomeOf (r .answer))
+  pub held : WordFor word (outcomeOf (r .answer)) (r .word)
+  pub syllables : SyllablesFor (storedForm word) (outcomeOf (r .answer)) (r .syllables)
+
+-- the answer of the normaliser in document 01's terms: how many values it wrote, or a refusal
+abbrev pub normaliseOutcomeOf : NormaliseAnswer → Outcome
+normaliseOutcomeOf (Stored n) = accepts n
+normaliseOutcomeOf (Turned r) = refuses (numberOf r) (placeOf r)
+
+-- the promise of the normaliser, with the output as it was and as it is
+pub data NormaliseRight (word before after : List ℕ) : Outcome → Type 0 where
+  writes : {n : ℕ} → Stores word n → length (storedForm word) ≤ length before
+      → after ≡ storedForm word ++ drop (length (storedForm word)) before → NormaliseRight word before after (accepts (length (storedForm word)))
+  word-refused : {number place : ℕ} → StoreRefusedWith word number place → after ≡ before → NormaliseRight word before after (refuses number place)
+  too-short : {n : ℕ} → Stores word n → length before < length (storedForm word) → after ≡ before
+      → NormaliseRight word before after (refuses 5 (length (storedForm word)))
+
+-- inner contracts cite what follows
+abbrev pub refusedWord : Refusal → Normalised
+refusedWord refusal = record { answer = Refused refusal; syllables = nothings limit; word = wordOf [] }
+
+-- the refusal is the same, but for a foreign value: that is the first of the word
+pub record HandedIn (word : List ℕ) (refusal answer : Refusal) : Type 0 where
+  pub same : (numberOf refusal ≡ 2 → ⊥) → answer ≡ refusal
+  pub first : numberOf refusal ≡ 2 → (numberOf answer ≡ 2) × AdmittedTo word 0 (placeOf answer)

@@ -1,0 +1,9 @@
+pub mod Ranks
+pub mod Runs
+pub mod Composing
+pub mod Settled
+pub mod Outcome
+pub mod Rows
+pub mod Words
+pub mod Holding
+pub mod Passing

@@ -1,0 +1,157 @@
+-- The run marks are the values of the storage order, so that a mark's rank is its place there, and any other value's rank is 16: by one test over the chart, on which all marks stand.
+-- Assumes nothing.
+use mathlib.Core.Path.{_≡_, refl, sym, ap, subst, _∙_}
+use mathlib.Core.Bool.{Bool, true, false, not, _&&_, _||_}
+use mathlib.Core.List.{List, [], _∷_}
+use Prim.Native.Nat.{ℕ, zero, suc, _≤_, _<_}
+use native.Mathlib.Decide.{decLt}
+use native.Mathlib.Omega.{arith}
+use lib.Dec.{T, eqb, eqb→eq, leb, ltb, ltb→lt, not-T, T-not}
+use lib.ListN.{length, getD}
+use borrow.Author.Tests.{eqb-true, ltb-true, ne-eqb}
+use types.Run.{OneOf}
+use Rattle.letters.specs.Choice.{pick}
+use Rattle.letters.specs.Letters.{within, isMedial, isVowelMark, isTone, isKiller}
+use Rattle.letters.proofs.Counted.{on-chart}
+use Rattle.letters.proofs.Picks.{and-no-right}
+use Rattle.formula.proofs.Lists.{every, both-left, both-right}
+use Rattle.rows.proofs.Complete.{low, high, either, is-true}
+use Rattle.storage.specs.Stored.{isRunMark, storageOrder, placeIn, rank, goesBehind}
+
+pub is-false : (b : Bool) → T (not b) → b ≡ false
+is-false true t = absurd t
+is-false false t = refl
+
+-- what stands at the place of x is x
+placed : (list : List ℕ) (x : ℕ) → placeIn list x < length list → getD list (placeIn list x) 0 ≡ x
+unfolding pick
+placed [] x h = let z : ⊥ = omega arith in absurd z
+placed (y ∷ list) x h = go (eqb x y) refl h (placed list x)
+  where
+    go : (b : Bool) → eqb x y ≡ b → pick b 0 (suc (placeIn list x)) < suc (length list) → (placeIn list x < length list → getD list (placeIn list x) 0 ≡ x)
+        → getD (y ∷ list) (pick b 0 (suc (placeIn list x))) 0 ≡ x
+    go true e l f = sym (eqb-true x y e)
+    go false e l f = f (omega arith)
+
+-- a test that each value of the list passes, x passes where it has a place there
+on-list : (f : ℕ → Bool) (list : List ℕ) (x : ℕ) → T (every f list) → placeIn list x < length list → T (f x)
+on-list f list x t h = rw (placed list x h) at (each list (placeIn list x) t h)
+  where
+    each : (list : List ℕ) (k : ℕ) → T (every f list) → k < length list → T (f (getD list k 0))
+    each [] k t h = let z : ⊥ = omega arith in absurd z
+    each (y ∷ list) zero t h = both-left (f y) (every f list) t
+    each (y ∷ list) (suc k) t h = each list k (both-right (f y) (every f list) t) (omega arith)
+
+-- a value that no arm of a match has, with what is known besides
+abbrev pub Missed : Type 0 → List ℕ → ℕ → Type 0
+Missed P [] x = P
+Missed P (y ∷ list) x = Missed (P × (OneOf (y ∷ []) x → ⊥)) list x
+
+missed-place : (P : Type 0) (list : List ℕ) (x : ℕ) → Missed P list x → P × (placeIn list x ≡ length list)
+unfolding pick
+missed-place P [] x m = (m, refl)
+missed-place P (y ∷ list) x m =
+    let rest = missed-place (P × (OneOf (y ∷ []) x → ⊥)) list x m in
+    (rest .0 .0, rw (ne-eqb x y (rest .0 .1)) (ap suc (rest .1)))
+
+-- a value that is not in the order has the rank 16
+pub missed-rank : (x : ℕ) → Missed (Unit {0}) storageOrder x → 16 ≡ rank x
+unfolding rank
+missed-rank x m = sym (missed-place (Unit {0}) storageOrder x m .1)
+
+-- a value with a place in the order is a mark
+pub rank-mark : (x : ℕ) → rank x < 16 → T (isRunMark x)
+unfolding rank isRunMark
+rank-mark x h = on-list isRunMark storageOrder x tt h
+
+-- all marks stand on the chart
+abbrev OnChart : ℕ → Type 0
+OnChart x = (0x1000 ≤ x) × (x ≤ 0x104F)
+
+range-on-chart : (a b x : ℕ) → OnChart a → OnChart b → T (leb a x && leb x b) → OnChart x
+range-on-chart a b x l h t =
+    let least : a ≤ x = low a b x t in
+    let most : x ≤ b = high a b x t in
+    (omega arith, omega arith)
+
+value-on-chart : (a x : ℕ) → OnChart a → T (eqb x a) → OnChart x
+value-on-chart a x l t = rw (eqb→eq x a t) l
+
+mark-on-chart : (x : ℕ) → T (isRunMark x) → OnChart x
+unfolding isRunMark
+mark-on-chart x t =
+    either (OnChart x) (isMedial x) _ (range-on-chart 0x103B 0x103E x (omega arith, omega arith) (omega arith, omega arith))
+    (either (OnChart x) (isVowelMark x) _
+    (either (OnChart x) (within 0x102B 0x1032 x) (eqb x 0x1036) (range-on-chart 0x102B 0x1032 x (omega arith, omega arith) (omega arith, omega arith)) (value-on-chart 0x1036 x (omega arith, omega arith)))
+    (either (OnChart x) (isKiller x) (isTone x) (value-on-chart 0x103A x (omega arith, omega arith)) (range-on-chart 0x1037 0x1038 x (omega arith, omega arith) (omega arith, omega arith)))) t
+
+-- a mark of the chart has a place in the order
+ranked : ℕ → Bool
+ranked x = not (isRunMark x) || ltb (rank x) 16
+
+ranked-mark : (a b : Bool) → T (not a || b) → T a → T b
+ranked-mark true b t u = t
+ranked-mark false b t u = absurd u
+
+pub mark-rank : (x : ℕ) → T (isRunMark x) → rank x < 16
+unfolding ranked rank isRunMark pick
+mark-rank x t =
+    let on = mark-on-chart x t in
+    ltb→lt (rank x) 16 (ranked-mark (isRunMark x) (ltb (rank x) 16) (on-chart ranked tt x (on .0) (on .1)) t)
+
+pub rank-none : (x : ℕ) → 16 ≤ rank x → isRunMark x ≡ false
+rank-none x h = is-false (isRunMark x) (not-T (isRunMark x) (λ t. let l : rank x < 16 = mark-rank x t in let z : ⊥ = omega arith in z))
+
+-- a test that the values of the order pass, each mark passes
+pub mark-test : (f : ℕ → Bool) → T (every f storageOrder) → (x : ℕ) → T (isRunMark x) → T (f x)
+unfolding rank
+mark-test f t x m = on-list f storageOrder x t (mark-rank x m)
+
+-- what passes a test that no value of the order passes is no mark
+pub no-mark : (f : ℕ → Bool) → T (every (λ (y : ℕ). not (f y)) storageOrder) → (x : ℕ) → T (f x) → isRunMark x ≡ false
+no-mark f t x h = is-false (isRunMark x) (not-T (isRunMark x) (λ m. T-not (f x) (mark-test (λ (y : ℕ). not (f y)) t x m) h))
+
+-- and its rank is beyond those of the marks
+pub no-mark-rank : (x : ℕ) → isRunMark x ≡ false → 16 ≤ rank x
+no-mark-rank x e = go (decLt (rank x) 16)
+  where
+    go : Dec (rank x < 16) → 16 ≤ rank x
+    go (yes l) = absurd (rw e at (rank-mark x l))
+    go (no l) = omega arith
+
+-- the rank tells marks apart
+pub rank-injective : (x y : ℕ) → T (isRunMark x) → T (isRunMark y) → rank x ≡ rank y → x ≡ y
+unfolding rank
+rank-injective x y t u e =
+    sym (placed storageOrder x (mark-rank x t)) ∙ ap (λ (k : ℕ). getD storageOrder k 0) e ∙ placed storageOrder y (mark-rank y u)
+
+-- where both are no marks, or one is none, nothing moves
+pub behind-none : (x y : ℕ) → isRunMark x ≡ false → goesBehind x y ≡ false
+unfolding goesBehind
+behind-none x y e = rw e
+
+pub behind-apart : (x y : ℕ) → isRunMark y ≡ false → goesBehind x y ≡ false
+unfolding goesBehind
+behind-apart x y e = rw e (and-no-right (isRunMark x) false refl)
+
+-- of a mark, the ranks alone decide: a value that ranks below it is a mark
+pub behind-mark : (x y : ℕ) → isRunMark x ≡ true → goesBehind x y ≡ ltb (rank y) (rank x)
+unfolding goesBehind
+behind-mark x y e = rw e (go (ltb (rank y) (rank x)) refl)
+  where
+    go : (b : Bool) → ltb (rank y) (rank x) ≡ b → (isRunMark y && b) ≡ b
+    go true l =
+        let h : rank y < rank x = ltb-true (rank y) (rank x) l in
+        let most : rank x < 16 = mark-rank x (subst T (sym e) tt) in
+        rw (is-true (isRunMark y) (rank-mark y (omega arith)))
+    go false l = and-no-right (isRunMark y) false refl
+
+-- a mark goes behind marks alone
+pub behind-marks : (x y : ℕ) → goesBehind x y ≡ true → (isRunMark x ≡ true) × (isRunMark y ≡ true)
+unfolding goesBehind
+behind-marks x y h =
+    let test : Bool = isRunMark y && ltb (rank y) (rank x) in
+    let t : T (isRunMark x && test) = subst T (sym h) tt in (
+      is-true (isRunMark x) (both-left (isRunMark x) test t),
+      is-true (isRunMark y) (both-left (isRunMark y) (ltb (rank y) (rank x)) (both-right (isRunMark x) test t)),
+    )

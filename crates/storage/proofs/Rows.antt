@@ -1,0 +1,214 @@
+-- A row of syllables is stored as it is: each piece of a syllable is written in storage order, and a 1025 carries nothing, so that a head or nothing follows it.
+-- Assumes nothing.
+use mathlib.Core.Path.{_≡_, refl, sym, subst}
+use mathlib.Core.Bool.{Bool, true, false, _&&_, _||_}
+use mathlib.Core.List.{List, [], _∷_, _++_, append-assoc}
+use Prim.Native.Nat.{ℕ, _≤_}
+use native.Mathlib.Omega.{arith}
+use lib.Dec.{T, eqb, eqb→eq, leb, leb→le, not-T}
+use Rattle.letters.specs.Choice.{pick}
+use Rattle.letters.specs.Letters.{isConsonant}
+use Rattle.letters.specs.Marks.{neither, ya, ra, MedialGroup, group, medialText, Vowel, no-vowel, vowel-aa, vowel-i, vowel-ii, vowel-u, vowel-uu, vowel-e, vowel-ai, vowel-e-aa, vowel-e-aa-killer, vowel-am, vowel-i-u, vowel-u-am, vowelText, ToneMark, no-tone, dot, visarga, toneText}
+use Rattle.letters.specs.Weights.{isHead, isFinalLetter}
+use Rattle.letters.proofs.Picks.{or-no}
+use Rattle.formula.proofs.Lists.{both-left, both-right}
+use Rattle.formula.specs.Syllable.{Final, no-final, plain, stacked, kinzi, great-sa, syllable, carriesMarks, carriesFinal, isNoMedial, isNoVowel, isNoFinal, isNoTone, isFinal, finalText, headText}
+use Rattle.formula.specs.Row.{Row, isRowAfter, IsRow, joinAfter, join, Gives}
+use Rattle.rows.proofs.Sound.{or-left, Parts, apart, no-medial-text, no-vowel-text, no-final-text, no-tone-text}
+use Rattle.rows.proofs.Complete.{is-true, final-consonant, first}
+use Rattle.storage.specs.Stored.{isRunMark, rank, storedForm}
+use Rattle.storage.proofs.Ranks.{is-false, no-mark, no-mark-rank, behind-apart}
+use Rattle.storage.proofs.Composing.{same-before}
+use Rattle.storage.proofs.Settled.{Stands, StandsBefore, Settled, quiet-before, mark-stands, settled-stored}
+
+-- the rank of the first value, 16 where there is none
+abbrev firstRank : List ℕ → ℕ
+firstRank [] = 16
+firstRank (x ∷ values) = rank x
+
+-- a settled list whose first value ranks at least so
+record Above (low : ℕ) (values : List ℕ) : Type 0 where
+  settled : Settled values
+  least : low ≤ firstRank values
+
+mark-before : (x : ℕ) (values : List ℕ) → isRunMark x ≡ true → rank x ≤ firstRank values → StandsBefore x values
+mark-before x [] m h = tt
+mark-before x (y ∷ values) m h = mark-stands x y m h
+
+-- marks whose ranks rise from low to high
+climbs : ℕ → List ℕ → ℕ → Bool
+climbs low [] high = leb low high
+climbs low (x ∷ piece) high = isRunMark x && (leb low (rank x) && climbs (rank x) piece high)
+
+-- such marks before what ranks at least as high
+piece-above : (low : ℕ) (piece : List ℕ) (high : ℕ) (rest : List ℕ) → T (climbs low piece high) → Above high rest → Above low (piece ++ rest)
+unfolding climbs
+piece-above low [] high rest t a = record { settled = a .settled; least = omega (arith, leb→le low high t, a .least) }
+piece-above low (x ∷ piece) high rest t a =
+    let ranks : T (leb low (rank x) && climbs (rank x) piece high) = both-right (isRunMark x) (leb low (rank x) && climbs (rank x) piece high) t in
+    let more : Above (rank x) (piece ++ rest) = piece-above (rank x) piece high rest (both-right (leb low (rank x)) (climbs (rank x) piece high) ranks) a in
+    record {
+      settled =
+          (mark-before x (piece ++ rest) (is-true (isRunMark x) (both-left (isRunMark x) (leb low (rank x) && climbs (rank x) piece high) t)) (more .least), more .settled);
+      least = leb→le low (rank x) (both-left (leb low (rank x)) (climbs (rank x) piece high) ranks);
+    }
+
+-- "in that order": medials, vowels and tones climb, each above the ones before
+medial-climbs : (m : MedialGroup) → T (climbs 0 (medialText m) 4)
+unfolding climbs rank isRunMark pick
+medial-climbs (group neither false false) = tt
+medial-climbs (group neither false true) = tt
+medial-climbs (group neither true false) = tt
+medial-climbs (group neither true true) = tt
+medial-climbs (group ya false false) = tt
+medial-climbs (group ya false true) = tt
+medial-climbs (group ya true false) = tt
+medial-climbs (group ya true true) = tt
+medial-climbs (group ra false false) = tt
+medial-climbs (group ra false true) = tt
+medial-climbs (group ra true false) = tt
+medial-climbs (group ra true true) = tt
+
+vowel-climbs : (v : Vowel) → T (climbs 4 (vowelText v) 14)
+unfolding climbs rank isRunMark pick
+vowel-climbs no-vowel = tt
+vowel-climbs (vowel-aa true) = tt
+vowel-climbs (vowel-aa false) = tt
+vowel-climbs vowel-i = tt
+vowel-climbs vowel-ii = tt
+vowel-climbs vowel-u = tt
+vowel-climbs vowel-uu = tt
+vowel-climbs vowel-e = tt
+vowel-climbs vowel-ai = tt
+vowel-climbs (vowel-e-aa true) = tt
+vowel-climbs (vowel-e-aa false) = tt
+vowel-climbs (vowel-e-aa-killer true) = tt
+vowel-climbs (vowel-e-aa-killer false) = tt
+vowel-climbs vowel-am = tt
+vowel-climbs vowel-i-u = tt
+vowel-climbs vowel-u-am = tt
+
+tone-climbs : (t : ToneMark) → T (climbs 14 (toneText t) 16)
+unfolding climbs rank isRunMark pick
+tone-climbs no-tone = tt
+tone-climbs dot = tt
+tone-climbs visarga = tt
+
+-- a value that is no mark and not 1025 before anything settled
+quiet-above : (x : ℕ) (values : List ℕ) → isRunMark x ≡ false → eqb x 0x1025 ≡ false → Settled values → Above 16 (x ∷ values)
+quiet-above x values m u s = record { settled = (quiet-before x values m u, s); least = no-mark-rank x m }
+
+-- a head is no mark, and a C is not 1025
+head-no-mark : (h : ℕ) → T (isHead h) → isRunMark h ≡ false
+head-no-mark h t = no-mark isHead tt h t
+
+letter-quiet : (h : ℕ) → T (isConsonant h) → eqb h 0x1025 ≡ false
+letter-quiet h t = is-false (eqb h 0x1025) (not-T (eqb h 0x1025) (λ u. rw (eqb→eq h 0x1025 u) at t))
+
+letter-above : (c : ℕ) (values : List ℕ) → T (isConsonant c) → Settled values → Above 16 (c ∷ values)
+letter-above c values t s = quiet-above c values (head-no-mark c (or-left (isConsonant c) _ t)) (letter-quiet c t) s
+
+-- a final before what ranks as a tone or above
+final-above : (f : Final) (rest : List ℕ) → T (isFinal f) → Above 14 rest → Above 14 (finalText f ++ rest)
+unfolding isRunMark rank pick climbs
+final-above no-final rest t a = a
+final-above (plain c) rest t a =
+    let b = letter-above c (0x103A ∷ rest) (final-consonant c t) (piece-above 13 (0x103A ∷ []) 14 rest tt a .settled) in
+    record { settled = b .settled; least = omega (arith, b .least) }
+final-above (stacked c) rest t a =
+    let b = letter-above c (0x1039 ∷ rest) (final-consonant c (both-left (isFinalLetter c) _ t)) (quiet-above 0x1039 rest refl refl (a .settled) .settled) in
+    record { settled = b .settled; least = omega (arith, b .least) }
+final-above kinzi rest t a =
+    let b = quiet-above 0x1039 rest refl refl (a .settled) in
+    record { settled = letter-above 0x1004 (0x103A ∷ 0x1039 ∷ rest) tt (piece-above 13 (0x103A ∷ []) 16 (0x1039 ∷ rest) tt b .settled) .settled; least = omega arith }
+final-above great-sa rest t a = a
+
+-- any value stands before a head
+before-head : (x h : ℕ) → T (isHead h) → Stands x h
+before-head x h t =
+    let same = same-before x h (other 0x102E refl) (or-no (eqb h 0x103A) (eqb h 0x1039) (other 0x103A refl) (other 0x1039 refl)) in
+    record { in-order = behind-apart x h (head-no-mark h t); no-vowel = same .0; no-letter = same .1 }
+  where
+    other : (y : ℕ) → isHead y ≡ false → eqb h y ≡ false
+    other y e = is-false (eqb h y) (not-T (eqb h y) (λ u. rw (eqb→eq h y u, e) at t))
+
+-- and before 103F
+great-sa-after : (x : ℕ) → Stands x 0x103F
+unfolding isRunMark
+great-sa-after x =
+    let same = same-before x 0x103F refl refl in
+    record { in-order = behind-apart x 0x103F refl; no-vowel = same .0; no-letter = same .1 }
+
+-- what holds of the head and of 103F holds of the head as it is written
+on-head : (P : ℕ → Type 0) (f : Final) (h : ℕ) → P h → P 0x103F → P (headText f h)
+on-head P no-final h p q = p
+on-head P (plain c) h p q = p
+on-head P (stacked c) h p q = p
+on-head P kinzi h p q = p
+on-head P great-sa h p q = q
+
+-- what a syllable has after its head, before the next one
+marks-above : (m : MedialGroup) (v : Vowel) (f : Final) (t : ToneMark) (rest : List ℕ) → T (isFinal f) → Above 16 rest
+    → Above 0 ((medialText m ++ (vowelText v ++ (finalText f ++ toneText t))) ++ rest)
+marks-above m v f t rest i a =
+    let tone : Above 14 (toneText t ++ rest) = piece-above 14 (toneText t) 16 rest (tone-climbs t) a in
+    let final : Above 14 (finalText f ++ (toneText t ++ rest)) = final-above f (toneText t ++ rest) i tone in
+    let vowel : Above 4 (vowelText v ++ (finalText f ++ (toneText t ++ rest))) = piece-above 4 (vowelText v) 14 _ (vowel-climbs v) final in
+    simp append-assoc (piece-above 0 (medialText m) 4 _ (medial-climbs m) vowel)
+
+-- a head that is no C has nothing after it
+or-second : (a b : Bool) → a ≡ false → T (a || b) → T b
+or-second true b e t = absurd (subst T e tt)
+or-second false b e t = t
+
+bare-head : (h : ℕ) (m : MedialGroup) (v : Vowel) (f : Final) (t : ToneMark) → Parts h m v f t → isConsonant h ≡ false
+    → medialText m ++ (vowelText v ++ (finalText f ++ toneText t)) ≡ []
+unfolding carriesMarks carriesFinal
+bare-head h m v f t p e =
+    let marks : T (isNoMedial m && isNoVowel v) = or-second (isConsonant h) (isNoMedial m && isNoVowel v) e (p .marks) in
+    let closing : T (isNoFinal f && isNoTone t) = or-second (isConsonant h) (isNoFinal f && isNoTone t) e (p .closing) in
+    rw (
+      no-medial-text m (both-left (isNoMedial m) (isNoVowel v) marks),
+      no-vowel-text v (both-right (isNoMedial m) (isNoVowel v) marks),
+      no-final-text f (both-left (isNoFinal f) (isNoTone t) closing),
+      no-tone-text t (both-right (isNoFinal f) (isNoTone t) closing),
+    )
+
+-- a row, and any value before it
+record RowAbove (values : List ℕ) : Type 0 where
+  above : Above 16 values
+  after : (x : ℕ) → StandsBefore x values
+
+head-before : (f : Final) (h : ℕ) (carried rest : List ℕ) → T (isHead h) → (isConsonant h ≡ false → carried ≡ [])
+    → ((x : ℕ) → StandsBefore x rest) → StandsBefore (headText f h) (carried ++ rest)
+unfolding isRunMark
+head-before f h carried rest i bare after =
+    on-head (λ (x : ℕ). StandsBefore x (carried ++ rest)) f h (go (isConsonant h) refl) (quiet-before 0x103F (carried ++ rest) refl refl)
+  where
+    go : (b : Bool) → isConsonant h ≡ b → StandsBefore h (carried ++ rest)
+    go true e = quiet-before h (carried ++ rest) (head-no-mark h i) (letter-quiet h (subst T (sym e) tt))
+    go false e = subst (λ (l : List ℕ). StandsBefore h (l ++ rest)) (sym (bare e)) (after h)
+
+row-above : (f : Final) (row : Row) → T (isRowAfter f row) → RowAbove (joinAfter f row)
+unfolding isRunMark rank pick
+row-above f [] q = record { above = record { settled = tt; least = omega arith }; after = λ x. tt }
+row-above f (syllable h m v g t ∷ row) q =
+    let r = first f (syllable h m v g t) row q in
+    let p = apart h m v g t (r .is) in
+    let rest = row-above g row (r .rest) in
+    let marks = marks-above m v g t (joinAfter g row) (p .final) (rest .above) in
+    record {
+      above =
+          record {
+            settled = (head-before f h _ (joinAfter g row) (p .head) (bare-head h m v g t p) (rest .after), marks .settled);
+            least = on-head (λ (x : ℕ). 16 ≤ rank x) f h (no-mark-rank h (head-no-mark h (p .head))) (no-mark-rank 0x103F refl);
+          };
+      after = λ x. on-head (Stands x) f h (before-head x h (p .head)) (great-sa-after x);
+    }
+
+-- a row of syllables is stored as it is
+pub row-is-stored : (row : Row) → IsRow row → storedForm (join row) ≡ join row
+row-is-stored row q = settled-stored (join row) (row-above no-final row q .above .settled)
+
+pub gives-stored : (row : Row) (word : List ℕ) → Gives row word → storedForm word ≡ word
+gives-stored row word g = rw (← g .joined) (row-is-stored row (g .is-row))
