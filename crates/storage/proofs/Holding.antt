@@ -18,7 +18,7 @@ use Rattle.formula.specs.Limits.{limit}
 use Rattle.formula.specs.Held.{wordOf}
 use Rattle.formula.specs.declared.Word.{Word}
 use Rattle.storage.specs.Stored.{isRunMark, rank, goesBehind, insert, makesLongVowel, makesLetter}
-use Rattle.storage.specs.Putting.{joinFront, putFront, FrontRoom, FrontPut, PartRoom}
+use Rattle.storage.specs.Front.{joinFront, putFront, FrontRoom, FrontPut, PartRoom}
 use Rattle.storage.proofs.Ranks.{behind-mark}
 use Rattle.storage.proofs.Runs.{insert-behind, insert-here, insert-length}
 

@@ -12,7 +12,7 @@ use Rattle.formula.specs.Limits.{limit}
 use Rattle.formula.specs.Held.{wordOf}
 use Rattle.formula.specs.declared.Word.{Word}
 use Rattle.storage.specs.Stored.{isRunMark, insert, makesLongVowel, makesLetter, storedForm}
-use Rattle.storage.specs.Putting.{joinFront, putFront, FrontPut}
+use Rattle.storage.specs.Front.{joinFront, putFront, FrontPut}
 use Rattle.storage.proofs.Runs.{insert-run}
 use Rattle.storage.proofs.Composing.{same-before, join-same, stored-front}
 

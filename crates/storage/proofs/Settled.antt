@@ -9,7 +9,7 @@ use lib.Dec.{T, eqb}
 use borrow.Author.Tests.{ltb-true, le-ltb}
 use Rattle.letters.specs.Choice.{pick}
 use Rattle.storage.specs.Stored.{isRunMark, rank, goesBehind, insert, makesLongVowel, makesLetter, storedForm}
-use Rattle.storage.specs.Putting.{joinFront, putFront}
+use Rattle.storage.specs.Front.{joinFront, putFront}
 use Rattle.storage.proofs.Ranks.{behind-none, behind-mark, behind-marks}
 use Rattle.storage.proofs.Runs.{insert-here, on-insert}
 use Rattle.storage.proofs.Composing.{other-vowel, other-letter, mark-other, stored-front}
