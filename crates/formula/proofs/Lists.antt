@@ -3,8 +3,11 @@
 use mathlib.Core.Path.{_≡_, refl, ap}
 use mathlib.Core.Bool.{Bool, true, false, _&&_}
 use mathlib.Core.List.{List, [], _∷_}
-use Prim.Native.Nat.{ℕ}
+use Prim.Native.Nat.{ℕ, zero, suc, _<_}
+use native.Mathlib.Nat.{le-of-suc-le-suc, not-suc-le-zero}
+use native.Mathlib.Omega.{arith}
 use lib.Dec.{T, eqb, eqb→eq}
+use lib.ListN.{length, getD}
 
 pub both-left : (a b : Bool) → T (a && b) → T a
 both-left true b t = tt
@@ -32,6 +35,16 @@ All P (x ∷ xs) = P x × All P xs
 pub every-all : {A : Type 0} (f : A → Bool) (P : A → Type 0) → ((x : A) → T (f x) → P x) → (xs : List A) → T (every f xs) → All P xs
 every-all f P g [] t = tt
 every-all f P g (x ∷ xs) t = (g x (both-left (f x) (every f xs) t), every-all f P g xs (both-right (f x) (every f xs) t))
+
+-- the same by places, for numbers
+pub every-at : (f : ℕ → Bool) (xs : List ℕ) → T (every f xs) → (k : ℕ) → k < length xs → T (f (getD xs k 0))
+every-at f [] t k h = absurd (not-suc-le-zero h)
+every-at f (x ∷ xs) t zero h = both-left (f x) (every f xs) t
+every-at f (x ∷ xs) t (suc k) h = every-at f xs (both-right (f x) (every f xs) t) k (le-of-suc-le-suc h)
+
+pub at-every : (f : ℕ → Bool) (xs : List ℕ) → ((k : ℕ) → k < length xs → T (f (getD xs k 0))) → T (every f xs)
+at-every f [] g = tt
+at-every f (x ∷ xs) g = both (f x) (every f xs) (g 0 (omega arith)) (at-every f xs (λ k h. g (suc k) (omega arith)))
 
 module _ {A : Type 0} (same : A → A → Bool) where
   -- two lists whose elements pass the test pairwise

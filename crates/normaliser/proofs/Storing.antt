@@ -3,8 +3,7 @@
 use mathlib.Core.Path.{_≡_, refl, ap, sym, subst, _∙_}
 use mathlib.Core.Bool.{Bool, true, false, _&&_, _||_}
 use mathlib.Core.List.{List, [], _∷_, _++_}
-use Prim.Native.Nat.{ℕ, zero, suc, _-_, _≤_, _<_}
-use native.Mathlib.Nat.{le-of-suc-le-suc, not-suc-le-zero}
+use Prim.Native.Nat.{ℕ, _-_, _≤_, _<_}
 use native.Mathlib.Decide.{decLt, ℕ-discrete}
 use native.Mathlib.Omega.{arith}
 use lib.Dec.{T, eqb, eqb→eq}
@@ -15,7 +14,7 @@ use Rattle.letters.specs.Letters.{isAdmitted}
 use Rattle.formula.specs.Limits.{limit}
 use Rattle.formula.specs.Held.{wordOf}
 use Rattle.formula.specs.declared.Word.{Word}
-use Rattle.formula.proofs.Lists.{both, both-left, both-right, every}
+use Rattle.formula.proofs.Lists.{both, both-left, both-right, every, every-at, at-every}
 use Rattle.refusals.specs.Refusal.{numberOf, placeOf}
 use Rattle.refusals.specs.declared.Refusal.{Refusal}
 use Rattle.reading.specs.Answer.{accepts, refuses, outcomeOf, Admissible, FirstForeign, RefusedWith, too-long, foreign, no-continuation, unfinished}
@@ -28,16 +27,6 @@ use Rattle.storage.proofs.Composing.{stored-front}
 use Rattle.storage.proofs.Outcome.{stored-shorter, stored-admitted}
 use Rattle.normaliser.specs.Normal.{StoreRefusedWith, foreign as strange, outcome, Stores, StoreAnswers, WordFor, NormalRight, NormaliseRight, writes, too-short, HandedIn}
 use Rattle.normaliser.specs.declared.Normalised.{Normalised}
-
--- a test of every value, by places
-every-at : (f : ℕ → Bool) (w : List ℕ) → T (every f w) → (k : ℕ) → k < length w → T (f (getD w k 0))
-every-at f [] t k h = absurd (not-suc-le-zero h)
-every-at f (x ∷ w) t zero h = both-left (f x) (every f w) t
-every-at f (x ∷ w) t (suc k) h = every-at f w (both-right (f x) (every f w) t) k (le-of-suc-le-suc h)
-
-at-every : (f : ℕ → Bool) (w : List ℕ) → ((k : ℕ) → k < length w → T (f (getD w k 0))) → T (every f w)
-at-every f [] g = tt
-at-every f (x ∷ w) g = both (f x) (every f w) (g 0 (omega arith)) (at-every f w (λ k h. g (suc k) (omega arith)))
 
 -- what is admitted with x put in front was admitted, and so is x
 insert-front : (x : ℕ) (values : List ℕ) → T (every isAdmitted (insert x values)) → T (isAdmitted x) × T (every isAdmitted values)

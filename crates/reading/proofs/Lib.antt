@@ -2,3 +2,5 @@ pub mod Reach
 pub mod Answered
 pub mod Recorded
 pub mod Parted
+pub mod Determined
+pub mod Words

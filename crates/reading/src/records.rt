@@ -30,7 +30,8 @@ fn medial_weight(set: u8) -> u8
     weight
 }
 
-fn bytes_of(s: Syllable) -> [u8; 7]
+// The record of a syllable by its numbers.
+pub fn bytes_of(s: Syllable) -> [u8; 7]
     ensures { λ r. ⌜ r ≡ bytesBy s ⌝ }
 {
     let medial = medial_weight(s.medials);

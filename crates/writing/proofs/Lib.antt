@@ -1,0 +1,11 @@
+pub mod Bytes
+pub mod Parts
+pub mod Decoded
+pub mod Sevens
+pub mod Rows
+pub mod Texts
+pub mod Putting
+pub mod Measuring
+pub mod Filling
+pub mod Answers
+pub mod Laws

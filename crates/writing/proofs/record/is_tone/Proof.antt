@@ -1,0 +1,13 @@
+-- `writing::record::is_tone` meets its contract: its tests are those of `isToneNumber`, in the same order.
+-- Assumes nothing.
+use mathlib.Core.Path.{refl}
+use Rattle.writing.specs.Records.{isToneNumber}
+use Rattle.writing.proofs.record.is_tone.Statement.{statement}
+use Rattle.writing.proofs.record.is_tone.Tie as tie
+
+returns : tie.Need-returns
+unfolding isToneNumber
+returns c = refl
+
+pub is-tone-spec : {M : Type 1} → statement M
+is-tone-spec = tie.close (tie.spec returns)
