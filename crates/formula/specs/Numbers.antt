@@ -1,6 +1,6 @@
 -- A syllable as the code keeps it, by numbers, and the window that a reading keeps of its row.
 -- Assumes nothing.
-use Prim.Native.Nat.{ℕ, _-_}
+use Prim.Native.Nat.{_-_}
 use Rattle.letters.specs.Weights.{medialSet, vowelWeight, vowelTall, toneWeight}
 use Rattle.formula.specs.Syllable.{Syllable, syllable, bare}
 use Rattle.formula.specs.Record.{finalNumberOf, linkOf}

@@ -1,7 +1,7 @@
 -- Document 01, "The syllable": rows of syllables, the list of values that a row gives, and what can be continued to one.
 -- A description: no reader stands here. Assumes nothing.
 use mathlib.Core.Path.{_≡_}
-use mathlib.Core.Bool.{Bool, true, false, _&&_}
+use mathlib.Core.Bool.{Bool, _&&_}
 use mathlib.Core.List.{List, [], _∷_, _++_}
 use Prim.Native.Nat.{ℕ, _≤_, _<_}
 use lib.Dec.{T}

@@ -5,7 +5,7 @@ use mathlib.Core.List.{List, [], _∷_, _++_}
 use Prim.Native.Nat.{ℕ}
 use lib.Dec.{eqb}
 use Rattle.letters.specs.Letters.{isConsonant}
-use Rattle.letters.specs.Marks.{YaRa, neither, ya, ra, MedialGroup, group, no-medial, Vowel, no-vowel, vowel-aa, vowel-i, vowel-ii, vowel-u, vowel-uu, vowel-e, vowel-ai, vowel-e-aa, vowel-e-aa-killer, vowel-am, vowel-i-u, vowel-u-am, ToneMark, no-tone, dot, visarga, medialText, vowelText, toneText}
+use Rattle.letters.specs.Marks.{neither, ya, ra, MedialGroup, group, no-medial, Vowel, no-vowel, vowel-aa, vowel-i, vowel-ii, vowel-u, vowel-uu, vowel-e, vowel-ai, vowel-e-aa, vowel-e-aa-killer, vowel-am, vowel-i-u, vowel-u-am, ToneMark, no-tone, dot, visarga, medialText, vowelText, toneText}
 use Rattle.letters.specs.Weights.{isHead, isFinalLetter}
 
 -- "A plain final is that letter and 103A. A stacked final is a final letter other than 1004 and then 1039. Kinzi is 1004 103A 1039.

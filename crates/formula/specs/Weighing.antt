@@ -1,6 +1,6 @@
 -- Document 01, "Weights": the five weights of a syllable, and those of a row.
 -- Assumes nothing.
-use mathlib.Core.List.{List, [], _∷_, _++_}
+use mathlib.Core.List.{List, [], _∷_}
 use Prim.Native.Nat.{ℕ, _+_}
 use Rattle.letters.specs.Weights.{headWeight, independentVowelWeight, medialWeight, vowelWeight, finalWeight, toneWeight}
 use Rattle.formula.specs.Syllable.{Final, no-final, plain, stacked, kinzi, great-sa, Syllable, syllable}

@@ -1,13 +1,13 @@
 -- A word and its stored form have foreign values together, so a refusal of the stored form is one of the word.
 -- Assumes nothing.
 use mathlib.Core.Path.{_≡_, refl, ap, sym, subst, _∙_}
-use mathlib.Core.Bool.{Bool, true, false, _&&_, _||_}
+use mathlib.Core.Bool.{Bool, true, false, _&&_}
 use mathlib.Core.List.{List, [], _∷_, _++_}
 use Prim.Native.Nat.{ℕ, _-_, _≤_, _<_}
 use native.Mathlib.Decide.{decLt, ℕ-discrete}
 use native.Mathlib.Omega.{arith}
 use lib.Dec.{T, eqb, eqb→eq}
-use lib.ListN.{length, getD, take, drop, replicate, length-append}
+use lib.ListN.{length, take, drop, replicate, length-append}
 use lib.Seq.{take-at}
 use Rattle.letters.specs.Choice.{pick}
 use Rattle.letters.specs.Letters.{isAdmitted}

@@ -6,11 +6,9 @@ use Prim.Native.Nat.{ℕ, _≤_, _<_}
 use lib.ListN.{length, drop}
 use Rattle.formula.specs.Limits.{limit}
 use Rattle.formula.specs.Held.{wordOf}
-use Rattle.formula.specs.declared.Syllable.{Syllable as Numbers}
 use Rattle.formula.specs.declared.Word.{Word}
 use Rattle.refusals.specs.Refusal.{numberOf, placeOf}
 use Rattle.refusals.specs.declared.Refusal.{Refusal}
-use Rattle.refusals.specs.declared.Refusal.the-variants.{Foreign}
 use Rattle.reading.specs.Answer.{Outcome, accepts, refuses, outcomeOf, Admissible, FirstForeign, RefusedWith, Reads, nothings, SyllablesFor}
 use Rattle.reading.specs.Concluded.{AdmittedTo}
 use Rattle.reading.specs.declared.read.ReadAnswer.the-variants.{Refused}

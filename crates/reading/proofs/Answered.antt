@@ -1,33 +1,33 @@
 -- The answer where a pass has stopped is right: what the machine kept is the word's row, or shows that there is none.
 -- Assumes nothing.
 use mathlib.Core.Path.{_≡_, refl, ap, sym, subst, _∙_}
-use mathlib.Core.Bool.{Bool, true, false, not, false≢true}
+use mathlib.Core.Bool.{Bool, true, false}
 use mathlib.Core.List.{List, [], _∷_, _++_, map, append-assoc, append-nil, reverse, reverseAux, reverse-reverse}
 use mathlib.Core.Option.{Option, none, some, Option·none-ne-some, Option·some-injective}
-use Prim.Native.Nat.{ℕ, zero, suc, _+_, _-_, _≤_, _<_}
+use Prim.Native.Nat.{ℕ, zero, suc, _-_, _≤_, _<_}
 use native.Mathlib.Nat.{le-of-suc-le-suc, not-suc-le-zero}
 use native.Mathlib.Decide.{decLt}
 use native.Mathlib.Omega.{arith}
 use lib.Dec.{T}
 use lib.ListN.{length, getD, take, length-take, length-reverse}
 use lib.Seq.{take-all, getD-take}
-use Rattle.letters.specs.Letters.{isAdmitted, kindOf}
+use Rattle.letters.specs.Letters.{isAdmitted}
 use Rattle.letters.specs.declared.kind.Kind.{Kind}
 use Rattle.letters.proofs.Counted.{unadmitted-foreign}
 use Rattle.formula.specs.Limits.{limit}
-use Rattle.formula.specs.Syllable.{Final, no-final, plain, stacked, kinzi, great-sa, Syllable, syllable, isClosed, finalOf}
-use Rattle.formula.specs.Row.{Row, Gives, Viable, LongestViable}
+use Rattle.formula.specs.Syllable.{Final, no-final, plain, stacked, kinzi, great-sa, syllable, isClosed}
+use Rattle.formula.specs.Row.{Row, Gives, Viable}
 use Rattle.formula.specs.Record.{linkOf}
 use Rattle.formula.specs.Numbers.{numbersOf}
 use Rattle.formula.specs.declared.Syllable.{Syllable as Numbers}
 use Rattle.formula.specs.declared.Window.{Window}
 use Rattle.rows.specs.Kept.{endOf, isNotGreatSa, act, step, andThen, run}
-use Rattle.rows.proofs.Sound.{RunOut, sound}
+use Rattle.rows.proofs.Sound.{sound}
 use Rattle.rows.proofs.Viable.{read-back, only-row, unfinished, alive, stops, longest}
 use Rattle.steps.specs.Agree.{topOf}
-use Rattle.reading.specs.Answer.{Admissible, FirstForeign, RefusedWith, too-long, foreign, no-continuation, unfinished as open-end, Reads, nothings}
+use Rattle.reading.specs.Answer.{Admissible, RefusedWith, too-long, foreign, no-continuation, unfinished as open-end, Reads, nothings}
 use Rattle.reading.specs.Concluded.{AdmittedTo}
-use Rattle.reading.specs.Scanned.{keptNumbers, WindowOf, Stopped}
+use Rattle.reading.specs.Scanned.{keptNumbers, Stopped}
 use Rattle.reading.proofs.Reach.{kept-right}
 
 -- a value that is read is admitted

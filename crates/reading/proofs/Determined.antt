@@ -2,13 +2,12 @@
 -- Assumes nothing.
 use mathlib.Core.Path.{_≡_, refl, ap, sym, _∙_}
 use mathlib.Core.List.{List}
-use Prim.Native.Nat.{ℕ, _≤_, _<_}
+use Prim.Native.Nat.{ℕ, _<_}
 use native.Mathlib.Decide.{decLt}
 use native.Mathlib.Omega.{arith}
 use lib.ListN.{length}
 use Rattle.formula.specs.Row.{LongestViable}
-use Rattle.reading.specs.Answer.{Outcome, accepts, refuses, outcomeOf, Admissible, FirstForeign, RefusedWith, too-long, foreign, no-continuation, unfinished, Reads, Answers}
-use Rattle.reading.specs.declared.read.ReadAnswer.{ReadAnswer}
+use Rattle.reading.specs.Answer.{Outcome, accepts, refuses, Admissible, FirstForeign, RefusedWith, too-long, foreign, no-continuation, unfinished, Answers}
 use Rattle.reading.proofs.Answered.{refused-no-row}
 
 -- two places neither of which comes before the other

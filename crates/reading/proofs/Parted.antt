@@ -1,7 +1,6 @@
 -- The part by number is the row's: a syllable's part lies between the places where it and the next one begin.
 -- Assumes nothing.
-use mathlib.Core.Path.{_≡_, refl, ap, sym, subst, _∙_}
-use mathlib.Core.Bool.{Bool, true, false}
+use mathlib.Core.Path.{_≡_, refl, ap, sym, _∙_}
 use mathlib.Core.List.{List, [], _∷_, _++_, append-assoc, append-nil, reverse, reverseAux}
 use Prim.Native.Nat.{ℕ, zero, suc, _+_, _-_, _≤_, _<_}
 use native.Mathlib.Nat.{le-of-suc-le-suc, not-suc-le-zero}
@@ -9,15 +8,14 @@ use native.Mathlib.Decide.{decLt}
 use native.Mathlib.Numerals.{add-one}
 use native.Mathlib.Omega.{arith}
 use borrow.Author.Tests.{lt-ltb, le-ltb}
-use lib.Dec.{ltb}
 use lib.ListN.{length, getD, take, drop, length-append, length-reverse, List·getD-eq-default}
 use lib.Seq.{take-at, drop-at, getD-take}
 use Rattle.letters.specs.Choice.{pick}
-use Rattle.formula.specs.Syllable.{Final, no-final, Syllable, finalOf, part}
-use Rattle.formula.specs.Row.{Row, joinAfter, join, partsAfter, parts, Gives}
+use Rattle.formula.specs.Syllable.{Final, no-final, finalOf, part}
+use Rattle.formula.specs.Row.{Row, joinAfter, partsAfter, parts}
 use Rattle.formula.specs.declared.Window.{Window}
 use Rattle.rows.specs.Kept.{endOf, keptJoin}
-use Rattle.reading.specs.Answer.{Admissible, RefusedWith, Reads}
+use Rattle.reading.specs.Answer.{RefusedWith, Reads}
 use Rattle.reading.specs.Parts.{endBy, PartRight}
 use Rattle.reading.specs.Scanned.{keptStarts, StartsOf, Stopped}
 use Rattle.reading.proofs.Answered.{read-ends, kept-is, refused-no-row}

@@ -5,7 +5,6 @@ use mathlib.Core.Bool.{Bool, true, false, not, false≢true}
 use mathlib.Core.List.{List, [], _∷_, _++_}
 use mathlib.Core.Option.{Option, none, some}
 use Prim.Native.Nat.{ℕ, zero, suc, _+_, _-_, _≤_, _<_}
-use native.Mathlib.Nat.{add-zero}
 use native.Mathlib.Numerals.{add-one}
 use native.Mathlib.Omega.{arith}
 use lib.Dec.{T}
@@ -14,19 +13,19 @@ use lib.Seq.{take-suc-set, take-take, take-at, drop-set-lt, drop-drop}
 use Rattle.formula.specs.Limits.{limit}
 use Rattle.formula.specs.Syllable.{Syllable, syllable, bare, finalOf, isNoFinal, part, headText}
 use Rattle.formula.specs.Row.{Row}
-use Rattle.formula.specs.Numbers.{numbersOf, nothing, greatSaHead, unread}
+use Rattle.formula.specs.Numbers.{numbersOf, nothing, unread}
 use Rattle.formula.specs.declared.Syllable.{Syllable as Numbers}
 use Rattle.formula.specs.declared.Window.{Window}
-use Rattle.rows.specs.Kept.{endOf, KeptOk, keptJoin, isNotGreatSa, step, run}
+use Rattle.rows.specs.Kept.{endOf, keptJoin, step, run}
 use Rattle.rows.proofs.Sound.{RunOut, run-out}
 use Rattle.rows.proofs.Viable.{goes-on}
-use Rattle.steps.specs.Agree.{topOf, belowOf, Pushes, Changes, Closes, ClosesByGreatSa, Agrees}
+use Rattle.steps.specs.Agree.{Pushes, Agrees}
 use Rattle.steps.specs.Moves.{moveOf}
 use Rattle.steps.proofs.Moved.{moved}
 use Rattle.steps.specs.declared.step.Move.{Move}
 use Rattle.steps.specs.declared.step.Move.the-variants.{Refuse, Push, Change, Close, GreatSa as Great}
 use Rattle.reading.specs.Answer.{nothings}
-use Rattle.reading.specs.Scanned.{isRefusal, isBeginning, windowAfter, belowLast, keptNumbers, keptStarts, WindowOf, SyllablesOf, StartsOf, Reached}
+use Rattle.reading.specs.Scanned.{isRefusal, isBeginning, windowAfter, keptNumbers, keptStarts, WindowOf, SyllablesOf, StartsOf, Reached}
 
 -- what the machine's row is after the values before `at`
 pub kept-right : (word : List ℕ) (at : ℕ) (kept : Row) → run (take at word) [] ≡ some kept → RunOut [] (take at word) (some kept)

@@ -1,13 +1,11 @@
 -- The record by number is the row's: the array of a reading holds the row's syllables, and their numbers are those of the records.
 -- Assumes nothing.
-use mathlib.Core.Path.{_≡_, refl, ap, sym, subst, _∙_}
+use mathlib.Core.Path.{_≡_, refl, ap, subst, _∙_}
 use mathlib.Core.List.{List, [], _∷_, _++_, map}
-use Prim.Native.Nat.{ℕ, zero, suc, _+_, _-_, _≤_, _<_}
+use Prim.Native.Nat.{ℕ, zero, suc, _-_, _≤_, _<_}
 use native.Mathlib.Nat.{le-of-suc-le-suc, not-suc-le-zero}
 use native.Mathlib.Omega.{arith}
 use lib.ListN.{length, getD, length-append}
-use Rattle.letters.specs.Weights.{medialSet, medialSetWeight, medialWeight}
-use Rattle.letters.specs.declared.weight.Weighed.{Weighed}
 use Rattle.letters.proofs.Written.{medial-written}
 use Rattle.formula.specs.Limits.{limit}
 use Rattle.formula.specs.Syllable.{Final, no-final, Syllable, syllable, bare, finalOf, part}
@@ -16,7 +14,7 @@ use Rattle.formula.specs.Record.{recordOf}
 use Rattle.formula.specs.Numbers.{numbersOf}
 use Rattle.formula.specs.declared.Syllable.{Syllable as Numbers}
 use Rattle.reading.specs.Answer.{Reads, outcomeOf, Answers, nothings, SyllablesFor, ReadRight}
-use Rattle.reading.specs.Records.{weightOr, medialWeightBy, bytesBy, HasRecord}
+use Rattle.reading.specs.Records.{medialWeightBy, bytesBy, HasRecord}
 use Rattle.reading.specs.declared.read.ReadAnswer.{ReadAnswer}
 use Rattle.reading.specs.declared.read.ReadAnswer.the-variants.{Syllables}
 use Rattle.reading.specs.declared.read.Reading.{Reading}

@@ -21,7 +21,7 @@ use Rattle.formula.proofs.Lists.{both-left, both-right, every, All, every-all, 
 use Rattle.rows.specs.Kept.{endOf, step, run}
 use Rattle.rows.proofs.Sound.{sound}
 use Rattle.rows.proofs.Viable.{read-back, only-row, unfinished, alive, stops, goes-on, longest}
-use Rattle.reading.specs.Answer.{Outcome, accepts, refuses, Admissible, RefusedWith, no-continuation, unfinished as open-end, Reads, Answers}
+use Rattle.reading.specs.Answer.{Outcome, accepts, refuses, Admissible, RefusedWith, no-continuation, unfinished as open-end, Answers}
 
 -- the answer of the machine
 abbrev atEnd : Bool → ℕ → ℕ → Outcome

@@ -5,7 +5,6 @@ use crate::scan::scan_word;
 use formula::Word;
 ghost use mathlib.Core.Path.{_≡_};
 ghost use Prim.Native.Nat.{_<_, _≤_};
-ghost use lib.ListN.{length};
 ghost use Rattle.reading.specs.Parts.{endBy, PartRight};
 
 fn wide(x: u8) -> usize

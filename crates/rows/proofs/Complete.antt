@@ -1,6 +1,6 @@
 -- Every row is read: `run` on what the row gives when joined keeps that row.
 -- Assumes nothing.
-use mathlib.Core.Path.{_≡_, refl, ap, sym, subst, _∙_}
+use mathlib.Core.Path.{_≡_, refl, ap, sym, _∙_}
 use mathlib.Core.Bool.{Bool, true, false, not, _&&_, _||_}
 use mathlib.Core.List.{List, [], _∷_, _++_, reverse, reverseAux}
 use mathlib.Core.Option.{Option, none, some}
@@ -9,15 +9,15 @@ use native.Mathlib.Omega.{arith}
 use lib.Dec.{T, eqb, eqb→eq, leb, leb→le, le→leb}
 use Rattle.letters.specs.Choice.{pick}
 use Rattle.letters.specs.Letters.{within, isConsonant, isIndependentVowel, isMedial, isVowelMark, isTone, isKiller, isStacker, isGreatSa, isDigit, isStop, isSign, kindOf}
-use Rattle.letters.specs.Marks.{neither, ya, ra, MedialGroup, group, no-medial, medialText, Vowel, no-vowel, vowel-aa, vowel-i, vowel-ii, vowel-u, vowel-uu, vowel-e, vowel-ai, vowel-e-aa, vowel-e-aa-killer, vowel-am, vowel-i-u, vowel-u-am, vowelText, ToneMark, no-tone, dot, visarga, toneText}
+use Rattle.letters.specs.Marks.{neither, ya, ra, MedialGroup, group, medialText, Vowel, no-vowel, vowel-aa, vowel-i, vowel-ii, vowel-u, vowel-uu, vowel-e, vowel-ai, vowel-e-aa, vowel-e-aa-killer, vowel-am, vowel-i-u, vowel-u-am, vowelText, ToneMark, no-tone, dot, visarga, toneText}
 use Rattle.letters.specs.Weights.{isHead, isFinalLetter}
 use Rattle.letters.specs.declared.kind.Kind.{Kind}
 use Rattle.letters.specs.declared.kind.Kind.the-variants.{Consonant, IndependentVowel, Medial, VowelMark, Tone, Killer, Stacker, GreatSa, Digit, Stop, Sign, Foreign}
 use Rattle.formula.proofs.Lists.{both, both-left, both-right}
 use Rattle.formula.specs.Syllable.{Final, no-final, plain, stacked, kinzi, great-sa, Syllable, syllable, bare, headOf, finalOf, carriesMarks, carriesFinal, isNoMedial, isNoVowel, isNoFinal, isNoTone, isClosed, isFinal, takesTone, isSyllable, follows, finalText, headText, part}
 use Rattle.formula.specs.Row.{Row, isRowAfter, IsRow, joinAfter, join}
-use Rattle.rows.specs.Kept.{when, endOf, KeptOk, isOpen, admits, stepHead, act, step, andThen, run}
-use Rattle.rows.proofs.Sound.{Parts, apart}
+use Rattle.rows.specs.Kept.{when, endOf, KeptOk, admits, stepHead, act, step, andThen, run}
+use Rattle.rows.proofs.Sound.{apart}
 
 -- runs one after the other
 then-step : (x : ℕ) (w : List ℕ) (a b : Row) (o : Option Row) → step a x ≡ some b → run w b ≡ o → run (x ∷ w) a ≡ o

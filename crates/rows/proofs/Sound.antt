@@ -7,7 +7,7 @@ use mathlib.Core.Option.{Option, none, some}
 use Prim.Native.Nat.{ℕ}
 use lib.Dec.{T, eqb, eqb→eq}
 use Rattle.letters.specs.Choice.{pick}
-use Rattle.letters.specs.Letters.{within, isConsonant, isIndependentVowel, isMedial, isVowelMark, isTone, isKiller, isStacker, isGreatSa, isDigit, isStop, isSign, kindOf}
+use Rattle.letters.specs.Letters.{isConsonant, isIndependentVowel, isMedial, isVowelMark, isTone, isKiller, isStacker, isGreatSa, isDigit, isStop, isSign, kindOf}
 use Rattle.letters.specs.Marks.{MedialGroup, group, neither, ya, ra, medialGroups, no-medial, medialText, Vowel, no-vowel, vowel-aa, vowel-i, vowel-ii, vowel-u, vowel-uu, vowel-e, vowel-ai, vowel-e-aa, vowel-e-aa-killer, vowel-am, vowel-i-u, vowel-u-am, vowels, vowelText, ToneMark, no-tone, dot, visarga, toneMarks, toneText}
 use Rattle.letters.specs.Weights.{isHead, isFinalLetter}
 use Rattle.letters.specs.declared.kind.Kind.{Kind}

@@ -1,16 +1,16 @@
 -- A record and its syllable: reading a syllable's record gives the syllable, and bytes that pass the tests are the record of what is read.
 -- Assumes nothing.
-use mathlib.Core.Path.{_≡_, refl, ap, subst, sym, _∙_}
-use mathlib.Core.Bool.{Bool, _&&_, _||_}
+use mathlib.Core.Path.{_≡_}
+use mathlib.Core.Bool.{_||_}
 use mathlib.Core.List.{List, [], _∷_}
 use Prim.Native.Nat.{ℕ, _+_, _-_, _≤_}
 use native.Mathlib.Omega.{arith}
 use lib.Dec.{T, eqb, leb}
 use lib.ListN.{getD}
-use Rattle.letters.specs.Weights.{isHead, medialWeight, vowelWeight, vowelTall, toneWeight}
+use Rattle.letters.specs.Weights.{toneWeight}
 use Rattle.formula.proofs.Lists.{both, both-left, both-right}
-use Rattle.formula.specs.Syllable.{Syllable, syllable, finalOf, carriesMarks, carriesFinal, isNoMedial, isNoVowel, isNoFinal, isNoTone, isClosed, isFinal, takesTone, isSyllable}
-use Rattle.formula.specs.Record.{finalNumberOf, linkOf, recordOf}
+use Rattle.formula.specs.Syllable.{Syllable, syllable, finalOf, isSyllable}
+use Rattle.formula.specs.Record.{linkOf, recordOf}
 use Rattle.rows.proofs.Sound.{apart, together}
 use Rattle.writing.specs.Decode.{medialOfWeight, vowelOfWeight, finalOfNumbers, toneOfWeight, syllableOf}
 use Rattle.writing.specs.Records.{isToneNumber, isRecord}

@@ -1,9 +1,9 @@
 -- The pass that writes: the output begins with the parts of the records so far, and with the parts of what is left they are the whole word.
 -- Assumes nothing.
-use mathlib.Core.Path.{_≡_, refl, ap, sym, subst, _∙_}
-use mathlib.Core.Bool.{Bool, true, false, _&&_}
+use mathlib.Core.Path.{_≡_, refl, ap, sym, _∙_}
+use mathlib.Core.Bool.{_&&_}
 use mathlib.Core.List.{List, [], _∷_, _++_, append-assoc, append-nil}
-use Prim.Native.Nat.{ℕ, _+_, _-_, _≤_, _<_}
+use Prim.Native.Nat.{ℕ, _+_, _≤_, _<_}
 use native.Mathlib.Decide.{decLt}
 use native.Mathlib.Nat.{zero-add}
 use native.Mathlib.Omega.{arith}
@@ -18,7 +18,7 @@ use Rattle.formula.specs.Record.{linkOf}
 use Rattle.writing.specs.Decode.{syllableOf}
 use Rattle.writing.specs.Records.{linkAdmits, isRecord, mayFollow, rowOf, areRecords}
 use Rattle.writing.specs.Put.{headAfter, partAfter, PartPut, RowFits, RowPut}
-use Rattle.writing.proofs.Sevens.{Seven, seven, row-next, records-next, records-short}
+use Rattle.writing.proofs.Sevens.{seven, row-next, records-next, records-short}
 use Rattle.writing.proofs.Decoded.{decoded}
 use Rattle.writing.proofs.Putting.{put-length, put-behind}
 

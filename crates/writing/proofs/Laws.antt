@@ -1,13 +1,13 @@
 -- A row's records tell the row, and the promise of writing fixes the outcome and the output: both since records are read back as their row.
 -- Assumes nothing.
 use mathlib.Core.Path.{_≡_, refl, ap, sym, _∙_}
-use mathlib.Core.List.{List, _++_}
-use Prim.Native.Nat.{ℕ, _≤_, _<_}
+use mathlib.Core.List.{List}
+use Prim.Native.Nat.{ℕ}
 use native.Mathlib.Omega.{arith}
-use lib.ListN.{length, drop}
+use lib.ListN.{length}
 use Rattle.formula.specs.Row.{Row, IsRow, join}
 use Rattle.formula.specs.Record.{recordBytes}
-use Rattle.writing.specs.Write.{Outcome, written, refuses, Recorded, WriteRight, writes, no-such-row, too-short}
+use Rattle.writing.specs.Write.{Outcome, Recorded, WriteRight, writes, no-such-row, too-short}
 use Rattle.writing.proofs.Answers.{read-row}
 
 -- two rows with the same records are the same row

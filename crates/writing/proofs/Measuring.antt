@@ -2,11 +2,10 @@
 -- Assumes nothing.
 use mathlib.Core.Path.{_≡_, refl, ap, sym, _∙_}
 use mathlib.Core.Bool.{Bool, true, false, _&&_}
-use mathlib.Core.List.{List, [], _∷_, _++_}
+use mathlib.Core.List.{List, [], _∷_}
 use Prim.Native.Nat.{ℕ, _+_, _-_, _≤_, _<_}
 use native.Mathlib.Nat.{zero-add}
 use native.Mathlib.Omega.{arith}
-use lib.Dec.{leb}
 use lib.ListN.{length, getD, take, drop, length-append, length-drop, drop-of-length-le}
 use lib.Seq.{drop-drop}
 use borrow.Author.Tests.{le-leb, lt-leb}
@@ -17,7 +16,6 @@ use Rattle.formula.specs.Row.{Row, joinAfter, join}
 use Rattle.writing.specs.Decode.{syllableOf}
 use Rattle.writing.specs.Records.{mayFollow, rowOf, areRecords}
 use Rattle.writing.specs.Size.{sizeOf, PartSize}
-use Rattle.writing.specs.declared.row.Size.{Size}
 use Rattle.writing.specs.declared.row.Size.the-variants.{Values, NoSuchRow}
 use Rattle.writing.proofs.Sevens.{row-next, records-next, records-short}
 

@@ -1,14 +1,14 @@
 -- Bytes that pass the tests are the records of the row that they are read as, and the records of a row pass them and are read as it.
 -- Assumes nothing.
-use mathlib.Core.Path.{_≡_, refl, ap, sym, _∙_}
-use mathlib.Core.Bool.{Bool, true, false, _&&_, _||_}
-use mathlib.Core.List.{List, [], _∷_, _++_}
+use mathlib.Core.Path.{_≡_, refl}
+use mathlib.Core.Bool.{Bool, true, false, _||_}
+use mathlib.Core.List.{List, [], _∷_}
 use Prim.Native.Nat.{ℕ, _+_, _-_, _≤_}
 use native.Mathlib.Omega.{arith}
-use lib.Dec.{T, leb}
+use lib.Dec.{T}
 use Rattle.letters.specs.Weights.{isFinalLetter, medialWeight, vowelWeight, vowelTall, toneWeight}
 use Rattle.formula.proofs.Lists.{both, both-left, both-right}
-use Rattle.formula.specs.Syllable.{Final, no-final, plain, stacked, kinzi, great-sa, Syllable, syllable, headOf, finalOf, isClosed, isSyllable, follows}
+use Rattle.formula.specs.Syllable.{Final, no-final, plain, stacked, kinzi, great-sa, syllable, finalOf, isSyllable, follows}
 use Rattle.formula.specs.Row.{Row, isRowAfter}
 use Rattle.formula.specs.Record.{finalNumberOf, linkOf, recordOf, recordBytes}
 use Rattle.rows.proofs.Sound.{apart}

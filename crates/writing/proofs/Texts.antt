@@ -1,14 +1,14 @@
 -- The texts of a syllable's parts are of at most three values, and written one behind the other they are the part.
 -- Assumes nothing.
-use mathlib.Core.Path.{_≡_, refl, ap, sym, _∙_}
+use mathlib.Core.Path.{_≡_, ap, sym, _∙_}
 use mathlib.Core.Bool.{Bool, true, false}
-use mathlib.Core.List.{List, [], _∷_, _++_, append-assoc}
+use mathlib.Core.List.{List, _++_, append-assoc}
 use Prim.Native.Nat.{ℕ, _+_, _-_, _≤_}
 use native.Mathlib.Omega.{arith}
 use lib.ListN.{length, take, drop, replicate, length-append}
 use lib.Seq.{length-take-le, take-append-seam, take-at, drop-at, drop-drop, paste}
 use Rattle.letters.specs.Marks.{YaRa, neither, ya, ra, MedialGroup, group, optional, yaRaText, medialText, Vowel, no-vowel, vowel-aa, vowel-i, vowel-ii, vowel-u, vowel-uu, vowel-e, vowel-ai, vowel-e-aa, vowel-e-aa-killer, vowel-am, vowel-i-u, vowel-u-am, vowelText, ToneMark, no-tone, dot, visarga, toneText}
-use Rattle.formula.specs.Syllable.{Final, no-final, plain, stacked, kinzi, great-sa, syllable, finalText, part}
+use Rattle.formula.specs.Syllable.{Final, no-final, plain, stacked, kinzi, great-sa, finalText}
 use Rattle.writing.specs.Text.{textOf, Room}
 use Rattle.writing.specs.Put.{overwritten}
 use Rattle.writing.specs.declared.text.Text.{Text}

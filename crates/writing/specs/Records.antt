@@ -6,7 +6,7 @@ use Prim.Native.Nat.{ℕ, _+_}
 use lib.Dec.{eqb, leb}
 use lib.ListN.{getD}
 use Rattle.letters.specs.Weights.{isHead, isFinalLetter}
-use Rattle.formula.specs.Syllable.{Final, Syllable, finalOf, carriesMarks, carriesFinal, isClosed, follows}
+use Rattle.formula.specs.Syllable.{carriesMarks, carriesFinal}
 use Rattle.formula.specs.Row.{Row}
 use Rattle.writing.specs.Decode.{syllableOf}
 

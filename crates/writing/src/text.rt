@@ -1,7 +1,7 @@
 // The values that the numbers of a record stand for: of each part of a syllable at most three.
 ghost use mathlib.Core.Path.{_≡_};
 ghost use mathlib.Core.List.{[], _∷_};
-ghost use Prim.Native.Nat.{_+_, _≤_};
+ghost use Prim.Native.Nat.{_+_};
 ghost use lib.Dec.{eqb};
 ghost use lib.ListN.{length};
 ghost use Rattle.letters.specs.Marks.{medialText, vowelText, toneText, aaText};

@@ -1,18 +1,16 @@
 -- `normaliser::as_handed_in` meets its contract: number 2 is that of `Foreign` alone.
 -- Assumes nothing.
-use mathlib.Core.Path.{_≡_, refl, ap, sym, subst, _∙_}
-use mathlib.Core.Bool.{false, true, false≢true}
+use mathlib.Core.Path.{_≡_, refl, ap}
+use mathlib.Core.Bool.{false, false≢true}
 use mathlib.Core.List.{[], _∷_}
 use Prim.Native.Nat.{ℕ}
-use native.Mathlib.Omega.{arith}
 use lib.Dec.{eqb}
 use borrow.Author.Needs.{needs}
 use Rattle.letters.proofs.Arms.{same-at}
 use Rattle.refusals.specs.Refusal.{numberOf, placeOf}
 use Rattle.refusals.specs.declared.Refusal.{Refusal}
-use Rattle.refusals.specs.declared.Refusal.the-variants.{TooLong, Foreign, NoContinuation, Unfinished, OutputTooShort, NoSuchRow, FaultyLine, EmptyWord, NotABook, AlreadyLive, NotLive, BookFull, RankTooHigh}
+use Rattle.refusals.specs.declared.Refusal.the-variants.{Foreign}
 use Rattle.refusals.proofs.Laws.{number-place-injective}
-use Rattle.normaliser.specs.Normal.{HandedIn}
 use Rattle.normaliser.proofs.as_handed_in.Statement.{statement}
 use Rattle.normaliser.proofs.as_handed_in.Tie as tie
 

@@ -1,9 +1,9 @@
 -- `normaliser::copy_out` meets its contract: before each turn the front of the output is copied. The measure is what is left.
 -- Assumes nothing.
-use mathlib.Core.Path.{_≡_, refl, ap, sym, _∙_}
-use Prim.Native.Nat.{ℕ, _-_, _≤_}
+use mathlib.Core.Path.{_≡_, refl, ap, _∙_}
+use Prim.Native.Nat.{_-_, _≤_}
 use native.Mathlib.Omega.{arith}
-use lib.ListN.{length, length-set}
+use lib.ListN.{length}
 use Rattle.normaliser.proofs.Copied.{copied, copied-more, copied-length}
 use Rattle.normaliser.proofs.copy_out.Statement.{statement}
 use Rattle.normaliser.proofs.copy_out.Tie as tie

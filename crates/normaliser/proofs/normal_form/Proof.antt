@@ -1,7 +1,7 @@
 -- `normaliser::normal_form` meets its contract: the stored form is read, and its refusal is one of the word.
 -- Assumes nothing.
 use mathlib.Core.Path.{_≡_, refl, ap, sym, subst, _∙_}
-use mathlib.Core.List.{List, _++_}
+use mathlib.Core.List.{List}
 use Prim.Native.Nat.{ℕ, _≤_, _-_}
 use native.Mathlib.Omega.{arith}
 use lib.ListN.{length, take, replicate, length-append}
@@ -12,7 +12,6 @@ use Rattle.formula.specs.Held.{wordOf}
 use Rattle.formula.specs.declared.Word.{Word}
 use Rattle.reading.specs.Answer.{outcomeOf, Answers, ReadRight}
 use Rattle.reading.specs.declared.read.ReadAnswer.{ReadAnswer}
-use Rattle.reading.specs.declared.read.Reading.{Reading}
 use Rattle.storage.specs.Stored.{storedForm}
 use Rattle.normaliser.specs.Normal.{too-long, StoreAnswers, WordFor, NormalRight}
 use Rattle.normaliser.proofs.Storing.{word-admissible, refused-right}

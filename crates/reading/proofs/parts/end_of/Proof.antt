@@ -1,6 +1,5 @@
 -- `reading::parts::end_of` meets its contract: its test is that of the definition.
 -- Assumes nothing.
-use mathlib.Core.Path.{sym}
 use borrow.Author.Tests.{lt-ltb, le-ltb}
 use borrow.Author.Needs.{needs}
 use Rattle.letters.specs.Choice.{pick}

@@ -1,6 +1,6 @@
 -- `reading::parts::part_at` meets its contract: the part lies between the places where its syllable and the next one begin.
 -- Assumes nothing.
-use mathlib.Core.Path.{_≡_, subst}
+use mathlib.Core.Path.{subst}
 use native.Mathlib.Omega.{arith}
 use borrow.Author.Needs.{needs}
 use Rattle.reading.specs.Answer.{outcomeOf, Answers, too-long}

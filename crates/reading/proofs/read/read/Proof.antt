@@ -1,6 +1,6 @@
 -- `reading::read::read` meets its contract: the answer is that of the pass, and its array holds the row's syllables where it is read.
 -- Assumes nothing.
-use mathlib.Core.Path.{_≡_, refl, sym, subst}
+use mathlib.Core.Path.{refl, sym, subst}
 use borrow.Author.Needs.{needs}
 use Rattle.reading.specs.Answer.{outcomeOf, too-long, Answers, SyllablesFor, ReadRight}
 use Rattle.reading.specs.declared.read.ReadAnswer.{ReadAnswer}

@@ -1,6 +1,6 @@
 -- `reading::records::record_at` meets its contract: the record is that of the row whose syllables the reading holds.
 -- Assumes nothing.
-use mathlib.Core.Path.{_≡_, refl, sym, subst}
+use mathlib.Core.Path.{refl, sym, subst}
 use native.Mathlib.Omega.{arith}
 use borrow.Author.Needs.{needs}
 use Rattle.reading.specs.Answer.{outcomeOf, Answers}

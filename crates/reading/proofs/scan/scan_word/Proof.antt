@@ -1,26 +1,16 @@
-use mathlib.Core.Path.{_≡_, refl, ap, sym, subst, _∙_}
-use mathlib.Core.Bool.{Bool, true, false, not}
+-- `reading::scan::scan_word` meets its contract: before each turn the window and the arrays show what the machine has kept of the values
+-- read. The measure is what is left of the word. Assumes nothing.
 use mathlib.Core.Logic.{⊎-elim}
-use mathlib.Core.List.{List}
-use Prim.Native.Nat.{ℕ, _+_, _-_, _≤_, _<_}
+use Prim.Native.Nat.{_-_, _≤_, _<_}
 use native.Mathlib.Omega.{arith}
 use borrow.Author.Needs.{needs}
-use lib.ListN.{length, getD}
+use lib.ListN.{length}
 use denote.Ref.{now}
 use Rattle.formula.specs.Limits.{limit}
 use Rattle.reading.specs.Scanned.{Reached}
 use Rattle.reading.proofs.Reach.{at-start, stop, completed, count-bound, next-count, begun-count, begun, kept-on, window-count}
 use Rattle.reading.proofs.scan.scan_word.Statement.{statement}
 use Rattle.reading.proofs.scan.scan_word.Tie as tie
-use Rattle.reading.proofs.scan.scan_word.Reads as reads
-use Rattle.reading.proofs.scan.scan_word.Lts as lts
-use Rattle.formula.proofs.Syllable.nothing.Reads as nothing-reads
-use Rattle.formula.proofs.Word.unread.Reads as unread-reads
-use Rattle.reading.proofs.scan.begins.Reads as begins-reads
-use Rattle.reading.proofs.scan.less.Reads as less-reads
-use Rattle.reading.proofs.scan.moved.Reads as moved-reads
-use Rattle.reading.proofs.scan.refuses.Reads as refuses-reads
-use Rattle.steps.proofs.step.step.Reads as step-reads
 
 abbrev Inv-loop : tie.InvT-loop
 Inv-loop word window₀ syllables₀ starts₀ at₀ window syllables starts at = (at ≤ length word) × Reached word at window syllables starts
@@ -28,35 +18,27 @@ Inv-loop word window₀ syllables₀ starts₀ at₀ window syllables starts at 
 abbrev μ-loop : tie.MeasureT-loop
 μ-loop word window₀ syllables₀ starts₀ at₀ window syllables starts at = length word - at
 
--- src/scan.rt:92:9
 unread-requires : tie.Need-unread-requires Inv-loop μ-loop
 unread-requires c κs = search needs
 
--- src/scan.rt:93:26
 nothing-requires : tie.Need-nothing-requires Inv-loop μ-loop
 nothing-requires c κs = search needs
 
--- src/scan.rt:96:5
 loop-holds : tie.Need-loop-holds Inv-loop μ-loop
 loop-holds c = rw (c .before .unread .ensures, c .nothing .ensures) (omega arith, at-start (c .before .before .before .args .word .now))
 
--- src/scan.rt:97:63
 mul-step : tie.Need-mul-step Inv-loop μ-loop
 mul-step c = omega arith
 
--- src/scan.rt:97:63
 shared-slice-read-step : tie.Need-shared-slice-read-step Inv-loop μ-loop
 shared-slice-read-step c = omega arith
 
--- src/scan.rt:97:13
 step-requires : tie.Need-step-requires Inv-loop μ-loop
 step-requires c κs = search needs
 
--- src/scan.rt:98:12
 refuses-requires : tie.Need-refuses-requires Inv-loop μ-loop
 refuses-requires c κs = search needs
 
--- src/scan.rt:99:13
 returns : tie.Need-returns Inv-loop μ-loop
 returns c =
     let l = c .before .before .before .before .before in
@@ -77,21 +59,17 @@ returns c =
       whole = λ e. let z : ⊥ = omega arith in absurd z;
     }
 
--- src/scan.rt:106:9
 moved-requires : tie.Need-moved-requires Inv-loop μ-loop
 moved-requires c κs =
     let l = c .before .before .before .before .before in
     window-count (l .before .before .before .before .args .word .now) (l .loop .at) (l .loop .window) (l .loop .syllables) (l .loop .starts) (omega arith) (l .loop .inv .1)
 
--- src/scan.rt:107:12
 begins-requires : tie.Need-begins-requires Inv-loop μ-loop
 begins-requires c κs = search needs
 
--- src/scan.rt:109:17
 less-requires : tie.Need-less-requires Inv-loop μ-loop
 less-requires c κs = search needs
 
--- src/scan.rt:111:13
 mul-syllables : tie.Need-mul-syllables Inv-loop μ-loop
 mul-syllables c =
     let k = c .before .before .before in
@@ -100,7 +78,6 @@ mul-syllables c =
     let q = next-count word (l .loop .at) (l .loop .window) (l .loop .syllables) (l .loop .starts) (k .before .before .before .before .before .before .loop-test .taken) (l .before .before .before .before .pre) (l .loop .inv .1) (k .before .before .before .before .step .result) (k .before .before .before .before .step .ensures) (k .before .before .before .refuses .result) (k .before .before .before .refuses .ensures) (k .before .before .if1 .left) (k .before .moved .result) (k .before .moved .ensures) (k .begins .result) (k .begins .ensures) in
     omega (arith, c .before .less .ensures)
 
--- src/scan.rt:111:13
 array-set-from-syllables : tie.Need-array-set-from-syllables Inv-loop μ-loop
 array-set-from-syllables c =
     let k = c .before .before .before in
@@ -109,11 +86,9 @@ array-set-from-syllables c =
     let q = next-count word (l .loop .at) (l .loop .window) (l .loop .syllables) (l .loop .starts) (k .before .before .before .before .before .before .loop-test .taken) (l .before .before .before .before .pre) (l .loop .inv .1) (k .before .before .before .before .step .result) (k .before .before .before .before .step .ensures) (k .before .before .before .refuses .result) (k .before .before .before .refuses .ensures) (k .before .before .if1 .left) (k .before .moved .result) (k .before .moved .ensures) (k .begins .result) (k .begins .ensures) in
     omega (arith, c .before .less .ensures)
 
--- src/scan.rt:112:33
 cast-starts : tie.Need-cast-starts Inv-loop μ-loop
 cast-starts c = omega arith
 
--- src/scan.rt:112:20
 sub-starts : tie.Need-sub-starts Inv-loop μ-loop
 sub-starts c =
     let k = c .before .before .before in
@@ -122,7 +97,6 @@ sub-starts c =
     let q = begun-count word (l .loop .at) (l .loop .window) (l .loop .syllables) (l .loop .starts) (k .before .before .before .before .before .before .loop-test .taken) (l .before .before .before .before .pre) (l .loop .inv .1) (k .before .before .before .before .step .result) (k .before .before .before .before .step .ensures) (k .before .before .before .refuses .result) (k .before .before .before .refuses .ensures) (k .before .before .if1 .left) (k .before .moved .result) (k .before .moved .ensures) (k .begins .result) (k .begins .ensures) (c .before .before .if2 .taken) in
     omega (arith, c .before .less .ensures)
 
--- src/scan.rt:112:13
 array-write-starts : tie.Need-array-write-starts Inv-loop μ-loop
 array-write-starts c =
     let k = c .before .before .before in
@@ -132,15 +106,12 @@ array-write-starts c =
     let d = begun-count word (l .loop .at) (l .loop .window) (l .loop .syllables) (l .loop .starts) (k .before .before .before .before .before .before .loop-test .taken) (l .before .before .before .before .pre) (l .loop .inv .1) (k .before .before .before .before .step .result) (k .before .before .before .before .step .ensures) (k .before .before .before .refuses .result) (k .before .before .before .refuses .ensures) (k .before .before .if1 .left) (k .before .moved .result) (k .before .moved .ensures) (k .begins .result) (k .begins .ensures) (c .before .before .if2 .taken) in
     omega (arith, c .before .less .ensures)
 
--- src/scan.rt:114:9
 add-at : tie.Need-add-at Inv-loop μ-loop
 add-at c = omega arith
 
--- src/scan.rt:96:5
 loop-less : tie.Need-loop-less Inv-loop μ-loop
 loop-less c = omega arith
 
--- src/scan.rt:96:5
 loop-again : tie.Need-loop-again Inv-loop μ-loop
 loop-again c =
     let k = c .before in

@@ -1,15 +1,10 @@
 -- `writing::row::part_size` meets its contract: the counts of the four texts are the lengths of what they hold, each at most three.
 -- Assumes nothing.
-use mathlib.Core.Path.{_≡_}
-use mathlib.Core.List.{_++_}
-use Prim.Native.Nat.{ℕ, _+_, _≤_}
+use Prim.Native.Nat.{_≤_}
 use native.Mathlib.Omega.{arith}
 use lib.Dec.{eqb}
-use lib.ListN.{length, getD, length-append}
-use Rattle.letters.specs.Marks.{medialText, vowelText, toneText}
-use Rattle.formula.specs.Syllable.{finalText}
+use lib.ListN.{getD, length-append}
 use Rattle.writing.specs.Decode.{medialOfWeight, vowelOfWeight, finalOfNumbers, toneOfWeight, syllableOf}
-use Rattle.writing.specs.Size.{PartSize}
 use Rattle.writing.proofs.Texts.{medial-short, vowel-short, final-short, tone-short, text-count}
 use borrow.Author.Needs.{needs}
 use Rattle.writing.proofs.row.part_size.Statement.{statement}

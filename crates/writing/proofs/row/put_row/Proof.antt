@@ -5,7 +5,6 @@ use native.Mathlib.Omega.{arith}
 use borrow.Author.Needs.{needs}
 use lib.ListN.{length}
 use denote.Ref.{now}
-use Rattle.writing.specs.Put.{RowFits}
 use Rattle.writing.proofs.Filling.{Filled, filled-none, filled-length, filled-whole, filled-all, filled-room, filled-more}
 use Rattle.writing.proofs.row.put_row.Statement.{statement}
 use Rattle.writing.proofs.row.put_row.Tie as tie

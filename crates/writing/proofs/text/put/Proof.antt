@@ -1,15 +1,13 @@
 -- `writing::text::put` meets its contract. The loop's invariant: the first values of the text are put, and the output is as long as before. The measure is how many are left.
 -- Assumes nothing.
-use mathlib.Core.Path.{_≡_, refl, sym, ap, _∙_}
-use mathlib.Core.List.{List}
-use Prim.Native.Nat.{ℕ, _+_, _-_, _≤_, _<_}
+use mathlib.Core.Path.{_≡_, refl}
+use Prim.Native.Nat.{_+_, _-_, _≤_, _<_}
 use native.Mathlib.Omega.{arith}
 use native.Mathlib.Numerals.{add-one}
 use borrow.Author.Needs.{needs}
-use lib.ListN.{length, set, length-set}
+use lib.ListN.{length, length-set}
 use lib.Seq.{paste, paste-zero, paste-suc}
 use denote.Ref.{now}
-use Rattle.writing.specs.Text.{Room, PutRight}
 use Rattle.writing.proofs.text.put.Statement.{statement}
 use Rattle.writing.proofs.text.put.Tie as tie
 

@@ -1,0 +1,102 @@
+//! Word lists for comparing implementations, and what `wordlist` prints for them.
+
+mod changes;
+mod lines;
+mod picked_rows;
+mod products;
+
+use crate::random::Random;
+use crate::wordlist;
+
+pub use changes::shuffle_runs;
+pub use picked_rows::{random_row, row_of_length, RowUnderWay};
+
+/// One list: an input of `wordlist`.
+pub struct List {
+    /// The kind of its lines; also the name of its files.
+    pub name: &'static str,
+    /// The bytes for standard input.
+    pub input: Vec<u8>,
+}
+
+impl List {
+    /// What `wordlist` must print for the list.
+    pub fn expected(&self) -> Vec<u8> {
+        let mut output = Vec::new();
+        wordlist::run(self.input.as_slice(), &mut output).expect("memory takes every byte");
+        output
+    }
+
+    /// A list of lines, each of which `make` makes.
+    fn of_lines(name: &'static str, count: usize, make: fn(&mut Random) -> Vec<u8>) -> List {
+        let mut random = Random::of(name);
+        let mut input = Vec::new();
+        for _ in 0..count {
+            push_line(&mut input, &make(&mut random));
+        }
+        List { name, input }
+    }
+
+    /// A list of words, each of which `make` makes.
+    fn of_words(name: &'static str, count: usize, make: fn(&mut Random) -> Vec<u16>) -> List {
+        let mut random = Random::of(name);
+        let mut input = Vec::new();
+        for _ in 0..count {
+            push_line(&mut input, &encode(&make(&mut random)));
+        }
+        List { name, input }
+    }
+}
+
+/// All lists.
+pub fn all() -> Vec<List> {
+    vec![
+        List { name: "program_example", input: PROGRAM_EXAMPLE.as_bytes().to_vec() },
+        List { name: "examples", input: join(lines::examples()) },
+        List { name: "products", input: join(products::words().map(|word| encode(&word))) },
+        List::of_words("valid", 6_000, changes::valid),
+        List::of_words("long", 500, changes::long),
+        List::of_words("shuffled", 5_000, changes::shuffled),
+        List::of_words("letter_u", 2_000, changes::letter_u),
+        List::of_words("beginnings", 1_500, changes::beginning),
+        List::of_words("damaged", 7_000, changes::damaged),
+        List::of_words("loose_pieces", 3_000, changes::loose_pieces),
+        List::of_words("noise", 3_000, changes::noise),
+        List::of_words("foreign", 2_000, changes::foreign),
+        List::of_lines("bytes", 3_000, lines::faulty),
+        List::of_lines("limits", 900, lines::near_the_limit),
+        List {
+            name: "no_final_newline", input: "မြန်မာ\nစာ\nအင်္ဂလန်".as_bytes().to_vec()
+        },
+        List { name: "no_final_newline_short", input: b"\xE1\x80\x80\n\xE1".to_vec() },
+        List { name: "only_newlines", input: b"\n\n\n".to_vec() },
+        List { name: "one_newline", input: b"\n".to_vec() },
+        List { name: "empty", input: Vec::new() },
+    ]
+}
+
+/// "For the three lines တက္ကသိုလ်, က္ and an empty one, all ended by 0A".
+const PROGRAM_EXAMPLE: &str = "တက္ကသိုလ်\nက္\n\n";
+
+/// The UTF-8 bytes of values from 0800 on, three each.
+pub fn encode(word: &[u16]) -> Vec<u8> {
+    let three = |&value: &u16| {
+        let six_bits = |shift: u32| 0x80 | (value >> shift & 0x3F) as u8;
+        [0xE0 | (value >> 12) as u8, six_bits(6), six_bits(0)]
+    };
+    word.iter().flat_map(three).collect()
+}
+
+fn join(lines: impl Iterator<Item = Vec<u8>>) -> Vec<u8> {
+    let mut input = Vec::new();
+    for line in lines {
+        push_line(&mut input, &line);
+    }
+    input
+}
+
+fn push_line(input: &mut Vec<u8>, line: &[u8]) {
+    debug_assert!(!line.contains(&b'\n'));
+    input.extend_from_slice(line);
+    input.push(b'\n');
+}

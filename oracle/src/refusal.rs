@@ -1,0 +1,48 @@
+//! Document 01, "Refused because of what is handed in".
+
+use crate::word::WORD_LIMIT;
+
+/// "A refusal gives number and place and writes nothing."
+#[derive(Clone, Copy, Debug, PartialEq, Eq)]
+pub struct Refusal {
+    /// The number in the first column of the table.
+    pub number: u8,
+    /// The place in the last column of the table.
+    pub place: usize,
+}
+
+impl Refusal {
+    /// 1: "more than 64 values, or a line over 192 bytes"; place 64.
+    pub const TOO_LONG: Refusal = Refusal { number: 1, place: WORD_LIMIT };
+
+    /// 6: "records no reader yields, or over 64 values when written"; place 0.
+    pub const NO_SUCH_ROW: Refusal = Refusal { number: 6, place: 0 };
+
+    /// 2: "a foreign value"; place "the first, in the word as handed in".
+    pub const fn foreign(place: usize) -> Refusal {
+        Refusal { number: 2, place }
+    }
+
+    /// 3: "no continuation makes the whole word into a row of syllables"; place
+    /// "length of the longest beginning that some continuation makes into one".
+    pub const fn not_viable(longest_beginning: usize) -> Refusal {
+        Refusal { number: 3, place: longest_beginning }
+    }
+
+    /// 4: "not a row of syllables, but some continuation makes the whole word
+    /// into one"; place "its length".
+    pub const fn unfinished(length: usize) -> Refusal {
+        Refusal { number: 4, place: length }
+    }
+
+    /// 5: "lent output too short"; place "values or bytes needed".
+    pub const fn output_too_short(needed: usize) -> Refusal {
+        Refusal { number: 5, place: needed }
+    }
+
+    /// 7: some three of a line is faulty; place "byte place where the first
+    /// faulty three begins".
+    pub const fn faulty_three(byte_place: usize) -> Refusal {
+        Refusal { number: 7, place: byte_place }
+    }
+}

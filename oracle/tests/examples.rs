@@ -1,0 +1,219 @@
+//! All examples of document 01, in its order.
+
+use oracle::spelling::SpelledLengths;
+use oracle::{compare, key, normalise, part, read, record, spell_out, write, Refusal};
+use std::cmp::Ordering;
+
+fn weights(word: &[u16]) -> Vec<[u8; 5]> {
+    key(word).unwrap().row().to_vec()
+}
+
+fn refused(word: &[u16]) -> (u8, usize) {
+    let Refusal { number, place } = read(word).unwrap_err();
+    assert_eq!(key(word).unwrap_err(), Refusal { number, place }, "these are in storage order");
+    (number, place)
+}
+
+fn stored(word: &[u16]) -> Vec<u16> {
+    let mut output = [0; 64];
+    let length = normalise(word, &mut output).unwrap();
+    output[..length].to_vec()
+}
+
+fn spelled(word: &[u16]) -> Vec<Vec<u16>> {
+    let (mut values, mut starts) = ([0; 190], [0; 64]);
+    let lengths = spell_out(word, &mut values, &mut starts).unwrap();
+    let mut ends = starts[..lengths.starts].to_vec();
+    ends.push(lengths.values);
+    ends.windows(2).map(|pair| values[pair[0]..pair[1]].to_vec()).collect()
+}
+
+/// Reads the word and writes it back from its records.
+fn written_back(word: &[u16]) -> Vec<u16> {
+    let reading = read(word).unwrap();
+    let records: Vec<u8> = reading.syllables().iter().flat_map(|one| one.record).collect();
+    let mut output = [0; 64];
+    let length = write(&records, &mut output).unwrap();
+    output[..length].to_vec()
+}
+
+#[test]
+fn words_to_try_that_are_readable() {
+    assert_eq!(weights(&[]), Vec::<[u8; 5]>::new());
+    assert_eq!(read(&[]).unwrap().syllables().len(), 0);
+    assert_eq!(weights(&[0x1000]), [[13, 0, 0, 0, 0]]);
+    assert_eq!(weights(&[0x101E, 0x1019, 0x102E, 0x1038]), [[43, 0, 0, 0, 0], [38, 0, 0, 3, 2]]);
+    assert_eq!(
+        weights(&[0x1010, 0x1000, 0x1039, 0x1000, 0x101E, 0x102D, 0x102F, 0x101C, 0x103A]),
+        [[29, 0, 1, 0, 0], [13, 0, 0, 0, 0], [43, 0, 29, 11, 0]]
+    );
+    assert_eq!(
+        weights(&[0x1021, 0x1004, 0x103A, 0x1039, 0x1002, 0x101C, 0x1014, 0x103A]),
+        [[46, 0, 5, 0, 0], [15, 0, 0, 0, 0], [41, 0, 21, 0, 0]]
+    );
+}
+
+#[test]
+fn great_sa_is_spelled_as_two_letters() {
+    assert_eq!(
+        spelled(&[0x1015, 0x103C, 0x103F, 0x1014, 0x102C]),
+        [vec![0x1015, 0x103C, 0x101E, 0x103A], vec![0x101E], vec![0x1014, 0x102C]]
+    );
+}
+
+#[test]
+fn stacked_final_and_kinzi_are_spelled_with_the_killer() {
+    assert_eq!(
+        spelled(&[0x1010, 0x1000, 0x1039, 0x1000]),
+        [vec![0x1010, 0x1000, 0x103A], vec![0x1000]]
+    );
+    assert_eq!(
+        spelled(&[0x1021, 0x1004, 0x103A, 0x1039, 0x1002]),
+        [vec![0x1021, 0x1004, 0x103A], vec![0x1002]]
+    );
+}
+
+#[test]
+fn words_to_try_that_are_refused() {
+    assert_eq!(refused(&[0x1000, 0x1039]), (3, 1));
+    assert_eq!(refused(&[0x1000, 0x1000, 0x1039]), (4, 3));
+    assert_eq!(refused(&[0x1000, 0x1004, 0x1039, 0x1000]), (3, 2));
+    assert_eq!(refused(&[0x103F]), (3, 0));
+    assert_eq!(refused(&[0x1000, 0x103B, 0x103C]), (3, 2));
+    assert_eq!(refused(&[0x1000, 0x102C, 0x103A]), (3, 2));
+    assert_eq!(weights(&[0x1000, 0x1031, 0x102C, 0x103A]), [[13, 0, 0, 9, 0]]);
+}
+
+#[test]
+fn words_to_try_that_are_normalised() {
+    assert_eq!(stored(&[0x1000, 0x1014, 0x1037, 0x103A]), [0x1000, 0x1014, 0x103A, 0x1037]);
+    assert_eq!(stored(&[0x1025, 0x102E]), [0x1026]);
+    assert_eq!(stored(&[0x1000, 0x1025, 0x103A]), [0x1000, 0x1009, 0x103A]);
+    assert_eq!(stored(&[0x1000, 0x1025, 0x1039, 0x1000]), [0x1000, 0x1009, 0x1039, 0x1000]);
+}
+
+#[test]
+fn the_limit_is_sixty_four_values() {
+    assert_eq!(read(&[0x1000; 64]).unwrap().syllables().len(), 64);
+    assert_eq!(key(&[0x1000; 64]).unwrap().count(), 64);
+    assert_eq!(refused(&[0x1000; 65]), (1, 64));
+}
+
+#[test]
+fn wrong_turns() {
+    let final_after_vowel = compare(&[0x1000, 0x1000, 0x103A], &[0x1000, 0x102C]);
+    assert_eq!(final_after_vowel, Ok(Ordering::Greater), "vowel weighed before final");
+    let kinzi = [0x1021, 0x1004, 0x103A, 0x1039, 0x1002];
+    assert_eq!(read(&kinzi).unwrap().syllables().len(), 2, "kinzi read as a plain final");
+    assert_eq!(record(&kinzi, 0).record, [0x21, 0, 0, 0, 5, 2, 0]);
+    assert_eq!(weights(&[0x104F]), [[50, 0, 0, 0, 0]], "weighing 104F beyond 50");
+    assert_eq!(compare(&[0x1040], &[0x1000]), Ok(Ordering::Less), "filing by code values alone");
+    assert_eq!(compare(&[0x1029], &[0x104C]), Ok(Ordering::Less));
+    assert_eq!(
+        key(&[0x1000, 0x1000, 0x1039, 0x103B]).unwrap_err(),
+        Refusal { number: 3, place: 3 },
+        "sorting marks across a 1039"
+    );
+    assert_eq!(refused(&[0x1000, 0x102B, 0x103A]), (3, 2), "103A after AA without 1031");
+}
+
+#[test]
+fn the_program_prints_the_three_lines() {
+    let mut output = Vec::new();
+    oracle::wordlist::run("တက္ကသိုလ်\nက္\n\n".as_bytes(), &mut output).unwrap();
+    let expected = "1 OK 3 1D00010000-0D00000000-2B001D0B00\n2 NO 3 1\n3 OK 0 -\n";
+    assert_eq!(String::from_utf8(output).unwrap(), expected);
+}
+
+#[test]
+fn the_longest_spelled_word_has_190_values() {
+    let mut word = [0x103F; 64];
+    word[0] = 0x1000;
+    let (mut values, mut starts) = ([0; 190], [0; 64]);
+    let lengths = spell_out(&word, &mut values, &mut starts);
+    assert_eq!(lengths, Ok(SpelledLengths { values: 190, starts: 64 }));
+}
+
+#[test]
+fn parts_joined_give_the_word() {
+    let word = [0x1015, 0x103C, 0x103F, 0x1014, 0x102C, 0x1000, 0x1000, 0x1039, 0x1000];
+    let parts: [&[u16]; 5] =
+        [&[0x1015, 0x103C], &[0x103F], &[0x1014, 0x102C], &[0x1000, 0x1000, 0x1039], &[0x1000]];
+    for (number, expected) in parts.iter().enumerate() {
+        assert_eq!(part(&word, number), *expected);
+    }
+    assert_eq!(part(&word, 5), &[] as &[u16]);
+    assert_eq!(parts.concat(), word);
+}
+
+#[test]
+fn records_write_the_word_back() {
+    for word in [
+        vec![],
+        vec![0x1010, 0x1000, 0x1039, 0x1000, 0x101E, 0x102D, 0x102F, 0x101C, 0x103A],
+        vec![0x1021, 0x1004, 0x103A, 0x1039, 0x1002, 0x101C, 0x1014, 0x103A],
+        vec![0x1015, 0x103C, 0x103F, 0x1014, 0x102C],
+        vec![0x1000, 0x1031, 0x102B, 0x103A, 0x1038, 0x1023, 0x1040, 0x104A, 0x104F],
+    ] {
+        assert_eq!(written_back(&word), word);
+    }
+}
+
+#[test]
+fn every_weight_of_the_page() {
+    let first = |word: &[u16]| weights(word)[0];
+    let heads = [0x104A, 0x104B].into_iter().chain(0x1040..=0x1049).chain(0x1000..=0x1021);
+    for (value, weight) in heads.chain(0x104C..=0x104F).zip(1..) {
+        assert_eq!(first(&[value]), [weight, 0, 0, 0, 0]);
+    }
+    let independent = [0x1023, 0x1024, 0x1025, 0x1026, 0x1027, 0x1029, 0x102A];
+    for (value, weight) in independent.into_iter().zip([2, 3, 4, 5, 6, 8, 9]) {
+        assert_eq!(first(&[value]), [46, 0, 0, weight, 0]);
+    }
+    let (y, r, w, h) = (0x103B, 0x103C, 0x103D, 0x103E);
+    let groups: [&[u16]; 11] = [
+        &[y],
+        &[r],
+        &[w],
+        &[h],
+        &[y, w],
+        &[r, w],
+        &[y, h],
+        &[r, h],
+        &[w, h],
+        &[y, w, h],
+        &[r, w, h],
+    ];
+    for (group, weight) in groups.into_iter().zip(1..) {
+        assert_eq!(first(&[&[0x1000], group].concat()), [13, weight, 0, 0, 0]);
+    }
+    for (letter, weight) in (0x1000..=0x1020).zip(1..) {
+        assert_eq!(first(&[0x1000, letter, 0x103A]), [13, 0, weight, 0, 0]);
+        let stacked: &[u16] = if letter == 0x1004 { &[0x103A, 0x1039] } else { &[0x1039] };
+        let word = [&[0x1000, letter], stacked, &[0x1000]].concat();
+        assert_eq!(first(&word), [13, 0, weight, 0, 0]);
+    }
+    assert_eq!(first(&[0x1000, 0x103F]), [13, 0, 31, 0, 0]);
+    let vowels: [(&[u16], u8); 15] = [
+        (&[0x102B], 1),
+        (&[0x102C], 1),
+        (&[0x102D], 2),
+        (&[0x102E], 3),
+        (&[0x102F], 4),
+        (&[0x1030], 5),
+        (&[0x1031], 6),
+        (&[0x1032], 7),
+        (&[0x1031, 0x102B], 8),
+        (&[0x1031, 0x102C], 8),
+        (&[0x1031, 0x102B, 0x103A], 9),
+        (&[0x1031, 0x102C, 0x103A], 9),
+        (&[0x1036], 10),
+        (&[0x102D, 0x102F], 11),
+        (&[0x102F, 0x1036], 12),
+    ];
+    for (vowel, weight) in vowels {
+        assert_eq!(first(&[&[0x1000], vowel].concat()), [13, 0, 0, weight, 0]);
+    }
+    assert_eq!(first(&[0x1000, 0x1037]), [13, 0, 0, 0, 1]);
+    assert_eq!(first(&[0x1000, 0x1038]), [13, 0, 0, 0, 2]);
+}

@@ -1,0 +1,287 @@
+//! The formula taken literally: rows are put together from syllables, joined,
+//! and every short list is compared with them.
+
+use oracle::rows::longest_viable_beginning;
+use oracle::{read, write};
+use std::collections::{HashMap, HashSet};
+
+/// What a syllable asks of the next one.
+#[derive(Clone, Copy, PartialEq, Eq)]
+enum Next {
+    Anything,
+    Letter,
+    GreatSa,
+}
+
+struct Part {
+    values: Vec<u16>,
+    record: [u8; 7],
+    begun_by: Next,
+    next: Next,
+}
+
+/// The values that the literal rows are made of: of each class some, and all
+/// that the rules name.
+struct Alphabet {
+    heads: &'static [u16],
+    finals: &'static [u16],
+    medials: &'static [u16],
+    vowels: &'static [(&'static [u16], u8, u8)],
+    tones: &'static [u16],
+    alone: &'static [u16],
+}
+
+const SMALL: Alphabet = Alphabet {
+    heads: &[0x1000, 0x1004, 0x1021],
+    finals: &[0x1000, 0x1004],
+    medials: &[0x103B, 0x103C, 0x103D],
+    vowels: &[
+        (&[], 0, 0),
+        (&[0x102C], 1, 0),
+        (&[0x102D], 2, 0),
+        (&[0x102F], 4, 0),
+        (&[0x1031], 6, 0),
+        (&[0x1031, 0x102C], 8, 0),
+        (&[0x1031, 0x102C, 0x103A], 9, 0),
+        (&[0x1036], 10, 0),
+        (&[0x102D, 0x102F], 11, 0),
+        (&[0x102F, 0x1036], 12, 0),
+    ],
+    tones: &[0x1037],
+    alone: &[0x1025],
+};
+
+const SMALL_VALUES: [u16; 16] = [
+    0x1000, 0x1004, 0x1021, 0x1025, 0x103B, 0x103C, 0x103D, 0x102C, 0x102D, 0x102F, 0x1031, 0x1036,
+    0x1037, 0x1039, 0x103A, 0x103F,
+];
+
+/// All sets of the given medials without Y and R together, each with its weight.
+fn medial_groups(medials: &[u16]) -> Vec<(Vec<u16>, u8)> {
+    let groups: [&[u16]; 12] = [
+        &[],
+        &[0x103B],
+        &[0x103C],
+        &[0x103D],
+        &[0x103E],
+        &[0x103B, 0x103D],
+        &[0x103C, 0x103D],
+        &[0x103B, 0x103E],
+        &[0x103C, 0x103E],
+        &[0x103D, 0x103E],
+        &[0x103B, 0x103D, 0x103E],
+        &[0x103C, 0x103D, 0x103E],
+    ];
+    let numbered = groups.iter().zip(0..).map(|(group, weight)| (group.to_vec(), weight));
+    numbered.filter(|(group, _)| group.iter().all(|medial| medials.contains(medial))).collect()
+}
+
+/// All endings: values of final and tone, their four record bytes less the vowel's,
+/// and what they ask of the next syllable.
+fn endings(alphabet: &Alphabet) -> Vec<(Vec<u16>, [u8; 3], Next)> {
+    let mut endings = vec![(vec![], [31, 3, 0], Next::GreatSa)];
+    let mut with_tones = |values: Vec<u16>, weight, link| {
+        endings.push((values.clone(), [weight, link, 0], Next::Anything));
+        for &tone in alphabet.tones {
+            let toned = [&values[..], &[tone]].concat();
+            endings.push((toned, [weight, link, (tone - 0x1036) as u8], Next::Anything));
+        }
+    };
+    with_tones(vec![], 0, 0);
+    for &letter in alphabet.finals {
+        with_tones(vec![letter, 0x103A], (letter - 0x0FFF) as u8, 1);
+    }
+    for &letter in alphabet.finals {
+        let stacked =
+            if letter == 0x1004 { vec![0x1004, 0x103A, 0x1039] } else { vec![letter, 0x1039] };
+        endings.push((stacked, [(letter - 0x0FFF) as u8, 2, 0], Next::Letter));
+    }
+    endings
+}
+
+/// All syllables over the alphabet, as the parts that they have in a word.
+fn parts(alphabet: &Alphabet) -> Vec<Part> {
+    let mut parts = Vec::new();
+    for &value in alphabet.alone {
+        let record = [(value - 0x1000) as u8, 0, 0, 0, 0, 0, 0];
+        parts.push(Part {
+            values: vec![value],
+            record,
+            begun_by: Next::Anything,
+            next: Next::Anything,
+        });
+    }
+    let mut heads = vec![(0x103F, 0x1E, Next::GreatSa)];
+    for &head in alphabet.heads {
+        heads.push((head, (head - 0x1000) as u8, Next::Anything));
+        if head <= 0x1020 {
+            heads.push((head, (head - 0x1000) as u8, Next::Letter));
+        }
+    }
+    for &(head, head_byte, begun_by) in &heads {
+        for (group, medial) in medial_groups(alphabet.medials) {
+            for &(vowel_values, vowel, tall) in alphabet.vowels {
+                for (ending, [final_weight, link, tone], next) in endings(alphabet) {
+                    let values = [&[head], &group[..], vowel_values, &ending[..]].concat();
+                    let record = [head_byte, medial, vowel, tall, final_weight, link, tone];
+                    parts.push(Part { values, record, begun_by, next });
+                }
+            }
+        }
+    }
+    parts
+}
+
+type Rows = HashMap<Vec<u16>, Vec<u8>>;
+
+/// Puts every row of at most `limit` values that goes on after `values` into `rows`.
+fn gather(
+    parts: &[Part],
+    limit: usize,
+    values: &[u16],
+    records: &[u8],
+    next: Next,
+    rows: &mut Rows,
+) {
+    if next == Next::Anything {
+        let other = rows.insert(values.to_vec(), records.to_vec());
+        assert!(other.is_none(), "two rows give {values:04X?}");
+    }
+    let fitting = |part: &&Part| part.begun_by == next && values.len() + part.values.len() <= limit;
+    for part in parts.iter().filter(fitting) {
+        let values = [values, &part.values].concat();
+        let records = [records, &part.record].concat();
+        gather(parts, limit, &values, &records, part.next, rows);
+    }
+}
+
+fn each_list(length: usize, visit: &mut impl FnMut(&[u16])) {
+    let mut digits = vec![0; length];
+    loop {
+        visit(&digits.iter().map(|&digit: &usize| SMALL_VALUES[digit]).collect::<Vec<u16>>());
+        let Some(place) = digits.iter().rposition(|&digit| digit + 1 < SMALL_VALUES.len()) else {
+            return;
+        };
+        digits[place] += 1;
+        digits[place + 1..].fill(0);
+    }
+}
+
+/// Every list of up to four values over the small alphabet. A viable beginning
+/// lacks at most one value, so rows of five values hold all of them.
+#[test]
+fn every_short_list_is_read_as_the_literal_rows_say() {
+    let mut rows = Rows::new();
+    gather(&parts(&SMALL), 5, &[], &[], Next::Anything, &mut rows);
+    let viable: HashSet<&[u16]> =
+        rows.keys().flat_map(|row| (0..=row.len()).map(|length| &row[..length])).collect();
+    for length in 0..=4 {
+        each_list(length, &mut |list| {
+            let longest = (0..=length).rev().find(|&end| viable.contains(&list[..end])).unwrap();
+            assert_eq!(longest_viable_beginning(list), longest, "{list:04X?}");
+            match (rows.get(list), read(list)) {
+                (Some(records), Ok(reading)) => {
+                    let read: Vec<u8> =
+                        reading.syllables().iter().flat_map(|syllable| syllable.record).collect();
+                    assert_eq!(*records, read, "{list:04X?}");
+                }
+                (None, Err(refusal)) => {
+                    let number = if longest < length { 3 } else { 4 };
+                    assert_eq!((refusal.number, refusal.place), (number, longest), "{list:04X?}");
+                }
+                (row, _) => panic!("{list:04X?} is read otherwise than {row:?}"),
+            }
+        });
+    }
+}
+
+/// Each syllable that there is, after a syllable that lets it begin and before one
+/// that it asks for: read to its record, and written back.
+#[test]
+fn every_single_syllable_is_read_and_written_back() {
+    let vowels: &[(&[u16], u8, u8)] = &[
+        (&[], 0, 0),
+        (&[0x102B], 1, 1),
+        (&[0x102C], 1, 0),
+        (&[0x102D], 2, 0),
+        (&[0x102E], 3, 0),
+        (&[0x102F], 4, 0),
+        (&[0x1030], 5, 0),
+        (&[0x1031], 6, 0),
+        (&[0x1032], 7, 0),
+        (&[0x1031, 0x102B], 8, 1),
+        (&[0x1031, 0x102C], 8, 0),
+        (&[0x1031, 0x102B, 0x103A], 9, 1),
+        (&[0x1031, 0x102C, 0x103A], 9, 0),
+        (&[0x1036], 10, 0),
+        (&[0x102D, 0x102F], 11, 0),
+        (&[0x102F, 0x1036], 12, 0),
+    ];
+    let letters: Vec<u16> = (0x1000..=0x1021).collect();
+    let alone: Vec<u16> = (0x1023..=0x104F)
+        .filter(|&value| !(0x102B..=0x103F).contains(&value) && value != 0x1028)
+        .collect();
+    let all = Alphabet {
+        heads: letters.leak(),
+        finals: &[0x1000, 0x1004, 0x1009, 0x101E, 0x1020],
+        medials: &[0x103B, 0x103C, 0x103D, 0x103E],
+        vowels,
+        tones: &[0x1037, 0x1038],
+        alone: alone.leak(),
+    };
+    for part in parts(&all) {
+        let before: &[u16] = match part.begun_by {
+            Next::Anything => &[],
+            Next::Letter => &[0x1021, 0x1001, 0x1039],
+            Next::GreatSa => &[0x1021],
+        };
+        let after: &[u16] = match part.next {
+            Next::Anything => &[],
+            Next::Letter => &[0x1010],
+            Next::GreatSa => &[0x103F],
+        };
+        let word = [before, &part.values, after].concat();
+        let reading = read(&word).unwrap();
+        let number = usize::from(!before.is_empty());
+        assert_eq!(reading.syllables()[number].record, part.record, "{word:04X?}");
+        assert_eq!(reading.syllables()[number].start, before.len());
+        assert_eq!(reading.syllables().len(), number + 1 + usize::from(!after.is_empty()));
+        let records: Vec<u8> = reading.syllables().iter().flat_map(|one| one.record).collect();
+        let mut output = [0; 64];
+        assert_eq!(write(&records, &mut output), Ok(word.len()));
+        assert_eq!(output[..word.len()], word);
+    }
+}
+
+/// The writer takes a record exactly when some word is read to it: all pairs of
+/// link, final, tone and the next record's head, over bytes beyond every bound.
+#[test]
+fn the_writer_takes_exactly_what_reads_back() {
+    let mut taken = 0;
+    for bits in 0..9 * 36 * 5 * 4 {
+        let (link, rest) = (bits % 5, bits / 5);
+        let (final_weight, rest) = (rest % 36, rest / 36);
+        let (tone, rest) = (rest % 4, rest / 4);
+        let next: &[u8] = match rest {
+            0 => &[],
+            1 => &[0x1E, 0, 0, 0, 0, 0, 0],
+            2 => &[0x00, 0, 0, 0, 0, 0, 0],
+            3 => &[0x20, 1, 0, 0, 0, 0, 0],
+            4 => &[0x21, 0, 0, 0, 0, 0, 0],
+            5 => &[0x25, 0, 0, 0, 0, 0, 0],
+            6 => &[0x3F, 0, 0, 0, 0, 0, 0],
+            7 => &[0x1E, 0, 1, 1, 0, 0, 2],
+            _ => &[0x4B, 0, 0, 0, 0, 0, 0],
+        };
+        let records = [&[0, 0, 0, 0, final_weight as u8, link as u8, tone as u8], next].concat();
+        let mut output = [0; 64];
+        let Ok(length) = write(&records, &mut output) else { continue };
+        let reading = read(&output[..length]).unwrap();
+        let read: Vec<u8> = reading.syllables().iter().flat_map(|one| one.record).collect();
+        assert_eq!(read, records);
+        taken += 1;
+    }
+    // Eight of the nine ends are rows; none or 33 plain finals go with 3 tones each,
+    // 33 stacked ones with the four letters to 1020, great sa with the two heads 1E.
+    assert_eq!(taken, 8 * 34 * 3 + 33 * 4 + 2);
+}

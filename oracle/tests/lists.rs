@@ -1,0 +1,105 @@
+//! The word lists hold what their names say, and are small enough.
+
+use oracle::lists::{all, random_row, row_of_length, shuffle_runs, List};
+use oracle::random::Random;
+use oracle::{compare, normalise, read};
+use std::cmp::Ordering;
+use std::collections::BTreeSet;
+use std::sync::LazyLock;
+
+static LISTS: LazyLock<Vec<List>> = LazyLock::new(all);
+
+fn list(name: &str) -> &'static List {
+    LISTS.iter().find(|list| list.name == name).unwrap()
+}
+
+fn answers(list: &List) -> Vec<String> {
+    String::from_utf8(list.expected()).unwrap().lines().map(String::from).collect()
+}
+
+#[test]
+fn the_lists_are_of_the_right_size() {
+    let input: usize = LISTS.iter().map(|list| list.input.len()).sum();
+    let expected: usize = LISTS.iter().map(|list| list.expected().len()).sum();
+    let lines: usize = LISTS.iter().map(|list| answers(list).len()).sum();
+    assert!((20_000..=40_000).contains(&lines), "{lines} lines");
+    assert!(input <= 1_500_000, "{input} bytes of input");
+    assert!(expected <= 2_500_000, "{expected} bytes of output");
+}
+
+#[test]
+fn valid_words_are_readable() {
+    for name in ["products", "valid", "long", "shuffled"] {
+        for answer in answers(list(name)) {
+            assert!(answer.contains(" OK "), "{name}: {answer}");
+        }
+    }
+}
+
+#[test]
+fn rows_are_read_as_they_were_put_together() {
+    let mut random = Random::of("rows_are_read_as_they_were_put_together");
+    for round in 0..2_000 {
+        let row = if round % 2 == 0 {
+            random_row(&mut random, round / 2 % 6)
+        } else {
+            row_of_length(&mut random, round / 2 % 65)
+        };
+        let reading = read(&row.values).unwrap();
+        assert!(reading.syllables().iter().map(|syllable| syllable.record).eq(row.records));
+    }
+}
+
+/// Every row is in storage order, so sorting brings a shuffled one back.
+#[test]
+fn shuffled_rows_are_stored_as_they_were() {
+    let mut random = Random::of("shuffled_rows_are_stored_as_they_were");
+    for round in 0..2_000 {
+        let row = row_of_length(&mut random, round % 65).values;
+        let mut shuffled = row.clone();
+        shuffle_runs(&mut random, &mut shuffled);
+        let mut output = [0; 64];
+        let length = normalise(&shuffled, &mut output).unwrap();
+        assert_eq!(output[..length], row);
+        assert_eq!(compare(&shuffled, &row), Ok(Ordering::Equal));
+    }
+}
+
+#[test]
+fn every_weight_occurs() {
+    let mut seen = [(); 5].map(|()| BTreeSet::new());
+    for name in ["products", "valid"] {
+        for answer in answers(list(name)) {
+            for syllable in answer.rsplit(' ').next().unwrap().split('-') {
+                for (place, weights) in seen.iter_mut().enumerate() {
+                    weights.insert(u8::from_str_radix(&syllable[2 * place..][..2], 16).unwrap());
+                }
+            }
+        }
+    }
+    let [head, medial, final_weight, vowel, tone] = seen;
+    assert!(head.into_iter().eq(1..=50));
+    assert!(medial.into_iter().eq(0..=11));
+    assert!(final_weight.into_iter().eq(0..=33));
+    assert!(vowel.into_iter().eq(0..=12));
+    assert!(tone.into_iter().eq(0..=2));
+}
+
+#[test]
+fn every_refusal_of_a_line_occurs() {
+    let refusals = |name| -> BTreeSet<String> {
+        let answers = answers(list(name));
+        let refused = answers.iter().filter(|answer| answer.contains(" NO "));
+        refused.map(|answer| answer.split(' ').nth(2).unwrap().to_string()).collect()
+    };
+    let named = |numbers: &[&str]| numbers.iter().map(|number| number.to_string()).collect();
+    assert_eq!(refusals("damaged"), named(&["3", "4"]));
+    assert_eq!(refusals("beginnings"), named(&["4"]), "a valid word's beginning is viable");
+    assert_eq!(refusals("noise"), named(&["3", "4"]));
+    assert_eq!(refusals("foreign"), named(&["2", "7"]));
+    assert_eq!(refusals("bytes"), named(&["2", "3", "7"]));
+    assert_eq!(refusals("limits"), named(&["1", "2", "3", "4", "7"]));
+    let limits = answers(list("limits"));
+    assert!(limits.iter().any(|answer| answer.ends_with(" NO 4 64")));
+    assert!(limits.iter().any(|answer| answer.ends_with(" NO 7 189")));
+}
