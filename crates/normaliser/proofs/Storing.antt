@@ -22,7 +22,7 @@ use Rattle.reading.specs.Concluded.{AdmittedTo}
 use Rattle.reading.specs.declared.read.ReadAnswer.{ReadAnswer}
 use Rattle.reading.specs.declared.read.ReadAnswer.the-variants.{Syllables}
 use Rattle.storage.specs.Stored.{isRunMark, goesBehind, insert, makesLongVowel, makesLetter, storedForm}
-use Rattle.storage.specs.Front.{joinFront, putFront}
+use Rattle.storage.specs.Putting.{joinFront, putFront}
 use Rattle.storage.proofs.Composing.{stored-front}
 use Rattle.storage.proofs.Outcome.{stored-shorter, stored-admitted}
 use Rattle.normaliser.specs.Normal.{StoreRefusedWith, foreign as strange, outcome, Stores, StoreAnswers, WordFor, NormalRight, NormaliseRight, writes, too-short, HandedIn}

@@ -9,7 +9,7 @@ use borrow.Author.Tests.{eqb-true}
 use Rattle.letters.specs.Choice.{pick}
 use Rattle.letters.proofs.Picks.{and-no-right}
 use Rattle.storage.specs.Stored.{isRunMark, goesBehind, insert, sortRuns, makesLongVowel, makesLetter, compose, storedForm}
-use Rattle.storage.specs.Front.{joinFront, putFront}
+use Rattle.storage.specs.Putting.{joinFront, putFront}
 use Rattle.storage.proofs.Ranks.{is-false, mark-test, behind-apart, behind-marks}
 use Rattle.storage.proofs.Runs.{insert-behind, insert-here, on-insert, insert-none}
 

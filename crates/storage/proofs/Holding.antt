@@ -1,26 +1,27 @@
 -- The array of the code: what moving a value, putting one and copying a part make of its list.
 -- Assumes nothing.
-use mathlib.Core.Path.{_≡_, refl, sym, ap, subst, _∙_}
-use mathlib.Core.Bool.{true, false}
-use mathlib.Core.List.{List, _∷_, _++_}
-use Prim.Native.Nat.{ℕ, suc, _+_, _-_, _≤_, _<_}
+use mathlib.Core.Path.{_≡_, refl, sym, ap, _∙_}
+use mathlib.Core.Bool.{Bool, true, false}
+use mathlib.Core.List.{List, [], _∷_, _++_}
+use Prim.Native.Nat.{ℕ, suc, _+_, _-_, _%_, _≤_, _<_}
 use native.Mathlib.Numerals.{add-one}
 use native.Mathlib.Decide.{decLt}
 use native.Mathlib.Omega.{arith}
-use lib.Dec.{T, eqb}
+use lib.Dec.{eqb}
 use lib.ListN.{length, take, drop, getD, set, replicate, length-append, length-drop, length-set, drop-of-length-le, List·getD-eq-default}
 use lib.Seq.{drop-cons, take-suc, getD-drop, length-take-le, drop-at, set-at, set-split, take-suc-set, drop-set-lt, append-snoc}
-use borrow.Author.Tests.{lt-ltb, le-ltb}
+use borrow.Author.Tests.{lt-ltb, le-ltb, ne-eqb}
 use Rattle.letters.specs.Choice.{pick}
 use Rattle.letters.proofs.Picks.{and-no-right}
-use Rattle.formula.proofs.Lists.{both-right}
 use Rattle.formula.specs.Limits.{limit}
 use Rattle.formula.specs.Held.{wordOf}
 use Rattle.formula.specs.declared.Word.{Word}
 use Rattle.storage.specs.Stored.{isRunMark, rank, goesBehind, insert, makesLongVowel, makesLetter}
-use Rattle.storage.specs.Front.{joinFront, putFront, FrontRoom, FrontPut, PartRoom}
-use Rattle.storage.proofs.Ranks.{behind-mark}
+use Rattle.storage.specs.Putting.{joinFront, putFront, firstRank, Room, FrontPut, PartRoom}
+use Rattle.storage.proofs.Ranks.{behind-mark, behind-rank, behind-marks}
 use Rattle.storage.proofs.Runs.{insert-behind, insert-here, insert-length}
+use Rattle.storage.proofs.Composing.{other-vowel, other-letter}
+use Rattle.storage.proofs.Settled.{StandsBefore, put-stands}
 
 -- what the array holds once the mark is inserted behind a place
 abbrev pub insertedAt : List ℕ → ℕ → ℕ → List ℕ
@@ -117,68 +118,108 @@ put-is-none : (x : ℕ) (values : List ℕ) → isRunMark x ≡ false → putFro
 unfolding putFront pick
 put-is-none x values e = rw e
 
-pub mark-put : (before after : List ℕ) (front x : ℕ) → FrontRoom before front → isRunMark x ≡ true → after ≡ insertedAt before (front - 1) x
-    → FrontPut before after front x (front - 1)
-mark-put before after front x r m e =
-    let back : front - 1 + 1 ≡ front = omega (arith, r .some) in
-    let cut : length (take (front - 1) before) ≡ front - 1 = length-take-le (front - 1) before (omega (arith, r .long, r .within)) in
-    let shown : after ≡ take (front - 1) before ++ insert x (drop front before) = rw back at e in
+-- a mark that has to go behind the first value leaves it the first
+pub behind-first : (x : ℕ) (values : List ℕ) → firstRank values < rank x % 16 → (isRunMark x ≡ true) × (firstRank (insert x values) ≡ firstRank values)
+behind-first x [] h = let z : ⊥ = omega arith in absurd z
+behind-first x (y ∷ values) h =
+    let behind : goesBehind x y ≡ true = behind-rank x y ∙ lt-ltb (rank y) (rank x % 16) h in
+    (behind-marks x y behind .0, ap firstRank (insert-behind x y values behind))
+
+pub mark-put : (before after : List ℕ) (place x own : ℕ) → Room before place → own ≡ firstRank (drop place before) → own < rank x % 16
+    → after ≡ insertedAt before (place - 1) x → FrontPut before after place x (record { place = place - 1; rank = own })
+mark-put before after place x own r ranked less e =
+    let back : place - 1 + 1 ≡ place = omega (arith, r .some) in
+    let first = behind-first x (drop place before) (rw ranked at less) in
+    let cut : length (take (place - 1) before) ≡ place - 1 = length-take-le (place - 1) before (omega (arith, r .long, r .within)) in
+    let shown : after ≡ take (place - 1) before ++ insert x (drop place before) = rw back at e in
+    let put : drop (place - 1) after ≡ insert x (drop place before) =
+    rw shown (drop-at (take (place - 1) before) (insert x (drop place before)) (place - 1) cut) in
     record {
       long =
           ap length shown
-          ∙ omega (arith, length-append (take (front - 1) before) (insert x (drop front before)), insert-length x (drop front before), length-drop front before, r .long, r .some, r .within);
-      put = rw (shown, put-is-mark x (drop front before) m) (drop-at (take (front - 1) before) (insert x (drop front before)) (front - 1) cut);
+          ∙ omega (arith, length-append (take (place - 1) before) (insert x (drop place before)), insert-length x (drop place before), length-drop place before, r .long, r .some, r .within);
+      put = put ∙ sym (put-is-mark x (drop place before) (first .0));
+      ranked = ranked ∙ sym (ap firstRank put ∙ first .1);
       no-later = omega arith;
       no-earlier = omega arith;
     }
 
--- past the end there is nothing that changes a value
-vowel-within : (values : List ℕ) (front x : ℕ) → makesLongVowel x (getD values front 0) ≡ true → front < length values
-unfolding makesLongVowel
-vowel-within values front x e = go (decLt front (length values))
+-- a 1025 before 102E, which stands within the array
+vowel-within : (values : List ℕ) (place : ℕ) → getD values place 0 ≡ 0x102E → place < length values
+vowel-within values place e = go (decLt place (length values))
   where
-    go : Dec (front < length values) → front < length values
+    go : Dec (place < length values) → place < length values
     go (yes l) = l
     go (no l) =
-        let past : length values ≤ front = omega arith in
-        absurd (both-right (eqb x 0x1025) false (subst T (sym (rw (List·getD-eq-default values 0 past) at e)) tt))
+        let past : length values ≤ place = omega arith in
+        let z : ⊥ = omega (arith, List·getD-eq-default values 0 past) in
+        absurd z
 
-pub vowel-room : (before : List ℕ) (front x : ℕ) → FrontRoom before front → makesLongVowel x (getD before front 0) ≡ true → front < limit
-vowel-room before front x r e = omega (arith, vowel-within before front x e, r .long)
+pub vowel-room : (before : List ℕ) (place : ℕ) → Room before place → getD before place 0 ≡ 0x102E → place < limit
+vowel-room before place r e = omega (arith, vowel-within before place e, r .long)
 
-pub vowel-put : (before : List ℕ) (front x : ℕ) → FrontRoom before front → isRunMark x ≡ false → makesLongVowel x (getD before front 0) ≡ true
-    → FrontPut before (set before front 0x1026) front x front
-unfolding pick
-vowel-put before front x r m e =
-    let h : front < length before = vowel-within before front x e in
+pub vowel-put : (before : List ℕ) (place : ℕ) → Room before place → getD before place 0 ≡ 0x102E
+    → FrontPut before (set before place 0x1026) place 0x1025 (record { place = place; rank = 16 })
+unfolding putFront isRunMark makesLongVowel rank pick
+vowel-put before place r e =
+    let h : place < length before = vowel-within before place e in
+    let put : drop place (set before place 0x1026) ≡ 0x1026 ∷ drop (suc place) before = drop-set before place 0x1026 h in
     record {
-      long = length-set before front 0x1026 ∙ r .long;
-      put = rw (put-is-none x (drop front before) m, drop-set before front 0x1026 h, drop-cons before front 0 h, e);
+      long = length-set before place 0x1026 ∙ r .long;
+      put = rw (put, drop-cons before place 0 h, e);
+      ranked = rw put;
       no-later = omega arith;
       no-earlier = omega arith;
     }
 
 -- a value that stays one, by whether a value follows it
-join-one : (values : List ℕ) (front x : ℕ) → makesLongVowel x (getD values front 0) ≡ false
-    → joinFront x (drop front values) ≡ pick (makesLetter x (getD values front 0)) 0x1009 x ∷ drop front values
+join-one : (values : List ℕ) (place x : ℕ) → makesLongVowel x (getD values place 0) ≡ false
+    → joinFront x (drop place values) ≡ pick (makesLetter x (getD values place 0)) 0x1009 x ∷ drop place values
 unfolding pick makesLetter
-join-one values front x e = go (decLt front (length values))
+join-one values place x e = go (decLt place (length values))
   where
-    go : Dec (front < length values) → joinFront x (drop front values) ≡ pick (makesLetter x (getD values front 0)) 0x1009 x ∷ drop front values
-    go (yes l) = rw (drop-cons values front 0 l, e)
+    go : Dec (place < length values) → joinFront x (drop place values) ≡ pick (makesLetter x (getD values place 0)) 0x1009 x ∷ drop place values
+    go (yes l) = rw (drop-cons values place 0 l, e)
     go (no l) =
-        let past : length values ≤ front = omega arith in
+        let past : length values ≤ place = omega arith in
         rw (drop-of-length-le values past, List·getD-eq-default values 0 past, and-no-right (eqb x 0x1025) false refl)
 
-pub value-put : (before : List ℕ) (front x : ℕ) → FrontRoom before front → isRunMark x ≡ false → makesLongVowel x (getD before front 0) ≡ false
-    → FrontPut before (set before (front - 1) (pick (makesLetter x (getD before front 0)) 0x1009 x)) front x (front - 1)
-value-put before front x r m e =
-    let back : suc (front - 1) ≡ front = omega (arith, r .some) in
-    let written : ℕ = pick (makesLetter x (getD before front 0)) 0x1009 x in
+-- one value is put before the place
+one-put : (before : List ℕ) (place x y own : ℕ) → Room before place → putFront x (drop place before) ≡ y ∷ drop place before → own ≡ rank y
+    → FrontPut before (set before (place - 1) y) place x (record { place = place - 1; rank = own })
+one-put before place x y own r e ranked =
+    let back : suc (place - 1) ≡ place = omega (arith, r .some) in
+    let put : drop (place - 1) (set before (place - 1) y) ≡ y ∷ drop place before =
+    drop-set before (place - 1) y (omega (arith, r .long, r .some, r .within)) ∙ ap (λ (k : ℕ). y ∷ drop k before) back in
     record {
-      long = length-set before (front - 1) written ∙ r .long;
-      put =
-          rw (put-is-none x (drop front before) m, join-one before front x e, drop-set before (front - 1) written (omega (arith, r .long, r .some, r .within)), back);
+      long = length-set before (place - 1) y ∙ r .long;
+      put = put ∙ sym e;
+      ranked = ranked ∙ sym (ap firstRank put);
       no-later = omega arith;
       no-earlier = omega arith;
     }
+
+letter-rank : (letter : Bool) → 16 ≡ rank (pick letter 0x1009 0x1025)
+unfolding rank pick
+letter-rank true = refl
+letter-rank false = refl
+
+pub letter-put : (before : List ℕ) (place : ℕ) → Room before place → (getD before place 0 ≡ 0x102E → ⊥)
+    → FrontPut before (set before (place - 1) (pick (makesLetter 0x1025 (getD before place 0)) 0x1009 0x1025)) place 0x1025 (record { place = place - 1; rank = 16 })
+unfolding isRunMark makesLongVowel
+letter-put before place r n =
+    one-put before place 0x1025 (pick (makesLetter 0x1025 (getD before place 0)) 0x1009 0x1025) 16 r
+    (put-is-none 0x1025 (drop place before) refl ∙ join-one before place 0x1025 (ne-eqb (getD before place 0) 0x102E n))
+    (letter-rank (makesLetter 0x1025 (getD before place 0)))
+
+-- any other value stands as it is
+other-stands : (x : ℕ) (values : List ℕ) → rank x % 16 ≤ firstRank values → (x ≡ 0x1025 → ⊥) → StandsBefore x values
+other-stands x [] h n = tt
+other-stands x (y ∷ values) h n =
+    let u : eqb x 0x1025 ≡ false = ne-eqb x 0x1025 n in
+    record { in-order = behind-rank x y ∙ le-ltb (rank y) (rank x % 16) h; no-vowel = other-vowel x y u; no-letter = other-letter x y u }
+
+pub value-put : (before : List ℕ) (place x own first : ℕ) → Room before place → own ≡ rank x → first ≡ firstRank (drop place before)
+    → rank x % 16 ≤ first → (x ≡ 0x1025 → ⊥) → FrontPut before (set before (place - 1) x) place x (record { place = place - 1; rank = own })
+value-put before place x own first r ranked e h n =
+    one-put before place x x own r (put-stands x (drop place before) (other-stands x (drop place before) (rw e at h) n)) ranked

@@ -10,7 +10,7 @@ use Rattle.letters.specs.Choice.{pick}
 use Rattle.letters.specs.Letters.{isAdmitted}
 use Rattle.formula.proofs.Lists.{every, both, both-left, both-right}
 use Rattle.storage.specs.Stored.{isRunMark, insert, makesLongVowel, makesLetter, storedForm}
-use Rattle.storage.specs.Front.{joinFront, putFront}
+use Rattle.storage.specs.Putting.{joinFront, putFront}
 use Rattle.storage.proofs.Runs.{insert-length, insert-every}
 use Rattle.storage.proofs.Composing.{stored-front}
 

@@ -11,8 +11,9 @@ use Rattle.letters.specs.Choice.{pick}
 use Rattle.formula.specs.Limits.{limit}
 use Rattle.formula.specs.Held.{wordOf}
 use Rattle.formula.specs.declared.Word.{Word}
-use Rattle.storage.specs.Stored.{isRunMark, insert, makesLongVowel, makesLetter, storedForm}
-use Rattle.storage.specs.Front.{joinFront, putFront, FrontPut}
+use Rattle.storage.specs.Stored.{isRunMark, rank, insert, makesLongVowel, makesLetter, storedForm}
+use Rattle.storage.specs.Putting.{joinFront, putFront, firstRank, FrontPut}
+use Rattle.storage.specs.declared.Front.{Front}
 use Rattle.storage.proofs.Runs.{insert-run}
 use Rattle.storage.proofs.Composing.{same-before, join-same, stored-front}
 
@@ -47,32 +48,42 @@ put-zeros x values n = go (isRunMark x)
     go false = join-zeros x values n
 
 -- the word from a place on is passed, and its stored form begins at the front
-pub record StoredFrom (word values : List ℕ) (front at : ℕ) : Type 0 where
+pub record StoredFrom (word values : List ℕ) (front : Front) (at : ℕ) : Type 0 where
   pub long : length values ≡ limit
-  pub before : at ≤ front
-  pub within : front ≤ length word
-  pub shown : drop front values ≡ storedForm (drop at word) ++ zeros (limit - length word)
+  pub before : at ≤ front .place
+  pub within : front .place ≤ length word
+  pub shown : drop (front .place) values ≡ storedForm (drop at word) ++ zeros (limit - length word)
+  pub ranked : front .rank ≡ firstRank (drop (front .place) values)
 
 drop-zeros : (m n : ℕ) → m ≤ n → drop m (zeros n) ≡ zeros (n - m)
 drop-zeros m n h =
     let whole : m + (n - m) ≡ n = omega arith in
     ap (drop m) (sym (replicate-append-replicate m (n - m) 0 ∙ ap zeros whole)) ∙ drop-at (zeros m) (zeros (n - m)) m (length-replicate m 0)
 
+-- zeros have the rank of what is no mark
+zeros-rank : (n : ℕ) → 16 ≡ firstRank (zeros n)
+unfolding rank pick
+zeros-rank zero = refl
+zeros-rank (suc n) = refl
+
 -- nothing is passed
-pub stored-none : (word : List ℕ) → length word ≤ limit → StoredFrom word (zeros limit) (length word) (length word)
+pub stored-none : (word : List ℕ) → length word ≤ limit → StoredFrom word (zeros limit) (record { place = length word; rank = 16 }) (length word)
 unfolding storedForm
 stored-none word h =
+    let behind : drop (length word) (zeros limit) ≡ zeros (limit - length word) = drop-zeros (length word) limit h in
+    let passed : length word ≤ length word = omega arith in
     record {
       long = refl;
       before = omega arith;
       within = omega arith;
-      shown = rw (drop-of-length-le word (let l : length word ≤ length word = omega arith in l)) (drop-zeros (length word) limit h);
+      shown = rw (drop-of-length-le word passed) behind;
+      ranked = rw behind (zeros-rank (limit - length word));
     }
 
 -- one value more is put in front
-pub stored-more : (word values after : List ℕ) (front at begin : ℕ) → StoredFrom word values front at → 0 < at
-    → FrontPut values after front (getD word (at - 1) 0) begin → StoredFrom word after begin (at - 1)
-stored-more word values after front at begin s some p =
+pub stored-more : (word values after : List ℕ) (front begin : Front) (at : ℕ) → StoredFrom word values front at → 0 < at
+    → FrontPut values after (front .place) (getD word (at - 1) 0) begin → StoredFrom word after begin (at - 1)
+stored-more word values after front begin at s some p =
     let x : ℕ = getD word (at - 1) 0 in
     let n : ℕ = limit - length word in
     let here : drop (at - 1) word ≡ x ∷ drop at word =
@@ -81,31 +92,33 @@ stored-more word values after front at begin s some p =
       long = p .long;
       before = omega (arith, s .before, p .no-earlier);
       within = omega (arith, s .within, p .no-later);
+      ranked = p .ranked;
       shown =
           p .put ∙ ap (putFront x) (s .shown) ∙ put-zeros x (storedForm (drop at word)) n
           ∙ ap (λ (l : List ℕ). l ++ zeros n) (sym (stored-front x (drop at word)) ∙ ap storedForm (sym here));
     }
 
 -- all is passed
-stored-length : (word values : List ℕ) (front : ℕ) → StoredFrom word values front 0 → length word ≤ limit
-    → length (storedForm word) ≡ length word - front
+stored-length : (word values : List ℕ) (front : Front) → StoredFrom word values front 0 → length word ≤ limit
+    → length (storedForm word) ≡ length word - front .place
 stored-length word values front s h =
-    omega (arith, simp (length-append, length-replicate) at (ap length (s .shown)), length-drop front values, s .long, s .within)
+    omega (arith, simp (length-append, length-replicate) at (ap length (s .shown)), length-drop (front .place) values, s .long, s .within)
 
-from-start : (word values : List ℕ) (front at : ℕ) → StoredFrom word values front at → at ≤ 0 → StoredFrom word values front 0
+from-start : (word values : List ℕ) (front : Front) (at : ℕ) → StoredFrom word values front at → at ≤ 0 → StoredFrom word values front 0
 from-start word values front at s end = subst (StoredFrom word values front) (let e : at ≡ 0 = omega arith in e) s
 
-pub stored-whole : (word values : List ℕ) (front at : ℕ) → StoredFrom word values front at → length word ≤ limit → at ≤ 0 → front ≡ 0
+pub stored-whole : (word values : List ℕ) (front : Front) (at : ℕ) → StoredFrom word values front at → length word ≤ limit → at ≤ 0 → front .place ≡ 0
     → _≡_ {A = Word} (record { values = values; count = length word }) (wordOf (storedForm word))
 stored-whole word values front at s h end first =
-    let whole : StoredFrom word values 0 0 = subst (λ (k : ℕ). StoredFrom word values k 0) first (from-start word values front at s end) in
-    let counted : length (storedForm word) ≡ length word = omega (arith, stored-length word values 0 whole h) in
-    rw (counted, whole .shown)
+    let whole : StoredFrom word values front 0 = from-start word values front at s end in
+    let counted : length (storedForm word) ≡ length word = omega (arith, stored-length word values front whole h) in
+    let shown : values ≡ storedForm word ++ zeros (limit - length word) = rw first at (whole .shown) in
+    rw (counted, shown)
 
-pub stored-part : (word values : List ℕ) (front at : ℕ) → StoredFrom word values front at → length word ≤ limit → at ≤ 0
-    → wordOf (take (length word - front) (drop front values)) ≡ wordOf (storedForm word)
+pub stored-part : (word values : List ℕ) (front : Front) (at : ℕ) → StoredFrom word values front at → length word ≤ limit → at ≤ 0
+    → wordOf (take (length word - front .place) (drop (front .place) values)) ≡ wordOf (storedForm word)
 stored-part word values front at s h end =
     let whole : StoredFrom word values front 0 = from-start word values front at s end in
     ap wordOf
-    (ap (take (length word - front)) (whole .shown)
-    ∙ take-at (storedForm word) (zeros (limit - length word)) (length word - front) (stored-length word values front whole h))
+    (ap (take (length word - front .place)) (whole .shown)
+    ∙ take-at (storedForm word) (zeros (limit - length word)) (length word - front .place) (stored-length word values front whole h))

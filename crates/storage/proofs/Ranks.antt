@@ -3,20 +3,21 @@
 use mathlib.Core.Path.{_≡_, refl, sym, ap, subst, _∙_}
 use mathlib.Core.Bool.{Bool, true, false, not, _&&_, _||_}
 use mathlib.Core.List.{List, [], _∷_}
-use Prim.Native.Nat.{ℕ, zero, suc, _≤_, _<_}
+use Prim.Native.Nat.{ℕ, zero, suc, _+_, _/_, _%_, _≤_, _<_}
 use native.Mathlib.Decide.{decLt}
 use native.Mathlib.Omega.{arith}
 use lib.Dec.{T, eqb, eqb→eq, leb, ltb, ltb→lt, not-T, T-not}
 use lib.ListN.{length, getD}
-use borrow.Author.Tests.{eqb-true, ltb-true, ne-eqb}
-use types.Run.{OneOf}
+use borrow.Author.Tests.{eqb-true, ltb-true, le-ltb}
 use Rattle.letters.specs.Choice.{pick}
 use Rattle.letters.specs.Letters.{within, isMedial, isVowelMark, isTone, isKiller}
 use Rattle.letters.proofs.Counted.{on-chart}
 use Rattle.letters.proofs.Picks.{and-no-right}
+use Rattle.letters.proofs.Table.{at}
 use Rattle.formula.proofs.Lists.{every, both-left, both-right}
 use Rattle.rows.proofs.Complete.{low, high, either, is-true}
 use Rattle.storage.specs.Stored.{isRunMark, storageOrder, placeIn, rank, goesBehind}
+use Rattle.storage.specs.Putting.{rankTable}
 
 pub is-false : (b : Bool) → T (not b) → b ≡ false
 is-false true t = absurd t
@@ -42,22 +43,15 @@ on-list f list x t h = rw (placed list x h) at (each list (placeIn list x) t h)
     each (y ∷ list) zero t h = both-left (f y) (every f list) t
     each (y ∷ list) (suc k) t h = each list k (both-right (f y) (every f list) t) (omega arith)
 
--- a value that no arm of a match has, with what is known besides
-abbrev pub Missed : Type 0 → List ℕ → ℕ → Type 0
-Missed P [] x = P
-Missed P (y ∷ list) x = Missed (P × (OneOf (y ∷ []) x → ⊥)) list x
-
-missed-place : (P : Type 0) (list : List ℕ) (x : ℕ) → Missed P list x → P × (placeIn list x ≡ length list)
+-- no place is beyond the list's end
+place-most : (list : List ℕ) (x : ℕ) → placeIn list x ≤ length list
 unfolding pick
-missed-place P [] x m = (m, refl)
-missed-place P (y ∷ list) x m =
-    let rest = missed-place (P × (OneOf (y ∷ []) x → ⊥)) list x m in
-    (rest .0 .0, rw (ne-eqb x y (rest .0 .1)) (ap suc (rest .1)))
-
--- a value that is not in the order has the rank 16
-pub missed-rank : (x : ℕ) → Missed (Unit {0}) storageOrder x → 16 ≡ rank x
-unfolding rank
-missed-rank x m = sym (missed-place (Unit {0}) storageOrder x m .1)
+place-most [] x = omega arith
+place-most (y ∷ list) x = go (eqb x y) (place-most list x)
+  where
+    go : (b : Bool) → placeIn list x ≤ length list → pick b 0 (suc (placeIn list x)) ≤ suc (length list)
+    go true l = omega arith
+    go false l = omega arith
 
 -- a value with a place in the order is a mark
 pub rank-mark : (x : ℕ) → rank x < 16 → T (isRunMark x)
@@ -99,9 +93,6 @@ mark-rank x t =
     let on = mark-on-chart x t in
     ltb→lt (rank x) 16 (ranked-mark (isRunMark x) (ltb (rank x) 16) (on-chart ranked tt x (on .0) (on .1)) t)
 
-pub rank-none : (x : ℕ) → 16 ≤ rank x → isRunMark x ≡ false
-rank-none x h = is-false (isRunMark x) (not-T (isRunMark x) (λ t. let l : rank x < 16 = mark-rank x t in let z : ⊥ = omega arith in z))
-
 -- a test that the values of the order pass, each mark passes
 pub mark-test : (f : ℕ → Bool) → T (every f storageOrder) → (x : ℕ) → T (isRunMark x) → T (f x)
 unfolding rank
@@ -111,13 +102,14 @@ mark-test f t x m = on-list f storageOrder x t (mark-rank x m)
 pub no-mark : (f : ℕ → Bool) → T (every (λ (y : ℕ). not (f y)) storageOrder) → (x : ℕ) → T (f x) → isRunMark x ≡ false
 no-mark f t x h = is-false (isRunMark x) (not-T (isRunMark x) (λ m. T-not (f x) (mark-test (λ (y : ℕ). not (f y)) t x m) h))
 
--- and its rank is beyond those of the marks
-pub no-mark-rank : (x : ℕ) → isRunMark x ≡ false → 16 ≤ rank x
+-- and its rank is the number of marks
+pub no-mark-rank : (x : ℕ) → isRunMark x ≡ false → rank x ≡ 16
+unfolding rank
 no-mark-rank x e = go (decLt (rank x) 16)
   where
-    go : Dec (rank x < 16) → 16 ≤ rank x
+    go : Dec (rank x < 16) → rank x ≡ 16
     go (yes l) = absurd (rw e at (rank-mark x l))
-    go (no l) = omega arith
+    go (no l) = omega (arith, place-most storageOrder x)
 
 -- the rank tells marks apart
 pub rank-injective : (x y : ℕ) → T (isRunMark x) → T (isRunMark y) → rank x ≡ rank y → x ≡ y
@@ -146,6 +138,18 @@ behind-mark x y e = rw e (go (ltb (rank y) (rank x)) refl)
         rw (is-true (isRunMark y) (rank-mark y (omega arith)))
     go false l = and-no-right (isRunMark y) false refl
 
+-- of any value, its rank modulo 16 decides, which is 0 for what is no mark
+pub behind-rank : (x y : ℕ) → goesBehind x y ≡ ltb (rank y) (rank x % 16)
+behind-rank x y = go (isRunMark x) refl
+  where
+    go : (b : Bool) → isRunMark x ≡ b → goesBehind x y ≡ ltb (rank y) (rank x % 16)
+    go true e =
+        let own : rank x % 16 ≡ rank x = omega (arith, mark-rank x (subst T (sym e) tt)) in
+        rw own (behind-mark x y e)
+    go false e =
+        let none : rank x % 16 ≡ 0 = omega (arith, no-mark-rank x e) in
+        rw none (behind-none x y e ∙ sym (le-ltb (rank y) 0 (omega arith)))
+
 -- a mark goes behind marks alone
 pub behind-marks : (x y : ℕ) → goesBehind x y ≡ true → (isRunMark x ≡ true) × (isRunMark y ≡ true)
 unfolding goesBehind
@@ -155,3 +159,19 @@ behind-marks x y h =
       is-true (isRunMark x) (both-left (isRunMark x) test t),
       is-true (isRunMark y) (both-left (isRunMark y) (ltb (rank y) (rank x)) (both-right (isRunMark x) test t)),
     )
+
+-- the table has the rank of each value from 1000 to 103F
+entry-right : ℕ → ℕ → Bool
+entry-right k r = eqb r (rank (0x1000 + k))
+
+pub rank-entry : (x : ℕ) → x / 64 ≡ 0x40 → getD rankTable (x % 64) 0 ≡ rank x
+unfolding entry-right rank pick
+rank-entry x e =
+    let value : 0x1000 + x % 64 ≡ x = omega arith in
+    eqb→eq (getD rankTable (x % 64) 0) (rank (0x1000 + x % 64)) (at entry-right rankTable tt (x % 64) (omega arith)) ∙ ap rank value
+
+-- and no other value is a mark
+pub rank-outside : (x : ℕ) → (x / 64 ≡ 0x40 → ⊥) → rank x ≡ 16
+rank-outside x n =
+    no-mark-rank x
+    (is-false (isRunMark x) (not-T (isRunMark x) (λ t. n (eqb→eq (x / 64) 0x40 (mark-test (λ (y : ℕ). eqb (y / 64) 0x40) tt x t)))))

@@ -17,14 +17,10 @@ use Rattle.formula.specs.Row.{Row, isRowAfter, IsRow, joinAfter, join, Gives}
 use Rattle.rows.proofs.Sound.{or-left, Parts, apart, no-medial-text, no-vowel-text, no-final-text, no-tone-text}
 use Rattle.rows.proofs.Complete.{is-true, final-consonant, first}
 use Rattle.storage.specs.Stored.{isRunMark, rank, storedForm}
+use Rattle.storage.specs.Putting.{firstRank}
 use Rattle.storage.proofs.Ranks.{is-false, no-mark, no-mark-rank, behind-apart}
 use Rattle.storage.proofs.Composing.{same-before}
 use Rattle.storage.proofs.Settled.{Stands, StandsBefore, Settled, quiet-before, mark-stands, settled-stored}
-
--- the rank of the first value, 16 where there is none
-abbrev firstRank : List ℕ → ℕ
-firstRank [] = 16
-firstRank (x ∷ values) = rank x
 
 -- a settled list whose first value ranks at least so
 record Above (low : ℕ) (values : List ℕ) : Type 0 where
@@ -96,7 +92,7 @@ tone-climbs visarga = tt
 
 -- a value that is no mark and not 1025 before anything settled
 quiet-above : (x : ℕ) (values : List ℕ) → isRunMark x ≡ false → eqb x 0x1025 ≡ false → Settled values → Above 16 (x ∷ values)
-quiet-above x values m u s = record { settled = (quiet-before x values m u, s); least = no-mark-rank x m }
+quiet-above x values m u s = record { settled = (quiet-before x values m u, s); least = omega (arith, no-mark-rank x m) }
 
 -- a head is no mark, and a C is not 1025
 head-no-mark : (h : ℕ) → T (isHead h) → isRunMark h ≡ false
@@ -201,7 +197,7 @@ row-above f (syllable h m v g t ∷ row) q =
       above =
           record {
             settled = (head-before f h _ (joinAfter g row) (p .head) (bare-head h m v g t p) (rest .after), marks .settled);
-            least = on-head (λ (x : ℕ). 16 ≤ rank x) f h (no-mark-rank h (head-no-mark h (p .head))) (no-mark-rank 0x103F refl);
+            least = on-head (λ (x : ℕ). 16 ≤ rank x) f h (omega (arith, no-mark-rank h (head-no-mark h (p .head)))) (omega (arith, no-mark-rank 0x103F refl));
           };
       after = λ x. on-head (Stands x) f h (before-head x h (p .head)) (great-sa-after x);
     }

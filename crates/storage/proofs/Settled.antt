@@ -9,7 +9,7 @@ use lib.Dec.{T, eqb}
 use borrow.Author.Tests.{ltb-true, le-ltb}
 use Rattle.letters.specs.Choice.{pick}
 use Rattle.storage.specs.Stored.{isRunMark, rank, goesBehind, insert, makesLongVowel, makesLetter, storedForm}
-use Rattle.storage.specs.Front.{joinFront, putFront}
+use Rattle.storage.specs.Putting.{joinFront, putFront}
 use Rattle.storage.proofs.Ranks.{behind-none, behind-mark, behind-marks}
 use Rattle.storage.proofs.Runs.{insert-here, on-insert}
 use Rattle.storage.proofs.Composing.{other-vowel, other-letter, mark-other, stored-front}
@@ -44,7 +44,7 @@ mark-stands x y m h =
     record { in-order = behind-mark x y m ∙ le-ltb (rank y) (rank x) h; no-vowel = other-vowel x y u; no-letter = other-letter x y u }
 
 -- what stands is put in front as it is
-put-stands : (x : ℕ) (values : List ℕ) → StandsBefore x values → putFront x values ≡ x ∷ values
+pub put-stands : (x : ℕ) (values : List ℕ) → StandsBefore x values → putFront x values ≡ x ∷ values
 unfolding putFront pick
 put-stands x [] s = go (isRunMark x)
   where

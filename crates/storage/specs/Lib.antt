@@ -1,3 +1,3 @@
 pub mod Stored
 pub mod Sorted
-pub mod Front
+pub mod Putting

@@ -2,7 +2,7 @@
 -- Assumes nothing.
 use mathlib.Core.Path.{_≡_, refl}
 use mathlib.Core.Bool.{Bool, true, false, _||_}
-use mathlib.Core.List.{List, [], _∷_}
+use mathlib.Core.List.{List, [], _∷_, _++_}
 use Prim.Native.Nat.{ℕ, _+_, _-_, _≤_}
 use native.Mathlib.Omega.{arith}
 use lib.Dec.{T}
@@ -53,7 +53,7 @@ row-read f (head ∷ medial ∷ vowel ∷ tall ∷ letter ∷ link ∷ tone ∷ 
     let rest = row-read (finalOf (syllableOf bytes-of-one)) bytes (rw (d .linked) (both-right (mayFollow (linkOf f) bytes-of-one) (areRecords link bytes) t)) in
     record {
       is-row = both (follows f (0x1000 + head)) _ follow (both (isSyllable (syllableOf bytes-of-one)) _ (d .is) (rest .is-row));
-      records = rw (d .records, rest .records);
+      records = λ i. d .records i ++ rest .records i;
     }
 
 -- the records of a row after a syllable with the final f
@@ -73,7 +73,7 @@ row-written f (syllable h m v g t ∷ row) q =
     let bytes-of-one = (h - 0x1000) ∷ medialWeight m ∷ vowelWeight v ∷ vowelTall v ∷ finalNumberOf g ∷ linkOf g ∷ toneWeight t ∷ [] in
     record {
       are-records =
-          both (mayFollow (linkOf f) bytes-of-one) _
+          both (mayFollow (linkOf f) bytes-of-one) (areRecords (linkOf g) (recordBytes row))
           (both (linkAdmits (linkOf f) (0x1000 + (h - 0x1000))) (isRecord bytes-of-one) (rw (own, link-admits f h) (p .follow)) (r .passes)) (rest .are-records);
-      back = rw (r .back, rest .back);
+      back = λ i. r .back i ∷ rest .back i;
     }

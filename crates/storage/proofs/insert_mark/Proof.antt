@@ -11,10 +11,10 @@ use Rattle.storage.proofs.insert_mark.Statement.{statement}
 use Rattle.storage.proofs.insert_mark.Tie as tie
 
 abbrev Inv-loop : tie.InvT-loop
-Inv-loop values₀ at mark own place₀ values place = Inserting values₀ values at place mark
+Inv-loop ranks values₀ at mark own place₀ values place = Inserting values₀ values at place mark
 
 abbrev μ-loop : tie.MeasureT-loop
-μ-loop values₀ at mark own place₀ values place = limit - place
+μ-loop ranks values₀ at mark own place₀ values place = limit - place
 
 rank-requires : tie.Need-rank-requires Inv-loop μ-loop
 rank-requires c κs = search needs

@@ -9,13 +9,16 @@ use Rattle.storage.proofs.stored.Statement.{statement}
 use Rattle.storage.proofs.stored.Tie as tie
 
 abbrev Inv-loop : tie.InvT-loop
-Inv-loop word end values₀ front₀ at₀ values front at = StoredFrom word values front at
+Inv-loop word end ranks values₀ front₀ at₀ values front at = StoredFrom word values front at
 
 abbrev μ-loop : tie.MeasureT-loop
-μ-loop word end values₀ front₀ at₀ values front at = at
+μ-loop word end ranks values₀ front₀ at₀ values front at = at
+
+rank-table-requires : tie.Need-rank-table-requires Inv-loop μ-loop
+rank-table-requires c κs = search needs
 
 loop-holds : tie.Need-loop-holds Inv-loop μ-loop
-loop-holds c = stored-none (now (c .before .args .word)) (c .before .pre)
+loop-holds c = stored-none (now (c .before .before .args .word)) (c .before .before .pre)
 
 sub-at : tie.Need-sub-at Inv-loop μ-loop
 sub-at c = search needs
@@ -28,32 +31,37 @@ shared-slice-read-put-front c = omega arith
 
 put-front-requires : tie.Need-put-front-requires Inv-loop μ-loop
 put-front-requires c κs =
-    let inv = c .before .before .before .loop .inv in
-    record { long = inv .long; some = omega arith; within = omega arith }
+    let at-loop = c .before .before .before .before in
+    let inv = at-loop .loop .inv in
+    record {
+      table = at-loop .before .rank-table .ensures;
+      room = record { long = inv .long; some = omega arith; within = omega arith };
+      ranked = inv .ranked;
+    }
 
 loop-less : tie.Need-loop-less Inv-loop μ-loop
 loop-less c = omega arith
 
 loop-again : tie.Need-loop-again Inv-loop μ-loop
 loop-again c =
-    let in-loop = c .before .before .before in
-    stored-more _ _ _ _ _ _ (in-loop .before .loop .inv) (omega arith) (c .put-front .ensures)
+    let at-loop = c .before .before .before .before .before in
+    stored-more _ _ _ _ _ _ (at-loop .loop .inv) (omega arith) (c .put-front .ensures)
 
 returns : tie.Need-returns Inv-loop μ-loop
 returns c =
     let at-loop = c .before .before in
-    stored-whole _ _ _ _ (at-loop .loop .inv) (at-loop .before .before .pre) (c .before .loop-test .left) (c .if1 .taken)
+    stored-whole _ _ _ _ (at-loop .loop .inv) (at-loop .before .before .before .pre) (c .before .loop-test .left) (c .if1 .taken)
 
 part-requires : tie.Need-part-requires Inv-loop μ-loop
 part-requires c κs =
-    let inv = c .before .before .before .loop .inv in
-    record { long = inv .long; rising = inv .within; within = c .before .before .before .before .before .pre }
+    let at-loop = c .before .before .before in
+    record { long = at-loop .loop .inv .long; rising = at-loop .loop .inv .within; within = at-loop .before .before .before .pre }
 
 returns-2 : tie.Need-returns-2 Inv-loop μ-loop
 returns-2 c =
     let at-end = c .before .before .before in
     let at-loop = at-end .before in
-    c .part .ensures ∙ stored-part _ _ _ _ (at-loop .loop .inv) (at-loop .before .before .pre) (at-end .loop-test .left)
+    c .part .ensures ∙ stored-part _ _ _ _ (at-loop .loop .inv) (at-loop .before .before .before .pre) (at-end .loop-test .left)
 
 pub stored-spec : {M : Type 1} → statement M
 stored-spec =
@@ -61,6 +69,7 @@ stored-spec =
     (tie.spec
     Inv-loop
     μ-loop
+    rank-table-requires
     loop-holds
     sub-at
     mul-put-front
