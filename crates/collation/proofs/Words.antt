@@ -1,0 +1,214 @@
+-- Pairs of words in order, with their keys: document 01's "Wrong turns", its worked weights and its words to normalise, by computing them.
+-- Assumes nothing.
+use mathlib.Core.Path.{_≡_, refl}
+use mathlib.Core.Bool.{Bool, true, false, _&&_}
+use mathlib.Core.List.{List, [], _∷_}
+use Prim.Native.Nat.{ℕ, zero, suc, _<_}
+use native.Mathlib.Nat.{le-of-suc-le-suc, not-suc-le-zero}
+use native.Mathlib.Omega.{arith}
+use lib.Dec.{T, leb, leb→le}
+use lib.ListN.{length, getD}
+use Rattle.letters.specs.Choice.{pick}
+use Rattle.letters.specs.Letters.{isAdmitted}
+use Rattle.letters.specs.Marks.{ya, neither, group, no-medial, no-vowel, vowel-aa, vowel-i-u, no-tone, dot}
+use Rattle.formula.specs.Limits.{limit}
+use Rattle.formula.specs.Syllable.{no-final, plain, stacked, syllable, bare, carriesMarks, carriesFinal}
+use Rattle.formula.specs.Row.{Row, isRowAfter, join, Gives}
+use Rattle.formula.specs.Weighing.{weightsOf}
+use Rattle.formula.proofs.Lists.{both-left, both-right, every, All, every-all, sameList, sameList-equal}
+use Rattle.rows.proofs.Viable.{only-row}
+use Rattle.storage.specs.Stored.{isRunMark, rank, goesBehind, makesLongVowel, makesLetter, storedForm}
+use Rattle.storage.proofs.Outcome.{stored-shorter, stored-admitted}
+use Rattle.normaliser.specs.Normal.{Stores}
+use Rattle.weighing.specs.Order.{orderValues, orderWeights, filed, order}
+use Rattle.weighing.specs.Keys.{keyOf}
+use Rattle.weighing.specs.declared.order.Order.{Order}
+use Rattle.weighing.specs.declared.order.Order.the-variants.{Less, Equal, Greater}
+use Rattle.collation.specs.Comparison.{Ordered}
+use Rattle.collation.proofs.Laws.{ordered-by}
+
+-- a word as handed in, the row that gives its stored form, and the used bytes of its key
+pub record Example : Type 0 where
+  pub word : List ℕ
+  pub row : Row
+  pub key : List ℕ
+
+pub record Pair : Type 0 where
+  pub first : Example
+  pub second : Example
+  pub is : Order
+
+-- a word of one syllable
+abbrev one : List ℕ → Row → ℕ → ℕ → ℕ → ℕ → ℕ → Example
+one word row h m f v t = record { word = word; row = row; key = h ∷ m ∷ f ∷ v ∷ t ∷ [] }
+
+abbrev letter : Example
+letter = one (0x1000 ∷ []) (bare 0x1000 ∷ []) 13 0 0 0 0
+
+pub pairs : List Pair
+pairs =
+    -- "Vowel weighed before final: 1000 1000 103A would precede 1000 102C; it follows."
+    record {
+      first = one (0x1000 ∷ 0x102C ∷ []) (syllable 0x1000 no-medial (vowel-aa false) no-final no-tone ∷ []) 13 0 0 1 0;
+      second = one (0x1000 ∷ 0x1000 ∷ 0x103A ∷ []) (syllable 0x1000 no-medial no-vowel (plain 0x1000) no-tone ∷ []) 13 0 1 0 0;
+      is = Less;
+    }
+    -- "Filing by code values alone": a stop and a digit go before the letters, and a medial group by its weight
+    ∷ record { first = one (0x104A ∷ []) (bare 0x104A ∷ []) 1 0 0 0 0; second = letter; is = Less }
+    ∷ record { first = letter; second = one (0x1049 ∷ []) (bare 0x1049 ∷ []) 12 0 0 0 0; is = Greater }
+    ∷ record {
+      first = one (0x1000 ∷ 0x103B ∷ 0x103D ∷ []) (syllable 0x1000 (group ya true false) no-vowel no-final no-tone ∷ []) 13 5 0 0 0;
+      second = one (0x1000 ∷ 0x103E ∷ []) (syllable 0x1000 (group neither false true) no-vowel no-final no-tone ∷ []) 13 4 0 0 0;
+      is = Greater;
+    }
+    -- "weighing 104F beyond row 50"
+    ∷ record { first = one (0x104E ∷ []) (bare 0x104E ∷ []) 49 0 0 0 0; second = one (0x104F ∷ []) (bare 0x104F ∷ []) 50 0 0 0 0; is = Less }
+    -- an I goes behind 1021 by its vowel weight, and before the signs
+    ∷ record { first = one (0x1021 ∷ []) (bare 0x1021 ∷ []) 46 0 0 0 0; second = one (0x1023 ∷ []) (bare 0x1023 ∷ []) 46 0 0 2 0; is = Less }
+    ∷ record { first = one (0x104C ∷ []) (bare 0x104C ∷ []) 47 0 0 0 0; second = one (0x102A ∷ []) (bare 0x102A ∷ []) 46 0 0 9 0; is = Greater }
+    -- "equal rows compare by code values in storage order": a tall AA weighs as an AA
+    ∷ record {
+      first = one (0x1000 ∷ 0x102C ∷ []) (syllable 0x1000 no-medial (vowel-aa false) no-final no-tone ∷ []) 13 0 0 1 0;
+      second = one (0x1000 ∷ 0x102B ∷ []) (syllable 0x1000 no-medial (vowel-aa true) no-final no-tone ∷ []) 13 0 0 1 0;
+      is = Greater;
+    }
+    -- "a row before every longer one that begins with it"
+    ∷ record { first = record { word = []; row = []; key = [] }; second = letter; is = Less }
+    ∷ record {
+      first = letter;
+      second = record { word = 0x1000 ∷ 0x104A ∷ []; row = bare 0x1000 ∷ bare 0x104A ∷ []; key = 13 ∷ 0 ∷ 0 ∷ 0 ∷ 0 ∷ 1 ∷ 0 ∷ 0 ∷ 0 ∷ 0 ∷ [] };
+      is = Less;
+    }
+    -- "Keys, comparison and the book normalise first."
+    ∷ record {
+      first = one (0x1000 ∷ 0x1014 ∷ 0x1037 ∷ 0x103A ∷ []) (syllable 0x1000 no-medial no-vowel (plain 0x1014) dot ∷ []) 13 0 21 0 1;
+      second = one (0x1000 ∷ 0x1014 ∷ 0x103A ∷ 0x1037 ∷ []) (syllable 0x1000 no-medial no-vowel (plain 0x1014) dot ∷ []) 13 0 21 0 1;
+      is = Equal;
+    }
+    ∷ record { first = one (0x1025 ∷ 0x102E ∷ []) (bare 0x1026 ∷ []) 46 0 0 5 0; second = one (0x1026 ∷ []) (bare 0x1026 ∷ []) 46 0 0 5 0; is = Equal }
+    -- "1D00010000-0D00000000-2B001D0B00"
+    ∷ record {
+      first =
+          record {
+            word = 0x1010 ∷ 0x1000 ∷ 0x1039 ∷ 0x1000 ∷ 0x101E ∷ 0x102D ∷ 0x102F ∷ 0x101C ∷ 0x103A ∷ [];
+            row = syllable 0x1010 no-medial no-vowel (stacked 0x1000) no-tone ∷ bare 0x1000 ∷ syllable 0x101E no-medial vowel-i-u (plain 0x101C) no-tone ∷ [];
+            key = 0x1D ∷ 0 ∷ 1 ∷ 0 ∷ 0 ∷ 0x0D ∷ 0 ∷ 0 ∷ 0 ∷ 0 ∷ 0x2B ∷ 0 ∷ 0x1D ∷ 0x0B ∷ 0 ∷ [];
+          };
+      second = letter;
+      is = Greater;
+    }
+    ∷ []
+
+isStored : Example → Bool
+isStored e =
+    leb (length (e .word)) limit
+    && (every isAdmitted (e .word) && (isRowAfter no-final (e .row) && (sameList (join (e .row)) (storedForm (e .word)) && sameList (keyOf (e .row)) (e .key))))
+
+sameOrder : Order → Order → Bool
+sameOrder Less Less = true
+sameOrder Less Equal = false
+sameOrder Less Greater = false
+sameOrder Equal Less = false
+sameOrder Equal Equal = true
+sameOrder Equal Greater = false
+sameOrder Greater Less = false
+sameOrder Greater Equal = false
+sameOrder Greater Greater = true
+
+isRight : Pair → Bool
+isRight p =
+    isStored (p .first)
+    && (isStored (p .second)
+    && sameOrder (order (filed (p .first .row) (storedForm (p .first .word))) (filed (p .second .row) (storedForm (p .second .word)))) (p .is))
+
+pairs-right : T (every isRight pairs)
+unfolding pairs isStored sameOrder isRight weightsOf pick carriesMarks carriesFinal order orderWeights orderValues storedForm isRunMark rank goesBehind makesLongVowel makesLetter
+pairs-right = tt
+
+-- what the test says of a word
+pub record Stored (e : Example) : Type 0 where
+  pub stores : Stores (e .word) (length (e .row))
+  pub gives : Gives (e .row) (storedForm (e .word))
+  pub weighs : keyOf (e .row) ≡ e .key
+
+admitted-at : (f : ℕ → Bool) (word : List ℕ) → T (every f word) → (place : ℕ) → place < length word → T (f (getD word place 0))
+admitted-at f [] t place h = absurd (not-suc-le-zero h)
+admitted-at f (x ∷ word) t zero h = both-left (f x) (every f word) t
+admitted-at f (x ∷ word) t (suc place) h = admitted-at f word (both-right (f x) (every f word) t) place (le-of-suc-le-suc h)
+
+stored : (e : Example) → T (isStored e) → Stored e
+unfolding isStored
+stored e t =
+    let short = leb (length (e .word)) limit in
+    let admitted = every isAdmitted (e .word) in
+    let is = isRowAfter no-final (e .row) in
+    let joins = sameList (join (e .row)) (storedForm (e .word)) in
+    let weighs = sameList (keyOf (e .row)) (e .key) in
+    let rest : T (admitted && (is && (joins && weighs))) = both-right short (admitted && (is && (joins && weighs))) t in
+    let row : T (is && (joins && weighs)) = both-right admitted (is && (joins && weighs)) rest in
+    let last : T (joins && weighs) = both-right is (joins && weighs) row in
+    let fits = leb→le (length (e .word)) limit (both-left short (admitted && (is && (joins && weighs))) t) in
+    let all : T (every isAdmitted (e .word)) = both-left admitted (is && (joins && weighs)) rest in
+    let g : Gives (e .row) (storedForm (e .word)) =
+    record {
+      is-row = both-left is (joins && weighs) row;
+      joined = sameList-equal (join (e .row)) (storedForm (e .word)) (both-left joins weighs last);
+    } in
+    record {
+      stores =
+          record {
+            admissible = record { short = fits; admitted = admitted-at isAdmitted (e .word) all };
+            reads =
+                record {
+                  admissible =
+                      record {
+                        short = let s = stored-shorter (e .word) in omega arith;
+                        admitted = admitted-at isAdmitted (storedForm (e .word)) (stored-admitted (e .word) all);
+                      };
+                  row = e .row;
+                  gives = g;
+                  only = λ other h. only-row other (e .row) (storedForm (e .word)) h g;
+                  count = refl;
+                };
+          };
+      gives = g;
+      weighs = sameList-equal (keyOf (e .row)) (e .key) (both-right joins weighs last);
+    }
+
+same-order : (o p : Order) → T (sameOrder o p) → o ≡ p
+unfolding sameOrder
+same-order Less Less t = refl
+same-order Less Equal t = absurd t
+same-order Less Greater t = absurd t
+same-order Equal Less t = absurd t
+same-order Equal Equal t = refl
+same-order Equal Greater t = absurd t
+same-order Greater Less t = absurd t
+same-order Greater Equal t = absurd t
+same-order Greater Greater t = refl
+
+-- and of a pair: the words are in this order, and their keys are these
+pub record Right (p : Pair) : Type 0 where
+  pub ordered : Ordered (p .first .word) (p .second .word) (p .is)
+  pub first : Stored (p .first)
+  pub second : Stored (p .second)
+
+right : (p : Pair) → T (isRight p) → Right p
+unfolding isRight
+right p t =
+    let one-right = isStored (p .first) in
+    let other-right = isStored (p .second) in
+    let o = order (filed (p .first .row) (storedForm (p .first .word))) (filed (p .second .row) (storedForm (p .second .word))) in
+    let rest : T (other-right && sameOrder o (p .is)) = both-right one-right (other-right && sameOrder o (p .is)) t in
+    let a = stored (p .first) (both-left one-right (other-right && sameOrder o (p .is)) t) in
+    let b = stored (p .second) (both-left other-right (sameOrder o (p .is)) rest) in
+    record {
+      ordered =
+          ordered-by (p .first .word) (p .second .word) (length (p .first .row)) (length (p .second .row)) (a .stores) (b .stores) (p .first .row) (p .second .row)
+          (a .gives) (b .gives) (p .is) (same-order o (p .is) (both-right other-right (sameOrder o (p .is)) rest));
+      first = a;
+      second = b;
+    }
+
+pub pairs-in-order : All Right pairs
+pairs-in-order = every-all isRight Right right pairs pairs-right

@@ -1,0 +1,3 @@
+// Collation: the keys of words, and their comparison. Both normalise first.
+pub mod key; // key.rt: the key of a word
+pub mod compare; // compare.rt: two words in order

@@ -1,0 +1,5 @@
+pub mod Lexicographic
+pub mod OrderOfNumbers
+pub mod Passing
+pub mod Laws
+pub mod Weighted

@@ -1,0 +1,30 @@
+// The weights of document 01, "Weights", of a syllable by numbers.
+use formula::Syllable;
+use letters::weight::Weighed;
+ghost use mathlib.Core.Path.{_≡_};
+ghost use Rattle.weighing.specs.Weighed.{weightOr, weightsBy};
+
+// The weight, or what stands for it where there is none.
+fn weight_or(weighed: Weighed, other: u8) -> u8
+    ensures { λ r. ⌜ r ≡ weightOr weighed other ⌝ }
+{
+    let Weighed::Weight(weight) = weighed else {
+        return other;
+    };
+    weight
+}
+
+// The five weights in the order in which they are compared. An absent final has the number before the first letter's, which weighs nothing.
+pub fn weights_of(s: Syllable) -> [u8; 5]
+    ensures { λ r. ⌜ r ≡ weightsBy s ⌝ }
+{
+    let head = 0x1000 + s.head as u16;
+    let letter = 0x0FFF + s.letter as u16;
+    [
+        weight_or(letters::weight::head_weight(head), 0),
+        weight_or(letters::weight::medial_weight(s.medials), 0),
+        weight_or(letters::weight::final_weight(letter), 0),
+        weight_or(letters::weight::independent_vowel_weight(head), s.vowel),
+        s.tone,
+    ]
+}
