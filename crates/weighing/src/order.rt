@@ -39,13 +39,13 @@ pub fn order_bytes(first: &[u8], second: &[u8]) -> Order
 pub fn order_values(first: &[u16], second: &[u16]) -> Order
     ensures { λ r. ⌜ r ≡ orderValues (now (first .entry)) (now (second .entry)) ⌝ }
 {
-    let mut at = 0;
-    while at < first.len() && at < second.len() {
-        let order = order_numbers(first[at] as usize, second[at] as usize);
+    let mut place = 0;
+    while place < first.len() && place < second.len() {
+        let order = order_numbers(first[place] as usize, second[place] as usize);
         let Order::Equal = order else {
             return order;
         };
-        at += 1;
+        place += 1;
     }
     order_numbers(first.len(), second.len())
 }

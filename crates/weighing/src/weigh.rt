@@ -20,11 +20,9 @@ pub fn weights_of(s: Syllable) -> [u8; 5]
 {
     let head = 0x1000 + s.head as u16;
     let letter = 0x0FFF + s.letter as u16;
-    [
-        weight_or(letters::weight::head_weight(head), 0),
-        weight_or(letters::weight::medial_weight(s.medials), 0),
-        weight_or(letters::weight::final_weight(letter), 0),
-        weight_or(letters::weight::independent_vowel_weight(head), s.vowel),
-        s.tone,
-    ]
+    let by_head = weight_or(letters::weight::head_weight(head), 0);
+    let by_medials = weight_or(letters::weight::medial_weight(s.medials), 0);
+    let by_final = weight_or(letters::weight::final_weight(letter), 0);
+    let by_vowel = weight_or(letters::weight::independent_vowel_weight(head), s.vowel);
+    [by_head, by_medials, by_final, by_vowel, s.tone]
 }

@@ -13,10 +13,10 @@ use Rattle.weighing.proofs.order.order_values.Statement.{statement}
 use Rattle.weighing.proofs.order.order_values.Tie as tie
 
 abbrev Inv-loop : tie.InvT-loop
-Inv-loop first second at₀ at = AlikeTo orderNumbers first second at
+Inv-loop first second place₀ place = AlikeTo orderNumbers first second place
 
 abbrev μ-loop : tie.MeasureT-loop
-μ-loop first second at₀ at = length first - at
+μ-loop first second place₀ place = length first - place
 
 loop-holds : tie.Need-loop-holds Inv-loop μ-loop
 loop-holds c = start orderNumbers (c .before .before .args .first .now) (c .before .before .args .second .now)
@@ -28,7 +28,7 @@ shared-slice-read-order-numbers : tie.Need-shared-slice-read-order-numbers Inv-l
 shared-slice-read-order-numbers c = omega arith
 
 cast-order-numbers : tie.Need-cast-order-numbers Inv-loop μ-loop
-cast-order-numbers c = omega (arith, c .shared-slice-known3 .given (c .before .before .before .loop .at))
+cast-order-numbers c = omega (arith, c .shared-slice-known3 .given (c .before .before .before .loop .place))
 
 mul-order-numbers-2 : tie.Need-mul-order-numbers-2 Inv-loop μ-loop
 mul-order-numbers-2 c = omega arith
@@ -37,7 +37,7 @@ shared-slice-read-order-numbers-2 : tie.Need-shared-slice-read-order-numbers-2 I
 shared-slice-read-order-numbers-2 c = omega (arith, ltb-true)
 
 cast-order-numbers-2 : tie.Need-cast-order-numbers-2 Inv-loop μ-loop
-cast-order-numbers-2 c = omega (arith, c .shared-slice-known4 .given (c .before .before .before .before .loop .at))
+cast-order-numbers-2 c = omega (arith, c .shared-slice-known4 .given (c .before .before .before .before .loop .place))
 
 order-numbers-requires : tie.Need-order-numbers-requires Inv-loop μ-loop
 order-numbers-requires c κs = search needs
@@ -50,11 +50,11 @@ unfolding orderValues
 returns c =
     let a = c .before .before .before .before in
     let s = a .before .before .before .before .before .args in
-    differs orderNumbers (s .first .now) (s .second .now) (a .before .before .loop .at) 0 (a .before .before .loop .inv) (omega arith)
+    differs orderNumbers (s .first .now) (s .second .now) (a .before .before .loop .place) 0 (a .before .before .loop .inv) (omega arith)
     (omega (arith, ltb-true)) (c .before .order-numbers .result) (c .before .order-numbers .ensures) (c .match .keys2)
 
-add-at : tie.Need-add-at Inv-loop μ-loop
-add-at c = omega arith
+add-place : tie.Need-add-place Inv-loop μ-loop
+add-place c = omega arith
 
 loop-less : tie.Need-loop-less Inv-loop μ-loop
 loop-less c = omega arith
@@ -63,7 +63,7 @@ loop-again : tie.Need-loop-again Inv-loop μ-loop
 loop-again c =
     let a = c .before .before .before .before .before in
     let s = a .before .before .before .before .before .args in
-    next orderNumbers (s .first .now) (s .second .now) (a .before .before .loop .at) 0 (a .before .before .loop .inv) (omega arith) (omega (arith, ltb-true))
+    next orderNumbers (s .first .now) (s .second .now) (a .before .before .loop .place) 0 (a .before .before .loop .inv) (omega arith) (omega (arith, ltb-true))
     (sym (c .before .before .order-numbers .ensures) ∙ c .enum-told .given .1)
 
 order-numbers-requires-2 : tie.Need-order-numbers-requires-2 Inv-loop μ-loop
@@ -75,7 +75,7 @@ returns-2 c =
     let a = c .before in
     let s = a .before .before .before .before .args in
     c .order-numbers2 .ensures
-    ∙ ended orderNumbers (s .first .now) (s .second .now) (a .before .loop .at) (a .before .loop .inv)
+    ∙ ended orderNumbers (s .first .now) (s .second .now) (a .before .loop .place) (a .before .loop .inv)
     (⊎-elim (λ w. inr (omega (arith, ltb-false, w .1 .left))) (λ w. inl (omega (arith, w .left))) (a .loop-test .came))
 
 pub order-values-spec : {M : Type 1} → statement M
@@ -94,7 +94,7 @@ order-values-spec =
     order-numbers-requires
     enum-told
     returns
-    add-at
+    add-place
     loop-less
     loop-again
     order-numbers-requires-2
