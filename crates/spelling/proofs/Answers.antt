@@ -1,0 +1,83 @@
+-- A reading's syllables, spelled by their numbers, are the spelled syllables of the row that gives the word, so the sizes say which case of `SpellRight` holds.
+-- Assumes nothing.
+use mathlib.Core.Path.{_≡_, refl, ap, sym, subst, _∙_}
+use mathlib.Core.List.{List, [], _∷_, _++_, map}
+use Prim.Native.Nat.{ℕ, suc, _-_, _≤_, _<_}
+use native.Mathlib.Omega.{arith}
+use lib.ListN.{length, take, length-append, length-map}
+use lib.Seq.{take-at}
+use Rattle.formula.specs.Limits.{limit}
+use Rattle.formula.specs.Syllable.{no-final}
+use Rattle.formula.specs.Row.{Row}
+use Rattle.formula.specs.Numbers.{numbersOf}
+use Rattle.formula.specs.Spelled.{spelled}
+use Rattle.formula.specs.declared.Syllable.{Syllable as Numbers}
+use Rattle.reading.specs.Answer.{outcomeOf as readOutcomeOf, Reads, nothings, SyllablesFor, ReadRight}
+use Rattle.reading.specs.declared.read.ReadAnswer.{ReadAnswer}
+use Rattle.reading.specs.declared.read.ReadAnswer.the-variants.{Syllables}
+use Rattle.reading.specs.declared.read.Reading.{Reading}
+use Rattle.reading.proofs.Recorded.{count-limit, reads}
+use Rattle.spelling.specs.Spell.{joined, spells, refuses, ReadAs, Lists, lists, SpellRight, spelled-out, values-too-short, starts-too-short}
+use Rattle.spelling.specs.Plain.{spelledBy, spelledFront}
+use Rattle.spelling.specs.Put.{Counted, Room, SyllablesPut}
+use Rattle.spelling.proofs.Plains.{spelled-row}
+
+-- a row has as many spelled syllables as syllables
+pub spelled-count : (row : Row) → length (spelled row) ≡ length row
+spelled-count [] = refl
+spelled-count (s ∷ row) = ap suc (spelled-count row)
+
+-- what is known of a reading that has n syllables
+module _ (word : List ℕ) (reading : Reading) (right : ReadRight word reading) (n : ℕ) (e : reading .answer ≡ Syllables n) where
+  read-row : Reads word n
+  read-row = reads word reading right n e
+
+  held-syllables : reading .syllables ≡ map numbersOf (read-row .row) ++ nothings (limit - n)
+  held-syllables =
+      subst (λ (a : ReadAnswer). SyllablesFor word (readOutcomeOf a) (reading .syllables)) e (right .syllables) (read-row .row) (read-row .gives)
+
+  held-count : length (map numbersOf (read-row .row)) ≡ n
+  held-count = length-map (read-row .row) numbersOf ∙ read-row .count
+
+  read-as : ReadAs word (read-row .row)
+  read-as = record { admissible = read-row .admissible; gives = read-row .gives }
+
+  -- the first n syllables are those of the row
+  front-spelled : spelledFront (reading .syllables) n ≡ spelled (read-row .row)
+  front-spelled =
+      ap (λ (l : List Numbers). spelledFront l n) held-syllables
+      ∙ ap (map spelledBy) (take-at (map numbersOf (read-row .row)) (nothings (limit - n)) n held-count)
+      ∙ spelled-row no-final (read-row .row) (read-row .gives .is-row)
+
+  counted : length (spelled (read-row .row)) ≡ n
+  counted = spelled-count (read-row .row) ∙ read-row .count
+
+  pub syllables-held : (n ≤ length (reading .syllables)) × (n ≤ limit)
+  syllables-held = (
+    omega (arith, ap length held-syllables, length-append (map numbersOf (read-row .row)) (nothings (limit - n)), held-count),
+    count-limit word n read-row,
+  )
+
+  module _ (values starts : List ℕ) (size : ℕ) (sized : Counted (reading .syllables) n size) where
+    size-is : size ≡ length (joined (spelled (read-row .row)))
+    size-is = sized ∙ ap (λ (l : List (List ℕ)). length (joined l)) front-spelled
+
+    -- the first list is too short
+    pub spell-values-short : length values < size → SpellRight word (lists values starts) (lists values starts) (refuses 5 size)
+    spell-values-short few = rw size-is (values-too-short read-as (omega (arith, size-is)) refl)
+
+    -- the second is
+    pub spell-starts-short : size ≤ length values → length starts < n → SpellRight word (lists values starts) (lists values starts) (refuses 5 n)
+    spell-starts-short enough few = rw (← counted) (starts-too-short read-as (omega (arith, size-is)) (omega (arith, counted)) refl)
+
+    -- both have room
+    pub spell-room : size ≤ length values → n ≤ length starts → Room (reading .syllables) n values starts
+    spell-room enough more =
+        record { held = syllables-held .0; short = syllables-held .1; values-fit = omega (arith, sized); starts-fit = more }
+
+    pub spell-done : size ≤ length values → n ≤ length starts → (after : Lists) → SyllablesPut (reading .syllables) n (lists values starts) after
+        → SpellRight word (lists values starts) after (spells size n)
+    spell-done enough more after p =
+        rw (← counted, size-is)
+        (spelled-out read-as (omega (arith, size-is)) (omega (arith, counted))
+        (record { values = rw (← front-spelled) (p .values); starts = rw (counted, ← front-spelled) (p .starts) }))

@@ -1,0 +1,79 @@
+-- The promise of spelling out fixes the outcome and both lists: one row gives the word, and the cases shut each other out.
+-- Assumes nothing.
+use mathlib.Core.Path.{_≡_, refl, ap, sym, _∙_}
+use mathlib.Core.List.{List}
+use Prim.Native.Nat.{ℕ, _≤_, _<_}
+use native.Mathlib.Omega.{arith}
+use lib.ListN.{length}
+use Rattle.formula.specs.Row.{Row}
+use Rattle.formula.specs.Spelled.{spelled}
+use Rattle.rows.proofs.Viable.{only-row}
+use Rattle.reading.specs.Answer.{RefusedWith, Outcome as ReadOutcome, refuses as turns, accepts}
+use Rattle.reading.proofs.Answered.{refused-no-row}
+use Rattle.reading.proofs.Determined.{answers-alike}
+use Rattle.spelling.specs.Spell.{joined, Outcome, refuses, ReadAs, Lists, lists, Written, SpellRight, spelled-out, word-refused, values-too-short, starts-too-short}
+
+-- two outcomes of spelling the same word to the same lists are the same, and so is what they leave there
+pub record Same (first second : Outcome) (after final : Lists) : Type 0 where
+  pub outcome : first ≡ second
+  pub left : after ≡ final
+
+same-lists : (a b : Lists) → a .values ≡ b .values → a .starts ≡ b .starts → a ≡ b
+same-lists a b e f = ap (λ (l : List ℕ). lists l (a .starts)) e ∙ ap (lists (b .values)) f
+
+module _ (word : List ℕ) where
+  same-row : (r s : Row) → ReadAs word r → ReadAs word s → r ≡ s
+  same-row r s p q = only-row r s word (p .gives) (q .gives)
+
+  refused-not-read : (number place : ℕ) (row : Row) → RefusedWith word number place → ReadAs word row → ⊥
+  refused-not-read number place row w p = refused-no-row word number place w (p .admissible) row (p .gives)
+
+  same-refusal : (n p m q : ℕ) → RefusedWith word n p → RefusedWith word m q → refuses n p ≡ refuses m q
+  same-refusal n p m q a b = ap turned (answers-alike word (turns n p) (turns m q) a b)
+    where
+      turned : ReadOutcome → Outcome
+      turned (accepts k) = refuses 0 0
+      turned (turns k l) = refuses k l
+
+module _ (word : List ℕ) (before after final : Lists) where
+  pub spell-determined : (first second : Outcome) → SpellRight word before after first → SpellRight word before final second → Same first second after final
+  spell-determined first second (spelled-out {row = r} p l k e) (spelled-out {row = s} q m j f) =
+      let one : r ≡ s = same-row word r s p q in
+      record { outcome = rw one; left = same-lists after final (e .values ∙ rw one (sym (f .values))) (e .starts ∙ rw one (sym (f .starts))) }
+  spell-determined first second (spelled-out {row = r} p l k e) (word-refused w f) = absurd (refused-not-read word _ _ r w p)
+  spell-determined first second (spelled-out {row = r} p l k e) (values-too-short {row = s} q m f) =
+      let one : r ≡ s = same-row word r s p q in
+      let z : ⊥ = omega (arith, ap (λ (t : Row). length (joined (spelled t))) one) in
+      absurd z
+  spell-determined first second (spelled-out {row = r} p l k e) (starts-too-short {row = s} q m j f) =
+      let one : r ≡ s = same-row word r s p q in
+      let z : ⊥ = omega (arith, ap (λ (t : Row). length (spelled t)) one) in
+      absurd z
+  spell-determined first second (word-refused w e) (spelled-out {row = s} q m j f) = absurd (refused-not-read word _ _ s w q)
+  spell-determined first second (word-refused w e) (word-refused v f) = record { outcome = same-refusal word _ _ _ _ w v; left = e ∙ sym f }
+  spell-determined first second (word-refused w e) (values-too-short {row = s} q m f) = absurd (refused-not-read word _ _ s w q)
+  spell-determined first second (word-refused w e) (starts-too-short {row = s} q m j f) = absurd (refused-not-read word _ _ s w q)
+  spell-determined first second (values-too-short {row = r} p l e) (spelled-out {row = s} q m j f) =
+      let one : r ≡ s = same-row word r s p q in
+      let z : ⊥ = omega (arith, ap (λ (t : Row). length (joined (spelled t))) one) in
+      absurd z
+  spell-determined first second (values-too-short {row = r} p l e) (word-refused w f) = absurd (refused-not-read word _ _ r w p)
+  spell-determined first second (values-too-short {row = r} p l e) (values-too-short {row = s} q m f) =
+      let one : r ≡ s = same-row word r s p q in
+      record { outcome = rw one; left = e ∙ sym f }
+  spell-determined first second (values-too-short {row = r} p l e) (starts-too-short {row = s} q m j f) =
+      let one : r ≡ s = same-row word r s p q in
+      let z : ⊥ = omega (arith, ap (λ (t : Row). length (joined (spelled t))) one) in
+      absurd z
+  spell-determined first second (starts-too-short {row = r} p l k e) (spelled-out {row = s} q m j f) =
+      let one : r ≡ s = same-row word r s p q in
+      let z : ⊥ = omega (arith, ap (λ (t : Row). length (spelled t)) one) in
+      absurd z
+  spell-determined first second (starts-too-short {row = r} p l k e) (word-refused w f) = absurd (refused-not-read word _ _ r w p)
+  spell-determined first second (starts-too-short {row = r} p l k e) (values-too-short {row = s} q m f) =
+      let one : r ≡ s = same-row word r s p q in
+      let z : ⊥ = omega (arith, ap (λ (t : Row). length (joined (spelled t))) one) in
+      absurd z
+  spell-determined first second (starts-too-short {row = r} p l k e) (starts-too-short {row = s} q m j f) =
+      let one : r ≡ s = same-row word r s p q in
+      record { outcome = rw one; left = e ∙ sym f }

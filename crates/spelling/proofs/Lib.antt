@@ -1,0 +1,8 @@
+pub mod Plains
+pub mod Fronts
+pub mod Answers
+pub mod Determined
+pub mod Admitted
+pub mod Laws
+pub mod Longest
+pub mod RoundTrip

@@ -1,0 +1,87 @@
+// Words spelled out: each syllable by itself, with its final as a letter and 103A.
+use formula::Syllable;
+use formula::Word;
+use reading::read::ReadAnswer;
+use refusals::Refusal;
+ghost use mathlib.Core.Path.{_≡_};
+ghost use Prim.Native.Nat.{_≤_};
+ghost use lib.ListN.{length};
+ghost use Rattle.spelling.specs.Plain.{plainLink, plainBytes, spelledFront};
+ghost use Rattle.spelling.specs.Put.{Counted, Room, SyllablesPut};
+ghost use Rattle.spelling.specs.Spell.{outcomeOf, lists, SpellRight};
+
+// How many values and how many starts were written, or why none was.
+pub enum SpellAnswer {
+    Spelled { values: usize, starts: usize },
+    Refused(Refusal),
+}
+
+// The link of a final that is spelled: plain, where there is one.
+fn plain_link(link: u8) -> u8
+    ensures { λ r. ⌜ r ≡ plainLink link ⌝ }
+{
+    if 1 < link { 1 } else { link }
+}
+
+// The record of a syllable whose final is made plain.
+fn plain_record(syllable: Syllable) -> [u8; 7]
+    ensures { λ r. ⌜ r ≡ plainBytes syllable ⌝ }
+{
+    let mut bytes = reading::records::bytes_of(syllable);
+    bytes[5] = plain_link(syllable.link);
+    bytes
+}
+
+// How many values the first syllables are spelled with.
+fn measure(syllables: [Syllable; Word::LIMIT], count: usize) -> usize
+    requires { ⌜ (count ≤ length syllables) × (count ≤ 64) ⌝ }
+    ensures { λ r. ⌜ Counted syllables count r ⌝ }
+{
+    let mut size = 0;
+    let mut number = 0;
+    while number < count {
+        size += writing::row::part_size(plain_record(syllables[number]));
+        number += 1;
+    }
+    size
+}
+
+// Writes the first syllables, spelled, to one list, and the place where each begins to the other.
+fn put(syllables: [Syllable; Word::LIMIT], count: usize, values: &mut [u16], starts: &mut [u16])
+    requires { ⌜ Room syllables count (now values) (now starts) ⌝ }
+    ensures { λ _. ⌜ SyllablesPut syllables count (lists (now (values .entry)) (now (starts .entry))) (lists (now (values .exit)) (now (starts .exit))) ⌝ }
+{
+    let mut at = 0;
+    let mut number = 0;
+    while number < count {
+        starts[number] = at as u16;
+        at = writing::row::put_part(values, at, 0, plain_record(syllables[number]));
+        number += 1;
+    }
+}
+
+// Writes a word's spelled syllables to the front of `values`, and the place there where each begins to the front of `starts`.
+pub fn spell(word: &[u16], values: &mut [u16], starts: &mut [u16]) -> SpellAnswer
+    ensures { λ r. ⌜ SpellRight (now (word .entry)) (lists (now (values .entry)) (now (starts .entry))) (lists (now (values .exit)) (now (starts .exit))) (outcomeOf r) ⌝ }
+{
+    let reading = reading::read::read(word);
+    let answer = reading.answer;
+    match answer {
+        ReadAnswer::Refused(refusal) => SpellAnswer::Refused(refusal),
+        ReadAnswer::Syllables(count) => {
+            let syllables = reading.syllables;
+            let size = measure(syllables, count);
+            if values.len() < size {
+                return SpellAnswer::Refused(Refusal::OutputTooShort(size));
+            }
+            if starts.len() < count {
+                return SpellAnswer::Refused(Refusal::OutputTooShort(count));
+            }
+            put(syllables, count, values, starts);
+            SpellAnswer::Spelled {
+                values: size,
+                starts: count,
+            }
+        }
+    }
+}
