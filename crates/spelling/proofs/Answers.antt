@@ -1,10 +1,10 @@
 -- A reading's syllables, spelled by their numbers, are the spelled syllables of the row that gives the word, so the sizes say which case of `SpellRight` holds.
 -- Assumes nothing.
-use mathlib.Core.Path.{_≡_, refl, ap, sym, subst, _∙_}
+use mathlib.Core.Path.{_≡_, refl, ap, subst, _∙_}
 use mathlib.Core.List.{List, [], _∷_, _++_, map}
 use Prim.Native.Nat.{ℕ, suc, _-_, _≤_, _<_}
 use native.Mathlib.Omega.{arith}
-use lib.ListN.{length, take, length-append, length-map}
+use lib.ListN.{length, length-append, length-map}
 use lib.Seq.{take-at}
 use Rattle.formula.specs.Limits.{limit}
 use Rattle.formula.specs.Syllable.{no-final}
@@ -12,12 +12,14 @@ use Rattle.formula.specs.Row.{Row}
 use Rattle.formula.specs.Numbers.{numbersOf}
 use Rattle.formula.specs.Spelled.{spelled}
 use Rattle.formula.specs.declared.Syllable.{Syllable as Numbers}
-use Rattle.reading.specs.Answer.{outcomeOf as readOutcomeOf, Reads, nothings, SyllablesFor, ReadRight}
+use Rattle.refusals.specs.Refusal.{numberOf, placeOf}
+use Rattle.refusals.specs.declared.Refusal.{Refusal}
+use Rattle.reading.specs.Answer.{outcomeOf as readOutcomeOf, Reads, Answers, nothings, SyllablesFor, ReadRight}
 use Rattle.reading.specs.declared.read.ReadAnswer.{ReadAnswer}
-use Rattle.reading.specs.declared.read.ReadAnswer.the-variants.{Syllables}
+use Rattle.reading.specs.declared.read.ReadAnswer.the-variants.{Syllables, Refused as Turned}
 use Rattle.reading.specs.declared.read.Reading.{Reading}
 use Rattle.reading.proofs.Recorded.{count-limit, reads}
-use Rattle.spelling.specs.Spell.{joined, spells, refuses, ReadAs, Lists, lists, SpellRight, spelled-out, values-too-short, starts-too-short}
+use Rattle.spelling.specs.Spell.{joined, spells, refuses, ReadAs, Lists, lists, SpellRight, spelled-out, word-refused, values-too-short, starts-too-short}
 use Rattle.spelling.specs.Plain.{spelledBy, spelledFront}
 use Rattle.spelling.specs.Put.{Counted, Room, SyllablesPut}
 use Rattle.spelling.proofs.Plains.{spelled-row}
@@ -26,6 +28,11 @@ use Rattle.spelling.proofs.Plains.{spelled-row}
 pub spelled-count : (row : Row) → length (spelled row) ≡ length row
 spelled-count [] = refl
 spelled-count (s ∷ row) = ap suc (spelled-count row)
+
+-- a reading that refuses the word
+pub spell-refused : (word : List ℕ) (reading : Reading) → ReadRight word reading → (refusal : Refusal) → reading .answer ≡ Turned refusal → (lent : Lists)
+    → SpellRight word lent lent (refuses (numberOf refusal) (placeOf refusal))
+spell-refused word reading right refusal e lent = word-refused (subst (λ (a : ReadAnswer). Answers word (readOutcomeOf a)) e (right .answers)) refl
 
 -- what is known of a reading that has n syllables
 module _ (word : List ℕ) (reading : Reading) (right : ReadRight word reading) (n : ℕ) (e : reading .answer ≡ Syllables n) where
@@ -52,11 +59,11 @@ module _ (word : List ℕ) (reading : Reading) (right : ReadRight word reading) 
   counted : length (spelled (read-row .row)) ≡ n
   counted = spelled-count (read-row .row) ∙ read-row .count
 
-  pub syllables-held : (n ≤ length (reading .syllables)) × (n ≤ limit)
-  syllables-held = (
-    omega (arith, ap length held-syllables, length-append (map numbersOf (read-row .row)) (nothings (limit - n)), held-count),
-    count-limit word n read-row,
-  )
+  pub syllables-held : n ≤ length (reading .syllables)
+  syllables-held = omega (arith, ap length held-syllables, length-append (map numbersOf (read-row .row)) (nothings (limit - n)), held-count)
+
+  pub syllables-few : n ≤ limit
+  syllables-few = count-limit word n read-row
 
   module _ (values starts : List ℕ) (size : ℕ) (sized : Counted (reading .syllables) n size) where
     size-is : size ≡ length (joined (spelled (read-row .row)))
@@ -73,7 +80,7 @@ module _ (word : List ℕ) (reading : Reading) (right : ReadRight word reading) 
     -- both have room
     pub spell-room : size ≤ length values → n ≤ length starts → Room (reading .syllables) n values starts
     spell-room enough more =
-        record { held = syllables-held .0; short = syllables-held .1; values-fit = omega (arith, sized); starts-fit = more }
+        record { held = syllables-held; short = syllables-few; values-fit = omega (arith, sized); starts-fit = more }
 
     pub spell-done : size ≤ length values → n ≤ length starts → (after : Lists) → SyllablesPut (reading .syllables) n (lists values starts) after
         → SpellRight word (lists values starts) after (spells size n)

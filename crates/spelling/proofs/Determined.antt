@@ -1,8 +1,8 @@
 -- The promise of spelling out fixes the outcome and both lists: one row gives the word, and the cases shut each other out.
 -- Assumes nothing.
-use mathlib.Core.Path.{_≡_, refl, ap, sym, _∙_}
+use mathlib.Core.Path.{_≡_, ap, sym, _∙_}
 use mathlib.Core.List.{List}
-use Prim.Native.Nat.{ℕ, _≤_, _<_}
+use Prim.Native.Nat.{ℕ}
 use native.Mathlib.Omega.{arith}
 use lib.ListN.{length}
 use Rattle.formula.specs.Row.{Row}
@@ -11,7 +11,7 @@ use Rattle.rows.proofs.Viable.{only-row}
 use Rattle.reading.specs.Answer.{RefusedWith, Outcome as ReadOutcome, refuses as turns, accepts}
 use Rattle.reading.proofs.Answered.{refused-no-row}
 use Rattle.reading.proofs.Determined.{answers-alike}
-use Rattle.spelling.specs.Spell.{joined, Outcome, refuses, ReadAs, Lists, lists, Written, SpellRight, spelled-out, word-refused, values-too-short, starts-too-short}
+use Rattle.spelling.specs.Spell.{joined, Outcome, refuses, ReadAs, Lists, lists, SpellRight, spelled-out, word-refused, values-too-short, starts-too-short}
 
 -- two outcomes of spelling the same word to the same lists are the same, and so is what they leave there
 pub record Same (first second : Outcome) (after final : Lists) : Type 0 where

@@ -1,25 +1,23 @@
 -- The first syllables of a list, spelled: one more of them is one more part behind the values so far, which begins where these end.
 -- Assumes nothing.
 use mathlib.Core.Path.{_≡_, refl, ap, sym, _∙_}
-use mathlib.Core.List.{List, [], _∷_, _++_, map, map-append, append-nil, append-assoc}
+use mathlib.Core.List.{List, [], _∷_, _++_, map-append, append-nil, append-assoc}
 use Prim.Native.Nat.{ℕ, zero, suc, _+_, _*_, _≤_, _<_}
 use native.Mathlib.Nat.{zero-add, le-of-suc-le-suc, not-suc-le-zero}
 use native.Mathlib.Numerals.{add-one}
 use native.Mathlib.Omega.{arith}
 use lib.ListN.{length, getD, take, drop, set, length-append, length-map, length-drop}
-use lib.Seq.{take-suc, drop-cons, set-at, length-take-le, length-front, append-snoc}
-use Rattle.formula.specs.Syllable.{no-final, Syllable, syllable, part}
-use Rattle.formula.specs.Limits.{limit}
+use lib.Seq.{take-suc, drop-cons, set-at, length-take-le, append-snoc}
+use Rattle.formula.specs.Syllable.{no-final, part}
 use Rattle.formula.specs.declared.Syllable.{Syllable as Numbers}
-use Rattle.letters.specs.Choice.{pick}
 use Rattle.writing.specs.Decode.{syllableOf}
 use Rattle.writing.specs.Size.{PartSize}
-use Rattle.writing.specs.Put.{headAfter, partAfter, PartPut}
+use Rattle.writing.specs.Put.{partAfter, PartPut}
 use Rattle.writing.proofs.Putting.{put-length, put-behind}
 use Rattle.spelling.specs.Spell.{joined, startsFrom, spelledStarts, lists}
 use Rattle.spelling.specs.Plain.{plainBytes, spelledBy, spelledFront}
-use Rattle.spelling.specs.Put.{Counted, Room, SyllablesPut}
-use Rattle.spelling.proofs.Plains.{by-small}
+use Rattle.spelling.specs.Put.{Counted, SyllableRoom, SyllablePut, Room, SyllablesPut}
+use Rattle.spelling.proofs.Plains.{part-spelled, by-small}
 
 joined-more : (parts : List (List ℕ)) (more : List ℕ) → joined (parts ++ (more ∷ [])) ≡ joined parts ++ more
 joined-more [] more = append-nil more
@@ -91,10 +89,14 @@ size-grows (s ∷ syllables) (suc few) (suc many) h =
       size-grows syllables few many (le-of-suc-le-suc h),
     )
 
--- a part with nothing before it
-part-first : (s : Syllable) → partAfter 0 s ≡ part no-final s
-unfolding partAfter headAfter pick
-part-first (syllable h m v f t) = refl
+-- one syllable by its record: there is room for its part, and it is put
+module _ (syllable : Numbers) (number at : ℕ) (values starts bytes : List ℕ) (is : bytes ≡ plainBytes syllable) where
+  pub part-room : SyllableRoom syllable number at values starts → at + length (partAfter 0 (syllableOf bytes)) ≤ length values
+  part-room r = omega (arith, r .values-fit, ap length (part-spelled syllable bytes is))
+
+  pub part-put : (after : List ℕ) (behind : ℕ) → PartPut values after at (partAfter 0 (syllableOf bytes)) behind
+      → SyllablePut syllable number at (lists values starts) (lists after (set starts number at)) behind
+  part-put after behind p = record { start = refl; values = rw (← part-spelled syllable bytes is) p }
 
 -- the pass that writes: both lists have the fronts of the syllables so far
 pub record Filled (syllables : List Numbers) (count : ℕ) (values starts newValues newStarts : List ℕ) (at number : ℕ) : Type 0 where
@@ -134,36 +136,37 @@ module _ (syllables : List Numbers) (count : ℕ) (values starts newValues newSt
       let same : number ≡ count = (let w = p .within in omega arith) in
       rw (← same) (record { values = p .values-put .put ∙ rw zero-add; starts = p .starts-put })
 
-  module _ (next : number < count) (d : Numbers) (bytes : List ℕ) (is : bytes ≡ plainBytes (getD syllables number d)) where
-    here : partAfter 0 (syllableOf bytes) ≡ spelledBy (getD syllables number d)
-    unfolding spelledBy
-    here = part-first (syllableOf bytes) ∙ ap (λ (l : List ℕ). part no-final (syllableOf l)) is
-
+  module _ (next : number < count) (d : Numbers) where
     inside : number < length syllables
     inside = let h = r .held in omega arith
 
-    fits : length (joined (spelledFront syllables number)) + length (partAfter 0 (syllableOf bytes)) ≤ length values
-    fits =
-        omega (arith, ap length here, size-more syllables number d inside, size-grows syllables (number + 1) count (omega arith), r .values-fit)
+    fits : length (joined (spelledFront syllables number)) + length (spelledBy (getD syllables number d)) ≤ length values
+    fits = omega (arith, size-more syllables number d inside, size-grows syllables (number + 1) count (omega arith), r .values-fit)
 
-    -- there is room for the part
-    pub filled-room : at + length (partAfter 0 (syllableOf bytes)) ≤ length newValues
-    filled-room = omega (arith, fits, values-length, p .values-put .behind-it)
+    -- there is room for the next syllable
+    pub filled-room : SyllableRoom (getD syllables number d) number at newValues newStarts
+    filled-room =
+        record {
+          start-fits = omega (arith, r .starts-fit, starts-same);
+          values-fit = omega (arith, fits, values-length, p .values-put .behind-it);
+          small = omega (arith, p .small, r .short);
+        }
 
     -- one syllable more
-    pub filled-more : (after : List ℕ) (behind : ℕ) → PartPut newValues after at (partAfter 0 (syllableOf bytes)) behind
-        → Filled syllables count values starts after (set newStarts number at) behind (number + 1)
-    filled-more after behind q =
+    pub filled-more : (lastValues lastStarts : List ℕ) (behind : ℕ)
+        → SyllablePut (getD syllables number d) number at (lists newValues newStarts) (lists lastValues lastStarts) behind
+        → Filled syllables count values starts lastValues lastStarts behind (number + 1)
+    filled-more lastValues lastStarts behind q =
         let place : at ≡ length (joined (spelledFront syllables number)) = omega (arith, p .values-put .behind-it) in
         record {
           within = omega arith;
           values-put =
-              rw (values-more syllables number d inside, ← here)
-              (put-behind values newValues 0 (joined (spelledFront syllables number)) at (p .values-put) after (partAfter 0 (syllableOf bytes)) behind (omega (arith, fits)) q);
+              rw (values-more syllables number d inside)
+              (put-behind values newValues 0 (joined (spelledFront syllables number)) at (p .values-put) lastValues (spelledBy (getD syllables number d)) behind (omega (arith, fits)) (q .values));
           starts-put =
-              ap (λ (l : List ℕ). set l number at) (p .starts-put)
+              q .start ∙ ap (λ (l : List ℕ). set l number at) (p .starts-put)
               ∙ ap (λ (l : List ℕ). set (spelledStarts (spelledFront syllables number) ++ l) number at) (drop-cons starts number 0 (let f = r .starts-fit in omega arith))
               ∙ set-at (spelledStarts (spelledFront syllables number)) (getD starts number 0) (drop (suc number) starts) at number starts-number
               ∙ rw (places-more syllables number d inside, ← place, add-one) (sym (append-snoc (spelledStarts (spelledFront syllables number)) at (drop (suc number) starts)));
-          small = omega (arith, p .small, q .behind-it, ap length here, by-small (getD syllables number d));
+          small = omega (arith, p .small, q .values .behind-it, by-small (getD syllables number d));
         }

@@ -1,9 +1,8 @@
 -- Each spelled syllable is a word by itself, since a plain final asks nothing of what follows, and it stands where its start says.
 -- Assumes nothing.
 use mathlib.Core.Path.{_≡_, refl, ap, sym, _∙_}
-use mathlib.Core.Bool.{_&&_, true}
 use mathlib.Core.List.{List, [], _∷_, _++_, append-nil, append-assoc}
-use Prim.Native.Nat.{ℕ, zero, suc, _+_, _≤_, _<_}
+use Prim.Native.Nat.{ℕ, zero, suc, _+_, _<_}
 use native.Mathlib.Nat.{le-of-suc-le-suc, not-suc-le-zero}
 use native.Mathlib.Omega.{arith}
 use lib.Dec.{T}
@@ -14,7 +13,7 @@ use Rattle.formula.specs.Syllable.{Final, no-final, plain, stacked, kinzi, grea
 use Rattle.formula.specs.Row.{Row, isRowAfter, IsRow, Gives}
 use Rattle.formula.specs.Record.{finalNumberOf}
 use Rattle.formula.specs.Spelled.{spelledOf, spelled}
-use Rattle.rows.proofs.Complete.{First, first}
+use Rattle.rows.proofs.Complete.{first}
 use Rattle.reading.specs.Answer.{Reads}
 use Rattle.spelling.specs.Spell.{joined, startsFrom, spelledStarts}
 use Rattle.spelling.specs.Plain.{plainFinal, plainOf}

@@ -1,17 +1,17 @@
 -- No word spells to more than three values for each of its own less two: a spelled syllable has at most two values more than its part, and the last has none.
 -- Assumes nothing.
-use mathlib.Core.Path.{_≡_, refl, ap, _∙_}
+use mathlib.Core.Path.{_≡_, refl}
 use mathlib.Core.List.{List, [], _∷_, _++_}
 use Prim.Native.Nat.{ℕ, _+_, _*_, _-_, _≤_}
 use native.Mathlib.Omega.{arith}
 use lib.Dec.{T}
 use lib.ListN.{length, replicate, length-append}
-use Rattle.letters.specs.Marks.{no-medial, medialText, no-vowel, vowelText, no-tone, toneText}
+use Rattle.letters.specs.Marks.{no-medial, no-vowel, no-tone}
 use Rattle.formula.specs.Limits.{limit}
 use Rattle.formula.specs.Syllable.{Final, no-final, plain, stacked, kinzi, great-sa, Syllable, syllable, bare, finalOf, carriesMarks, carriesFinal, isClosed, finalText, part}
 use Rattle.formula.specs.Row.{Row, isRowAfter, IsRow, joinAfter, join, Gives}
 use Rattle.formula.specs.Spelled.{spelledFinal, spelledOf, spelled}
-use Rattle.rows.proofs.Complete.{First, first}
+use Rattle.rows.proofs.Complete.{first}
 use Rattle.spelling.specs.Spell.{joined, spelledLimit}
 
 final-grows : (f : Final) → length (spelledFinal f) ≤ length (finalText f) + 2

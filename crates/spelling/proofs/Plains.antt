@@ -1,7 +1,7 @@
 -- A syllable whose final is made plain is a syllable, its part is the spelled syllable, and its record is the syllable's with a plain link.
 -- Assumes nothing.
-use mathlib.Core.Path.{_≡_, refl, ap, sym, _∙_}
-use mathlib.Core.Bool.{Bool, true, false, not, _&&_, _||_}
+use mathlib.Core.Path.{_≡_, refl, ap, _∙_}
+use mathlib.Core.Bool.{false, _&&_}
 use mathlib.Core.List.{List, [], _∷_, map}
 use Prim.Native.Nat.{ℕ, _≤_}
 use native.Mathlib.Omega.{arith}
@@ -9,22 +9,22 @@ use lib.Dec.{T}
 use lib.ListN.{length, set, length-append}
 use Rattle.letters.specs.Choice.{pick}
 use Rattle.letters.specs.Weights.{isFinalLetter}
-use Rattle.letters.specs.Marks.{MedialGroup, Vowel, ToneMark, medialText, vowelText, toneText}
+use Rattle.letters.specs.Marks.{MedialGroup, Vowel, ToneMark}
 use Rattle.formula.proofs.Lists.{both-left}
-use Rattle.formula.specs.Syllable.{Final, no-final, plain, stacked, kinzi, great-sa, Syllable, syllable, finalOf, carriesFinal, isNoFinal, isNoTone, isFinal, takesTone, isSyllable, finalText, part}
+use Rattle.formula.specs.Syllable.{Final, no-final, plain, stacked, kinzi, great-sa, Syllable, syllable, finalOf, carriesFinal, isNoFinal, isNoTone, isSyllable, part}
 use Rattle.formula.specs.Row.{Row, isRowAfter}
-use Rattle.formula.specs.Record.{linkOf, recordOf}
+use Rattle.formula.specs.Record.{recordOf}
 use Rattle.formula.specs.Numbers.{numbersOf}
 use Rattle.formula.specs.Spelled.{spelledOf, spelled}
 use Rattle.formula.specs.declared.Syllable.{Syllable as Numbers}
-use Rattle.rows.proofs.Sound.{or-right, apart, reclosed}
-use Rattle.rows.proofs.Complete.{either, First, first}
-use Rattle.reading.specs.Records.{bytesBy}
+use Rattle.rows.proofs.Sound.{apart, reclosed}
+use Rattle.rows.proofs.Complete.{either, first}
 use Rattle.reading.proofs.Recorded.{bytes-numbers}
 use Rattle.writing.specs.Decode.{syllableOf}
+use Rattle.writing.specs.Put.{headAfter, partAfter}
 use Rattle.writing.proofs.Decoded.{read}
 use Rattle.writing.proofs.Texts.{medial-short, vowel-short, final-short, tone-short}
-use Rattle.spelling.specs.Plain.{plainFinal, plainOf, plainLink, plainBytes, spelledBy}
+use Rattle.spelling.specs.Plain.{plainOf, plainLink, plainBytes, spelledBy}
 
 -- a plain final asks for no more than the final does
 plain-closed : (h : ℕ) (m : MedialGroup) (v : Vowel) (f : Final) (t : ToneMark) (c : ℕ) → T (isFinalLetter c) → isNoFinal f ≡ false
@@ -75,6 +75,15 @@ spelled-row f (s ∷ row) t =
     let here : spelledBy (numbersOf s) ≡ spelledOf s = spelled-by s (p .is) in
     let rest : map spelledBy (map numbersOf row) ≡ spelled row = spelled-row (finalOf s) row (p .rest) in
     rw (here, rest)
+
+-- what is written for such a record with nothing before it
+part-first : (s : Syllable) → partAfter 0 s ≡ part no-final s
+unfolding partAfter headAfter pick
+part-first (syllable h m v f t) = refl
+
+pub part-spelled : (s : Numbers) (bytes : List ℕ) → bytes ≡ plainBytes s → partAfter 0 (syllableOf bytes) ≡ spelledBy s
+unfolding spelledBy
+part-spelled s bytes is = part-first (syllableOf bytes) ∙ ap (λ (l : List ℕ). part no-final (syllableOf l)) is
 
 -- a part has at most thirteen values, and so has a spelled syllable
 part-small : (s : Syllable) → length (part no-final s) ≤ 13

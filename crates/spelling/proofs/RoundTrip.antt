@@ -1,6 +1,6 @@
 -- Reading and writing undo each other: a row is known by its word and by its records, and both entry points promise the word or the records of a row.
 -- Assumes nothing.
-use mathlib.Core.Path.{_≡_, refl, ap, sym, subst, _∙_}
+use mathlib.Core.Path.{_≡_, refl, ap, sym, _∙_}
 use mathlib.Core.List.{List, [], _∷_, _++_}
 use Prim.Native.Nat.{ℕ, zero, suc, _+_, _*_, _≤_, _<_}
 use native.Mathlib.Nat.{le-of-suc-le-suc, not-suc-le-zero}
@@ -9,7 +9,7 @@ use lib.ListN.{length, getD, take, drop, length-append, length-drop, take-append
 use lib.Seq.{take-at, drop-at, drop-drop}
 use Rattle.formula.specs.Limits.{limit}
 use Rattle.formula.specs.Syllable.{Syllable, syllable, bare}
-use Rattle.formula.specs.Row.{Row, IsRow, join, Gives}
+use Rattle.formula.specs.Row.{Row, join, Gives}
 use Rattle.formula.specs.Record.{recordOf, recordBytes}
 use Rattle.rows.proofs.Viable.{only-row}
 use Rattle.reading.specs.Answer.{accepts, outcomeOf as readOutcomeOf, Reads, ReadRight}

@@ -1,6 +1,6 @@
 -- A syllable with its final made plain, and how it is spelled by its numbers. The laws and the inner contracts cite it.
 -- Assumes nothing.
-use mathlib.Core.List.{List, [], _∷_, map}
+use mathlib.Core.List.{List, map}
 use Prim.Native.Nat.{ℕ}
 use lib.Dec.{ltb}
 use lib.ListN.{take, set}

@@ -2,16 +2,28 @@
 -- Assumes nothing.
 use mathlib.Core.Path.{_≡_}
 use mathlib.Core.List.{List, _++_}
-use Prim.Native.Nat.{ℕ, _≤_}
-use lib.ListN.{length, drop}
+use Prim.Native.Nat.{ℕ, _+_, _≤_, _<_}
+use lib.ListN.{length, drop, set}
 use Rattle.formula.specs.Limits.{limit}
 use Rattle.formula.specs.declared.Syllable.{Syllable as Numbers}
+use Rattle.writing.specs.Put.{PartPut}
 use Rattle.spelling.specs.Spell.{joined, spelledStarts, Lists}
-use Rattle.spelling.specs.Plain.{spelledFront}
+use Rattle.spelling.specs.Plain.{spelledBy, spelledFront}
 
 -- how many values the first syllables are spelled with
 abbrev pub Counted : List Numbers → ℕ → ℕ → Type 0
 Counted syllables count size = size ≡ length (joined (spelledFront syllables count))
+
+-- a syllable has a place of its own among the starts, and room among the values
+pub record SyllableRoom (syllable : Numbers) (number at : ℕ) (values starts : List ℕ) : Type 0 where
+  pub start-fits : number < length starts
+  pub values-fit : at + length (spelledBy syllable) ≤ length values
+  pub small : at < 0x10000
+
+-- its start and its values are put, and the place behind it is given
+pub record SyllablePut (syllable : Numbers) (number at : ℕ) (before after : Lists) (behind : ℕ) : Type 0 where
+  pub start : after .starts ≡ set (before .starts) number at
+  pub values : PartPut (before .values) (after .values) at (spelledBy syllable) behind
 
 -- there are so many syllables, and both lists have room for them
 pub record Room (syllables : List Numbers) (count : ℕ) (values starts : List ℕ) : Type 0 where

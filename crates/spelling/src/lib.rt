@@ -6,8 +6,8 @@ use refusals::Refusal;
 ghost use mathlib.Core.Path.{_≡_};
 ghost use Prim.Native.Nat.{_≤_};
 ghost use lib.ListN.{length};
-ghost use Rattle.spelling.specs.Plain.{plainLink, plainBytes, spelledFront};
-ghost use Rattle.spelling.specs.Put.{Counted, Room, SyllablesPut};
+ghost use Rattle.spelling.specs.Plain.{plainLink, plainBytes};
+ghost use Rattle.spelling.specs.Put.{Counted, SyllableRoom, SyllablePut, Room, SyllablesPut};
 ghost use Rattle.spelling.specs.Spell.{outcomeOf, lists, SpellRight};
 
 // How many values and how many starts were written, or why none was.
@@ -46,6 +46,21 @@ fn measure(syllables: [Syllable; Word::LIMIT], count: usize) -> usize
     size
 }
 
+// Writes a syllable, spelled, from a place of one list on, and the place as its start to the other; gives the place behind the syllable.
+fn put_syllable(
+    syllable: Syllable,
+    number: usize,
+    at: usize,
+    values: &mut [u16],
+    starts: &mut [u16],
+) -> usize
+    requires { ⌜ SyllableRoom syllable number at (now values) (now starts) ⌝ }
+    ensures { λ r. ⌜ SyllablePut syllable number at (lists (now (values .entry)) (now (starts .entry))) (lists (now (values .exit)) (now (starts .exit))) r ⌝ }
+{
+    starts[number] = at as u16;
+    writing::row::put_part(values, at, 0, plain_record(syllable))
+}
+
 // Writes the first syllables, spelled, to one list, and the place where each begins to the other.
 fn put(syllables: [Syllable; Word::LIMIT], count: usize, values: &mut [u16], starts: &mut [u16])
     requires { ⌜ Room syllables count (now values) (now starts) ⌝ }
@@ -54,8 +69,7 @@ fn put(syllables: [Syllable; Word::LIMIT], count: usize, values: &mut [u16], sta
     let mut at = 0;
     let mut number = 0;
     while number < count {
-        starts[number] = at as u16;
-        at = writing::row::put_part(values, at, 0, plain_record(syllables[number]));
+        at = put_syllable(syllables[number], number, at, values, starts);
         number += 1;
     }
 }

@@ -2,9 +2,9 @@
 use refusals::Refusal;
 ghost use Rattle.writing.specs.Write.{outcomeOf, WriteRight};
 
-pub mod record; // record.rt: the tests on one record
+mod record; // record.rt: the tests on one record
 pub mod row; // row.rt: the passes over the records
-pub mod text; // text.rt: the values that the numbers of a record stand for
+mod text; // text.rt: the values that the numbers of a record stand for
 
 // How many values were written, or why none was.
 pub enum WriteAnswer {

@@ -7,7 +7,7 @@ ghost use Rattle.formula.specs.Syllable.{carriesMarks, carriesFinal};
 ghost use Rattle.writing.specs.Records.{isVowelNumbers, isFinalNumbers, isToneNumber, linkAdmits, isRecord};
 
 // The record that begins at a place.
-pub fn record_at(records: &[u8], at: usize) -> [u8; 7]
+pub(crate) fn record_at(records: &[u8], at: usize) -> [u8; 7]
     requires { ⌜ at + 7 ≤ length (now records) ⌝ }
     ensures { λ r. ⌜ r ≡ take 7 (drop at (now (records .entry))) ⌝ }
 {
@@ -23,7 +23,7 @@ pub fn record_at(records: &[u8], at: usize) -> [u8; 7]
 }
 
 // Whether the seven bytes are those of a syllable.
-pub fn is_record(bytes: [u8; 7]) -> bool
+pub(crate) fn is_record(bytes: [u8; 7]) -> bool
     ensures { λ r. ⌜ r ≡ isRecord bytes ⌝ }
 {
     let head = bytes[0];
@@ -88,7 +88,7 @@ fn is_tone(link: u8, tone: u8) -> bool
 }
 
 // Whether a syllable with the head may follow one with the link.
-pub fn admits(link: u8, head: u8) -> bool
+pub(crate) fn admits(link: u8, head: u8) -> bool
     ensures { λ r. ⌜ r ≡ linkAdmits link (0x1000 + head) ⌝ }
 {
     (link <= 1) | ((link == 2) & (head <= 0x20)) | ((link == 3) & (head == 0x1E))

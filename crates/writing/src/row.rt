@@ -16,7 +16,7 @@ pub enum Size {
     NoSuchRow,
 }
 
-pub fn measure(records: &[u8]) -> Size
+pub(crate) fn measure(records: &[u8]) -> Size
     ensures { λ r. ⌜ r ≡ sizeOf (now (records .entry)) ⌝ }
 {
     let mut link = 0;
@@ -62,7 +62,7 @@ pub fn part_size(next: [u8; 7]) -> usize
 }
 
 // Writes the word of records that were measured to the front of an output that is long enough, and gives its length.
-pub fn put_row(records: &[u8], output: &mut [u16]) -> usize
+pub(crate) fn put_row(records: &[u8], output: &mut [u16]) -> usize
     requires { ⌜ RowFits (now records) (length (now output)) ⌝ }
     ensures { λ r. ⌜ RowPut (now (records .entry)) (now (output .entry)) (now (output .exit)) r ⌝ }
 {

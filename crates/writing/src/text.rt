@@ -80,7 +80,7 @@ impl Text {
 }
 
 // The head behind a syllable with the link: with a great sa it is written as one value.
-pub fn head_value(link: u8, head: u8) -> u16
+pub(crate) fn head_value(link: u8, head: u8) -> u16
     ensures { λ r. ⌜ r ≡ headAfter link (0x1000 + head) ⌝ }
 {
     if link == 3 {
@@ -91,7 +91,7 @@ pub fn head_value(link: u8, head: u8) -> u16
 }
 
 // The medial group of a weight.
-pub fn medial_text(weight: u8) -> Text
+pub(crate) fn medial_text(weight: u8) -> Text
     ensures { λ r. ⌜ r ≡ textOf (medialText (medialOfWeight weight)) ⌝ }
 {
     match weight {
@@ -118,7 +118,7 @@ fn aa_value(tall: u8) -> u16
 }
 
 // The vowel of a weight.
-pub fn vowel_text(weight: u8, tall: u8) -> Text
+pub(crate) fn vowel_text(weight: u8, tall: u8) -> Text
     ensures { λ r. ⌜ r ≡ textOf (vowelText (vowelOfWeight weight (eqb tall 1))) ⌝ }
 {
     let aa = aa_value(tall);
@@ -140,7 +140,7 @@ pub fn vowel_text(weight: u8, tall: u8) -> Text
 }
 
 // The final of a letter's number and a link; a great sa is written with the next head.
-pub fn final_text(letter: u8, link: u8) -> Text
+pub(crate) fn final_text(letter: u8, link: u8) -> Text
     ensures { λ r. ⌜ r ≡ textOf (finalText (finalOfNumbers letter link)) ⌝ }
 {
     let value = 0x0FFF + letter as u16;
@@ -164,7 +164,7 @@ fn stacked_text(letter: u8, value: u16) -> Text
 }
 
 // The tone of a weight.
-pub fn tone_text(weight: u8) -> Text
+pub(crate) fn tone_text(weight: u8) -> Text
     ensures { λ r. ⌜ r ≡ textOf (toneText (toneOfWeight weight)) ⌝ }
 {
     match weight {
@@ -175,7 +175,7 @@ pub fn tone_text(weight: u8) -> Text
 }
 
 // Writes a text from a place on, and gives the place behind it.
-pub fn put(output: &mut [u16], at: usize, text: Text) -> usize
+pub(crate) fn put(output: &mut [u16], at: usize, text: Text) -> usize
     requires { ⌜ Room (length (now output)) at text ⌝ }
     ensures { λ r. ⌜ PutRight (now (output .entry)) (now (output .exit)) at text r ⌝ }
 {

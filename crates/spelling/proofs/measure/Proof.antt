@@ -17,10 +17,10 @@ loop-holds : tie.Need-loop-holds Inv-loop μ-loop
 loop-holds c = measured-none (c .args .t1) (c .args .count)
 
 mul-plain-record : tie.Need-mul-plain-record Inv-loop μ-loop
-mul-plain-record c = omega (arith, c .before .before .pre .1)
+mul-plain-record c = omega arith
 
 array-copy-out-plain-record : tie.Need-array-copy-out-plain-record Inv-loop μ-loop
-array-copy-out-plain-record c = omega (arith, c .before .before .pre .1)
+array-copy-out-plain-record c = omega arith
 
 plain-record-requires : tie.Need-plain-record-requires Inv-loop μ-loop
 plain-record-requires c κs = search needs
@@ -29,26 +29,19 @@ part-size-requires : tie.Need-part-size-requires Inv-loop μ-loop
 part-size-requires c κs = search needs
 
 add-size : tie.Need-add-size Inv-loop μ-loop
-add-size c =
-    let at-loop = c .before .before .before .before in
-    omega (arith, at-loop .loop .inv .small, at-loop .loop .inv .within, at-loop .before .pre .1, c .part-size .ensures .small)
+add-size c = omega (arith, c .part-size .ensures .small)
 
 add-number : tie.Need-add-number Inv-loop μ-loop
-add-number c =
-    let at-loop = c .before .before .before .before in
-    omega (arith, at-loop .loop .inv .within, at-loop .before .pre .1)
+add-number c = omega arith
 
 loop-less : tie.Need-loop-less Inv-loop μ-loop
-loop-less c = omega (arith, c .before .before .before .loop-test .taken)
+loop-less c = omega arith
 
 loop-again : tie.Need-loop-again Inv-loop μ-loop
-loop-again c =
-    let at-loop = c .before .before .before .before in
-    measured-more (at-loop .before .args .t1) _ _ _ (at-loop .loop .inv) (at-loop .before .pre .0) (c .before .before .before .loop-test .taken) _ _ (c .before .plain-record .ensures)
-    _ (c .part-size .ensures)
+loop-again c = search (needs, measured-more) depth 14
 
 returns : tie.Need-returns Inv-loop μ-loop
-returns c = measured-all (c .before .before .args .t1) _ _ _ (c .before .loop .inv) (c .before .before .pre .0) (c .loop-test .left)
+returns c = search (needs, measured-all) depth 14
 
 pub measure-spec : {M : Type 1} → statement M
 measure-spec =

@@ -16,44 +16,23 @@ abbrev μ-loop : tie.MeasureT-loop
 loop-holds : tie.Need-loop-holds Inv-loop μ-loop
 loop-holds c = filled-none (c .before .before .args .t1) _ _ _
 
-cast-starts : tie.Need-cast-starts Inv-loop μ-loop
-cast-starts c = omega (arith, c .before .loop .inv .small, c .before .loop .inv .within, c .before .before .before .before .pre .short)
+mul-put-syllable : tie.Need-mul-put-syllable Inv-loop μ-loop
+mul-put-syllable c = omega arith
 
-mul-starts : tie.Need-mul-starts Inv-loop μ-loop
-mul-starts c = omega (arith, c .before .before .before .before .pre .short)
+array-copy-out-put-syllable : tie.Need-array-copy-out-put-syllable Inv-loop μ-loop
+array-copy-out-put-syllable c = omega arith
 
-slice-write-starts : tie.Need-slice-write-starts Inv-loop μ-loop
-slice-write-starts c =
-    let start = c .before .before .before .before in
-    omega (arith, c .loop-test .taken, start .pre .starts-fit, starts-same (start .args .t1) _ _ _ _ _ _ _ (c .before .loop .inv) (start .pre))
-
-mul-plain-record : tie.Need-mul-plain-record Inv-loop μ-loop
-mul-plain-record c = omega (arith, c .before .before .before .before .before .pre .short)
-
-array-copy-out-plain-record : tie.Need-array-copy-out-plain-record Inv-loop μ-loop
-array-copy-out-plain-record c = omega (arith, c .before .before .before .before .before .pre .short)
-
-plain-record-requires : tie.Need-plain-record-requires Inv-loop μ-loop
-plain-record-requires c κs = search needs
-
-put-part-requires : tie.Need-put-part-requires Inv-loop μ-loop
-put-part-requires c κs =
-    let at-loop = c .before .before .before .before in
-    let start = at-loop .before .before .before in
-    filled-room (start .args .t1) _ _ _ _ _ _ _ (at-loop .loop .inv) (start .pre) (c .before .before .before .loop-test .taken) _ _ (c .plain-record .ensures)
+put-syllable-requires : tie.Need-put-syllable-requires Inv-loop μ-loop
+put-syllable-requires c κs = search (needs, filled-room) depth 14
 
 add-number : tie.Need-add-number Inv-loop μ-loop
-add-number c = omega (arith, c .before .before .before .before .before .before .loop-test .taken)
+add-number c = search needs
 
 loop-less : tie.Need-loop-less Inv-loop μ-loop
-loop-less c = omega (arith, c .before .before .before .before .before .before .loop-test .taken)
+loop-less c = search needs
 
 loop-again : tie.Need-loop-again Inv-loop μ-loop
-loop-again c =
-    let at-loop = c .before .before .before .before .before .before .before in
-    let start = at-loop .before .before .before in
-    filled-more (start .args .t1) _ _ _ _ _ _ _ (at-loop .loop .inv) (start .pre) (c .before .before .before .before .before .before .loop-test .taken) _ _ (c .before .before .before .plain-record .ensures)
-    _ _ (c .before .before .put-part .ensures)
+loop-again c = search (needs, filled-more) depth 14
 
 same-length : tie.Need-same-length Inv-loop μ-loop
 same-length c = values-length (c .before .before .before .before .args .t1) _ _ _ _ _ _ _ (c .before .loop .inv) (c .before .before .before .before .pre)
@@ -62,7 +41,7 @@ same-length-2 : tie.Need-same-length-2 Inv-loop μ-loop
 same-length-2 c = starts-same (c .before .before .before .before .args .t1) _ _ _ _ _ _ _ (c .before .loop .inv) (c .before .before .before .before .pre)
 
 returns : tie.Need-returns Inv-loop μ-loop
-returns c = filled-all (c .before .before .before .before .args .t1) _ _ _ _ _ _ _ (c .before .loop .inv) (c .before .before .before .before .pre) (c .loop-test .left)
+returns c = search (needs, filled-all) depth 14
 
 pub put-spec : {M : Type 1} → statement M
 put-spec =
@@ -71,13 +50,9 @@ put-spec =
     Inv-loop
     μ-loop
     loop-holds
-    cast-starts
-    mul-starts
-    slice-write-starts
-    mul-plain-record
-    array-copy-out-plain-record
-    plain-record-requires
-    put-part-requires
+    mul-put-syllable
+    array-copy-out-put-syllable
+    put-syllable-requires
     add-number
     loop-less
     loop-again
