@@ -45,5 +45,8 @@ pub fn key_of(word: &[u16]) -> Key
         put_weights(&mut bytes, 5 * at, syllables[at]);
         at += 1;
     }
-    Key { answer, bytes }
+    Key {
+        answer: ReadAnswer::Syllables(count),
+        bytes,
+    }
 }

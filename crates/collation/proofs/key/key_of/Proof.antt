@@ -9,10 +9,10 @@ use Rattle.collation.proofs.key.key_of.Statement.{statement}
 use Rattle.collation.proofs.key.key_of.Tie as tie
 
 abbrev Inv-loop : tie.InvT-loop
-Inv-loop word answer bytes₀ count syllables at₀ bytes at = Filling count syllables bytes at
+Inv-loop word bytes₀ count syllables at₀ bytes at = Filling count syllables bytes at
 
 abbrev μ-loop : tie.MeasureT-loop
-μ-loop word answer bytes₀ count syllables at₀ bytes at = count - at
+μ-loop word bytes₀ count syllables at₀ bytes at = count - at
 
 normal-form-requires : tie.Need-normal-form-requires Inv-loop μ-loop
 normal-form-requires c κs = search needs
