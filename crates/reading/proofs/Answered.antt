@@ -3,17 +3,15 @@
 use mathlib.Core.Path.{_≡_, refl, ap, sym, subst, _∙_}
 use mathlib.Core.Bool.{Bool, true, false}
 use mathlib.Core.List.{List, [], _∷_, _++_, map, append-assoc, append-nil, reverse, reverseAux, reverse-reverse}
-use mathlib.Core.Option.{Option, none, some, Option·none-ne-some, Option·some-injective}
-use Prim.Native.Nat.{ℕ, zero, suc, _-_, _≤_, _<_}
-use native.Mathlib.Nat.{le-of-suc-le-suc, not-suc-le-zero}
+use mathlib.Core.Option.{none, some, Option·some-injective}
+use Prim.Native.Nat.{ℕ, _-_, _≤_, _<_}
 use native.Mathlib.Decide.{decLt}
 use native.Mathlib.Omega.{arith}
 use lib.Dec.{T}
 use lib.ListN.{length, getD, take, length-take, length-reverse}
 use lib.Seq.{take-all, getD-take}
 use Rattle.letters.specs.Letters.{isAdmitted}
-use Rattle.letters.specs.declared.kind.Kind.{Kind}
-use Rattle.letters.proofs.Counted.{unadmitted-foreign}
+use Rattle.formula.proofs.Lists.{every-at}
 use Rattle.formula.specs.Limits.{limit}
 use Rattle.formula.specs.Syllable.{Final, no-final, plain, stacked, kinzi, great-sa, syllable, isClosed}
 use Rattle.formula.specs.Row.{Row, Gives, Viable}
@@ -21,36 +19,15 @@ use Rattle.formula.specs.Record.{linkOf}
 use Rattle.formula.specs.Numbers.{numbersOf}
 use Rattle.formula.specs.declared.Syllable.{Syllable as Numbers}
 use Rattle.formula.specs.declared.Window.{Window}
-use Rattle.rows.specs.Kept.{endOf, isNotGreatSa, act, step, andThen, run}
+use Rattle.rows.specs.Kept.{endOf, isNotGreatSa, step, run}
 use Rattle.rows.proofs.Sound.{sound}
+use Rattle.rows.proofs.Admitted.{run-admitted}
 use Rattle.rows.proofs.Viable.{read-back, only-row, unfinished, alive, stops, longest}
 use Rattle.steps.specs.Agree.{topOf}
 use Rattle.reading.specs.Answer.{Admissible, RefusedWith, too-long, foreign, no-continuation, unfinished as open-end, Reads, nothings}
 use Rattle.reading.specs.Concluded.{AdmittedTo}
 use Rattle.reading.specs.Scanned.{keptNumbers, Stopped}
 use Rattle.reading.proofs.Reach.{kept-right}
-
--- a value that is read is admitted
-step-admitted : (x : ℕ) (a b : Row) → step a x ≡ some b → T (isAdmitted x)
-step-admitted x a b e = go (isAdmitted x) refl
-  where
-    go : (t : Bool) → isAdmitted x ≡ t → T t
-    go true d = tt
-    go false d = absurd (Option·none-ne-some b (sym (ap (λ (k : Kind). act k x a) (unadmitted-foreign x d)) ∙ e))
-
-run-admitted : (w : List ℕ) (a b : Row) → run w a ≡ some b → (k : ℕ) → k < length w → T (isAdmitted (getD w k 0))
-run-admitted [] a b e k h = absurd (not-suc-le-zero h)
-run-admitted (x ∷ w) a b e k h = go (step a x) refl e (run-admitted w)
-  where
-    at : (c : Row) → step a x ≡ some c → run w c ≡ some b → ((d : Row) (f : Row) → run w d ≡ some f → (j : ℕ) → j < length w → T (isAdmitted (getD w j 0)))
-        → (j : ℕ) → j < suc (length w) → T (isAdmitted (getD (x ∷ w) j 0))
-    at c d f r zero i = step-admitted x a c d
-    at c d f r (suc j) i = r c b f j (le-of-suc-le-suc i)
-
-    go : (o : Option Row) → step a x ≡ o → andThen o (run w) ≡ some b
-        → ((d : Row) (f : Row) → run w d ≡ some f → (j : ℕ) → j < length w → T (isAdmitted (getD w j 0))) → T (isAdmitted (getD (x ∷ w) k 0))
-    go none d f r = absurd (Option·none-ne-some b f)
-    go (some c) d f r = at c d f r k h
 
 top-link : (kept : Row) → topOf kept .link ≡ linkOf (endOf kept)
 top-link [] = refl
@@ -76,7 +53,7 @@ module _ (word : List ℕ) (at : ℕ) (window : Window) (s : Stopped word at win
   passed : (k : ℕ) → k < at → T (isAdmitted (getD word k 0))
   passed k h =
       subst (λ (x : ℕ). T (isAdmitted x)) (getD-take at word k 0 h)
-      (run-admitted (take at word) [] (s .kept) (s .came) k (let i = s .within in omega (arith, length-take at word)))
+      (every-at isAdmitted (take at word) (run-admitted (take at word) [] (s .kept) (s .came)) k (let i = s .within in omega (arith, length-take at word)))
 
   -- and those up to the first foreign one
   admitted-before : (place : ℕ) → AdmittedTo word at place → (k : ℕ) → k < place → T (isAdmitted (getD word k 0))

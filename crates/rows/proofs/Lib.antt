@@ -2,3 +2,4 @@ pub mod Sound
 pub mod Complete
 pub mod Viable
 pub mod Begin
+pub mod Admitted
