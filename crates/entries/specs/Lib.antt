@@ -1,0 +1,6 @@
+pub mod Limits
+pub mod Readable
+pub mod Entries
+pub mod Book
+pub mod Map
+pub mod Change

@@ -1,0 +1,7 @@
+-- Document 01: "A book is a lent buffer of at most 16,384 bytes". The limit stands here and in the code that opens a book.
+-- Assumes nothing.
+use Prim.Native.Nat.{ℕ}
+
+-- the most bytes of a book
+abbrev pub bookLimit : ℕ
+bookLimit = 16384

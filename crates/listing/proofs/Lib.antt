@@ -1,0 +1,9 @@
+pub mod Putting
+pub mod Decimal
+pub mod Keys
+pub mod Answers
+pub mod Cutting
+pub mod Keeping
+pub mod Taking
+pub mod Passing
+pub mod Following

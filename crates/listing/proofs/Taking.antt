@@ -1,0 +1,243 @@
+-- Lines that are taken one after the other: what is printed and what is kept follow the cut of the bytes.
+-- Assumes nothing.
+use mathlib.Core.Path.{_≡_, refl, ap, sym, subst, _∙_}
+use mathlib.Core.List.{List, [], _∷_, _++_, append-assoc, append-nil}
+use Prim.Native.Nat.{ℕ, suc, _+_, _-_, _≤_, _<_}
+use native.Mathlib.Nat.{add-zero}
+use native.Mathlib.Decide.{decLt}
+use native.Mathlib.Omega.{arith}
+use lib.ListN.{length, take, drop, length-append, length-take, length-drop, take-append-drop}
+use lib.Seq.{sets, sets-eq, slice, slice-empty, take-all, take-take, take-add, length-take-le, drop-at, drop-drop, drop-append-le, drop-length}
+use borrow.Rule.Slice.PartMut.{midOf, putMid, post-is}
+use Rattle.collation.specs.declared.key.Key.{Key}
+use Rattle.listing.specs.Put.{Put, Written}
+use Rattle.listing.specs.Output.{LineRight, LinePut, printed}
+use Rattle.listing.specs.Lines.{Cut, cutFrom, lastLine}
+use Rattle.listing.specs.Taken.{keptLimit, Held, Keeps, EndFound, Prints, none, more, Ready, Printed, Taken, EndReady, EndTaken}
+use Rattle.listing.specs.declared.splitting.Progress.{Progress}
+use Rattle.listing.proofs.Putting.{put-nothing, put-after}
+use Rattle.listing.proofs.Cutting.{joined, cut-append, still, cut-none, plain-ends}
+use Rattle.listing.proofs.Answers.{line-kept}
+
+pub prints-append : {number : ℕ} {lines further : List (List ℕ)} {text rest : List ℕ} (next : ℕ) → next ≡ number + length lines
+    → Prints number lines text → Prints next further rest → Prints number (lines ++ further) (text ++ rest)
+prints-append {number} {lines} {further} {text} {rest} next e none q = subst (λ (n : ℕ). Prints n further rest) (e ∙ add-zero number) q
+prints-append {number} {lines} {further} {text} {rest} next e (more key right p) q =
+    rw append-assoc (more key right (prints-append next (omega arith) p q))
+
+pub slice-join : (l : List ℕ) (a b c : ℕ) → a ≤ b → b ≤ c → c ≤ length l → slice a c l ≡ slice a b l ++ slice b c l
+slice-join l a b c h k w =
+    ap (drop a) (sym (take-append-drop b (take c l)))
+    ∙ drop-append-le a (take b (take c l)) (drop b (take c l)) (rw (length-take, length-take) (omega arith))
+    ∙ ap (λ (m : List ℕ). drop a m ++ drop b (take c l)) (take-take b c l k)
+
+-- a part that ends at a place, as code makes it
+pub part-slice : (l : List ℕ) (from end : ℕ) → from ≤ end → end ≤ length l → midOf from (end - from) l ≡ slice from end l
+part-slice l from end h k =
+    let e : end ≡ from + (end - from) = omega arith in
+    sym (ap (λ (n : ℕ). drop from (take n l)) e ∙ ap (drop from) (take-add from (end - from) l) ∙ drop-at (take from l) (take (end - from) (drop from l)) from (length-take-le from l (omega arith)))
+
+module _ (out : List ℕ) (used : ℕ) (text after : List ℕ) (count : ℕ) (h : used ≤ length out) (same : length after ≡ length (midOf used (length out - used) out)) (w : Written (midOf used (length out - used) out) text after count) where
+  rest-is : midOf used (length out - used) out ≡ drop used out
+  rest-is = take-all (length out - used) (drop used out) (rw length-drop (omega arith))
+
+  pub part-fits : used + count ≤ length out
+  part-fits =
+      let size : length after ≡ length text + length (drop count (midOf used (length out - used) out)) = ap length (w .written) ∙ length-append text _ in
+      omega (arith, same, size, w .count, ap length rest-is, length-drop used out)
+
+  -- what is written at the front of the part that begins at a place is written at that place
+  pub part-put : Put out used text (putMid used (length out - used) out after) (used + count)
+  part-put =
+      let counted : length text ≡ count = sym (w .count) in
+      record {
+        written =
+            ap (λ (rest : List ℕ). take used out ++ (after ++ rest)) (post-is used (length out) out h ∙ drop-length out)
+            ∙ ap (λ (rest : List ℕ). take used out ++ rest) (append-nil after ∙ w .written ∙ ap (λ (rest : List ℕ). text ++ drop count rest) rest-is ∙ ap (λ (rest : List ℕ). text ++ rest) (drop-drop count used out))
+            ∙ sym (append-assoc (take used out) text (drop (used + count) out))
+            ∙ ap (λ (n : ℕ). take used out ++ text ++ drop (used + n) out) (w .count)
+            ∙ sym (sets-eq text out used (rw counted part-fits));
+        next = ap (λ (n : ℕ). used + n) (w .count);
+      }
+
+-- one line, of which the first bytes were answered
+pub prints-one : (number : ℕ) (line kept : List ℕ) (held : ℕ) (key : Key) → Held kept held line → LineRight (take held kept) key
+    → Prints number (line ∷ []) (printed number (key .answer) (key .bytes))
+prints-one number line kept held key h right =
+    subst (λ (text : List ℕ). Prints number (line ∷ []) text) (append-nil (printed number (key .answer) (key .bytes)))
+    (more key (line-kept line key (rw (h .bytes) at right)) none)
+
+-- lines between two places, and lines from there on
+pub printed-more : {line chunk out kept-after out-after kept-last out-last : List ℕ} {start middle last : Progress}
+    → start .at ≤ middle .at → middle .at ≤ last .at → last .at ≤ length chunk → (p : Printed line chunk out start kept-after out-after middle)
+    → Printed (p .cut .open-line) chunk out-after middle kept-last out-last last → Printed line chunk out start kept-last out-last last
+printed-more {line} {chunk} {out} {kept-after} {out-after} {kept-last} {out-last} {start} {middle} {last} h k w p q = record {
+  text = p .text ++ q .text;
+  cut = joined (p .cut) (q .cut);
+  follows =
+      rw (slice-join chunk (start .at) (middle .at) (last .at) h k w, cut-append, p .follows, q .follows) refl;
+  prints = prints-append (middle .number + 1) (omega (arith, p .number)) (p .prints) (q .prints);
+  put = put-after (p .put) (q .put);
+  number = rw length-append (omega (arith, p .number, q .number));
+  held = q .held;
+}
+
+-- a chunk that ends within a line: all of it is kept
+pub taken-open : (chunk kept out : List ℕ) (progress : Progress) (kept-after : List ℕ) (end held : ℕ) → Ready chunk kept out progress
+    → EndFound chunk (progress .at) end → Keeps kept (progress .kept) (midOf (progress .at) (end - progress .at) chunk) kept-after held → end ≡ length chunk
+    → Taken chunk kept out progress kept-after out (record { at = end; kept = held; number = progress .number; used = progress .used })
+taken-open chunk kept out progress kept-after end held ready found keeps whole = record {
+  forward = found .forward;
+  further = λ h. omega arith;
+  within = found .within;
+  fits = keeps .fits;
+  room = omega (arith, ready .room);
+  fewer = omega (arith, found .forward);
+  printed = λ line l. record {
+    text = [];
+    cut = still (line ++ slice (progress .at) end chunk);
+    follows = found .none line;
+    prints = none;
+    put = put-nothing out (progress .used);
+    number = omega arith;
+    held = rw (part-slice chunk (progress .at) end (found .forward) (found .within)) at (keeps .held line l);
+  };
+}
+
+-- a line that ends in the chunk: it is printed, and the next one is open
+pub taken-ended : (chunk kept out : List ℕ) (progress : Progress) (kept-after rest : List ℕ) (end held count : ℕ) → Ready chunk kept out progress
+    → EndFound chunk (progress .at) end → Keeps kept (progress .kept) (midOf (progress .at) (end - progress .at) chunk) kept-after held → end < length chunk
+    → length rest ≡ length (midOf (progress .used) (length out - progress .used) out)
+    → LinePut (midOf (progress .used) (length out - progress .used) out) (progress .number + 1) (take held kept-after) rest count
+    → Taken chunk kept out progress kept-after (putMid (progress .used) (length out - progress .used) out rest)
+    (record { at = end + 1; kept = 0; number = progress .number + 1; used = progress .used + count })
+taken-ended chunk kept out progress kept-after rest end held count ready found keeps inside same line-put = record {
+  forward = omega (arith, found .forward);
+  further = λ h. omega (arith, found .forward);
+  within = omega arith;
+  fits = omega arith;
+  room = part-fits out (progress .used) _ rest count (omega (arith, ready .room)) same (line-put .written);
+  fewer = omega (arith, found .forward);
+  printed = λ line l. record {
+    text = printed (progress .number + 1) (line-put .key .answer) (line-put .key .bytes);
+    cut = record { ended = (line ++ slice (progress .at) end chunk) ∷ []; open-line = [] };
+    follows = plain-ends chunk (progress .at) end (found .forward) inside (found .none) (found .there inside) line;
+    prints =
+        prints-one (progress .number + 1) (line ++ slice (progress .at) end chunk) kept-after held (line-put .key)
+        (rw (part-slice chunk (progress .at) end (found .forward) (found .within)) at (keeps .held line l)) (line-put .right);
+    put = part-put out (progress .used) _ rest count (omega (arith, ready .room)) same (line-put .written);
+    number = omega arith;
+    held = record { count = refl; bytes = refl };
+  };
+}
+
+-- how far the loop over a chunk is
+pub record Along (chunk : List ℕ) (kept : List ℕ) (out : List ℕ) (start : Progress) (kept-after : List ℕ) (out-after : List ℕ) (reached : Progress) : Type 0 where
+  pub forward : start .at ≤ reached .at
+  pub within : reached .at ≤ length chunk
+  pub fits : reached .kept ≤ keptLimit
+  pub room : reached .used ≤ length out
+  pub fewer : reached .number + start .at ≤ start .number + reached .at
+  pub moved : reached .at ≡ start .at → reached .used ≡ start .used
+  pub same-kept : length kept-after ≡ length kept
+  pub same-out : length out-after ≡ length out
+  pub along : (line : List ℕ) → Held kept (start .kept) line → Printed line chunk out start kept-after out-after reached
+
+pub along-none : (chunk kept out : List ℕ) (start : Progress) → Ready chunk kept out start → Along chunk kept out start kept out start
+along-none chunk kept out start ready = record {
+  forward = omega arith;
+  within = ready .place;
+  fits = ready .held;
+  room = omega (arith, ready .room);
+  fewer = omega arith;
+  moved = λ e. refl;
+  same-kept = refl;
+  same-out = refl;
+  along = λ line l. record {
+    text = [];
+    cut = still line;
+    follows = rw slice-empty (cut-none line);
+    prints = none;
+    put = put-nothing out (start .used);
+    number = omega arith;
+    held = l;
+  };
+}
+
+module _ {chunk kept out kept-after out-after : List ℕ} {start reached : Progress} (ready : Ready chunk kept out start) (a : Along chunk kept out start kept-after out-after reached) where
+  pub along-ready : reached .used + 1024 ≤ length out-after → Ready chunk kept-after out-after reached
+  along-ready room = record {
+    place = a .within;
+    fits = omega (arith, a .same-kept, ready .fits);
+    held = a .fits;
+    room = room;
+    numbers = omega (arith, ready .numbers, a .fewer, a .forward);
+  }
+
+  pub along-more : {kept-last out-last : List ℕ} {last : Progress} → reached .at < length chunk → Taken chunk kept-after out-after reached kept-last out-last last
+      → length kept-last ≡ length kept-after → length out-last ≡ length out-after → Along chunk kept out start kept-last out-last last
+  along-more {kept-last} {out-last} {last} inside taken same-kept same-out =
+      let further : reached .at < last .at = taken .further inside in
+      record {
+        forward = omega (arith, a .forward);
+        within = taken .within;
+        fits = taken .fits;
+        room = omega (arith, taken .room, a .same-out);
+        fewer = omega (arith, taken .fewer, a .fewer);
+        moved = λ e. let z : ⊥ = omega (arith, a .forward) in absurd z;
+        same-kept = same-kept ∙ a .same-kept;
+        same-out = same-out ∙ a .same-out;
+        along = λ line l.
+            let before = a .along line l in
+            printed-more (a .forward) (taken .forward) (taken .within) before (taken .printed (before .cut .open-line) (before .held));
+      }
+
+  pub along-taken : (reached .at < length chunk → length out-after < reached .used + 1024) → Taken chunk kept out start kept-after out-after reached
+  along-taken full = record {
+    forward = a .forward;
+    further = λ h. go (decLt (start .at) (reached .at)) h;
+    within = a .within;
+    fits = a .fits;
+    room = a .room;
+    fewer = a .fewer;
+    printed = a .along;
+  }
+    where
+      go : Dec (start .at < reached .at) → start .at < length chunk → start .at < reached .at
+      go (yes l) h = l
+      go (no l) h =
+          let e : reached .at ≡ start .at = omega (arith, a .forward) in
+          let z : ⊥ = omega (arith, a .moved e, full (omega arith), a .same-out, ready .room) in
+          absurd z
+
+-- the line that is open at the end of an input
+last-none : (kept line : List ℕ) → Held kept 0 line → lastLine line ≡ []
+last-none kept [] h = refl
+last-none kept (byte ∷ line) h = let z : ⊥ = omega (arith, h .count) in absurd z
+
+last-one : (kept line : List ℕ) (held : ℕ) → (held ≡ 0 → ⊥) → Held kept held line → lastLine line ≡ line ∷ []
+last-one kept [] held nonzero h = absurd (nonzero (h .count))
+last-one kept (byte ∷ line) held nonzero h = refl
+
+pub ended-none : (kept out : List ℕ) (progress : Progress) → EndReady kept out progress → progress .kept ≡ 0 → EndTaken kept out progress out (progress .used)
+ended-none kept out progress ready empty = record {
+  room = omega (arith, ready .room);
+  ended = λ line l. record {
+    text = [];
+    prints = rw (last-none kept line (rw empty at l)) none;
+    put = put-nothing out (progress .used);
+  };
+}
+
+pub ended-one : (kept out : List ℕ) (progress : Progress) (rest : List ℕ) (count : ℕ) → EndReady kept out progress → (progress .kept ≡ 0 → ⊥)
+    → length rest ≡ length (midOf (progress .used) (length out - progress .used) out)
+    → LinePut (midOf (progress .used) (length out - progress .used) out) (progress .number + 1) (take (progress .kept) kept) rest count
+    → EndTaken kept out progress (putMid (progress .used) (length out - progress .used) out rest) (progress .used + count)
+ended-one kept out progress rest count ready nonzero same line-put = record {
+  room = part-fits out (progress .used) _ rest count (omega (arith, ready .room)) same (line-put .written);
+  ended = λ line l. record {
+    text = printed (progress .number + 1) (line-put .key .answer) (line-put .key .bytes);
+    prints = rw (last-one kept line (progress .kept) nonzero l) (prints-one (progress .number + 1) line kept (progress .kept) (line-put .key) l (line-put .right));
+    put = part-put out (progress .used) _ rest count (omega (arith, ready .room)) same (line-put .written);
+  };
+}

@@ -1,0 +1,28 @@
+-- A run of the program over an input that comes in pieces: what it printed so far follows the lines of the bytes so far.
+-- Assumes nothing.
+use mathlib.Core.Path.{_≡_}
+use mathlib.Core.List.{List, [], _++_}
+use Prim.Native.Nat.{ℕ}
+use lib.ListN.{length}
+use Rattle.listing.specs.Put.{Put}
+use Rattle.listing.specs.Lines.{cutFrom, linesOf}
+use Rattle.listing.specs.Taken.{Held, Prints}
+use Rattle.listing.specs.declared.splitting.Progress.{Progress}
+
+-- "line number from 1": the lines that ended are printed, and what is kept is that of the line that is open
+pub record Follows (bytes : List ℕ) (kept : List ℕ) (held : ℕ) (number : ℕ) (text : List ℕ) : Type 0 where
+  pub prints : Prints 1 (cutFrom [] bytes .ended) text
+  pub count : number ≡ length (cutFrom [] bytes .ended)
+  pub open-line : Held kept held (cutFrom [] bytes .open-line)
+
+-- one more piece of the input: what is put into the output goes on with the text
+pub record Goes (bytes : List ℕ) (piece : List ℕ) (text : List ℕ) (out : List ℕ) (used : ℕ) (kept-after : List ℕ) (out-after : List ℕ) (after : Progress) : Type 0 where
+  pub more : List ℕ
+  pub put : Put out used more out-after (after .used)
+  pub follows : Follows (bytes ++ piece) kept-after (after .kept) (after .number) (text ++ more)
+
+-- the end of the input: the text is that of all its lines
+pub record Comes (bytes : List ℕ) (text : List ℕ) (out : List ℕ) (used : ℕ) (out-after : List ℕ) (used-after : ℕ) : Type 0 where
+  pub last : List ℕ
+  pub put : Put out used last out-after used-after
+  pub prints : Prints 1 (linesOf bytes) (text ++ last)

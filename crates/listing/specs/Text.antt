@@ -1,0 +1,44 @@
+-- Document 01, "The program `wordlist`": numbers and keys as text, in bytes.
+-- Assumes nothing.
+use mathlib.Core.List.{List, [], _∷_, _++_}
+use Prim.Native.Nat.{ℕ, zero, suc, _+_, _*_, _-_, _/_, _%_}
+use lib.Dec.{ltb}
+use lib.ListN.{getD}
+use Rattle.letters.specs.Choice.{pick}
+
+-- "upper-case": the byte of a digit below 16, 0 to 9 and then A to F
+unfoldable pub digitOf : ℕ → ℕ
+digitOf value = pick (ltb value 10) (0x30 + value) (0x41 + (value - 10))
+
+-- the digits of a number in decimal, as many as the first number allows: the digits of the tenth part, and then the last
+abbrev pub decimalWithin : ℕ → ℕ → List ℕ
+decimalWithin zero number = []
+decimalWithin (suc most) number =
+    pick (ltb number 10) (digitOf number ∷ []) (decimalWithin most (number / 10) ++ (digitOf (number % 10) ∷ []))
+
+-- a number in decimal, without leading zeros; it never has more digits than the number itself and one
+unfoldable pub decimalOf : ℕ → List ℕ
+decimalOf number = decimalWithin (suc number) number
+
+-- a byte "in upper-case hexadecimal", two digits
+abbrev pub hexadecimalOf : ℕ → List ℕ
+hexadecimalOf byte = digitOf (byte / 16) ∷ digitOf (byte % 16) ∷ []
+
+-- the five weights of a syllable of a key
+unfoldable pub syllableText : List ℕ → ℕ → List ℕ
+syllableText key syllable =
+    hexadecimalOf (getD key (5 * syllable) 0)
+    ++ hexadecimalOf (getD key (5 * syllable + 1) 0)
+    ++ hexadecimalOf (getD key (5 * syllable + 2) 0)
+    ++ hexadecimalOf (getD key (5 * syllable + 3) 0)
+    ++ hexadecimalOf (getD key (5 * syllable + 4) 0)
+
+-- the syllables of a key behind the first, as many as the number says, each behind a hyphen
+abbrev pub furtherText : ℕ → List ℕ → List ℕ
+furtherText zero key = []
+furtherText (suc count) key = furtherText count key ++ (0x2D ∷ syllableText key (suc count))
+
+-- "with hyphens between syllables (one hyphen for none)"
+abbrev pub keyText : ℕ → List ℕ → List ℕ
+keyText zero key = 0x2D ∷ []
+keyText (suc count) key = syllableText key 0 ++ furtherText count key

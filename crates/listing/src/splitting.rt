@@ -1,0 +1,101 @@
+// A chunk of input to lines. A line may begin in one chunk and end in another, so its first bytes are kept beside the chunk.
+use crate::answer::ROOM;
+use crate::answer::put_line;
+ghost use Prim.Native.Nat.{_≤_};
+ghost use lib.ListN.{length};
+ghost use Rattle.listing.specs.Taken.{keptLimit, EndFound, Keeps, Ready, Taken, EndReady, EndTaken};
+
+// The most bytes of a line that are kept: one more than the most of a line that is not refused for its length.
+pub const KEPT: usize = 193;
+
+// How far a list is: the place in the chunk, how many bytes of the open line are kept, the number of the last line that ended, and
+// how many bytes of the output are used.
+pub struct Progress {
+    pub at: usize,
+    pub kept: usize,
+    pub number: u64,
+    pub used: usize,
+}
+
+// The place of the first 0A of a chunk from a place on, or the chunk's end.
+fn line_end(chunk: &[u8], from: usize) -> usize
+    requires { ⌜ from ≤ length (now chunk) ⌝ }
+    ensures { λ r. ⌜ EndFound (now (chunk .entry)) from r ⌝ }
+{
+    let mut at = from;
+    while at < chunk.len() {
+        if chunk[at] == b'\n' {
+            return at;
+        }
+        at += 1;
+    }
+    at
+}
+
+// Puts bytes behind those that are kept, as far as there is room, and answers how many are kept then.
+fn keep(line: &mut [u8], kept: usize, part: &[u8]) -> usize
+    requires { ⌜ (kept ≤ keptLimit) × (keptLimit ≤ length (now line)) ⌝ }
+    ensures { λ r. ⌜ Keeps (now (line .entry)) kept (now (part .entry)) (now (line .exit)) r ⌝ }
+{
+    let mut count = kept;
+    let mut at = 0;
+    while at < part.len() && count < KEPT {
+        line[count] = part[at];
+        count += 1;
+        at += 1;
+    }
+    count
+}
+
+// Takes the open line to its end or to the chunk's, and prints it where it ended.
+fn take_line(chunk: &[u8], line: &mut [u8], out: &mut [u8], progress: Progress) -> Progress
+    requires { ⌜ Ready (now chunk) (now line) (now out) progress ⌝ }
+    ensures { λ r. ⌜ Taken (now (chunk .entry)) (now (line .entry)) (now (out .entry)) progress (now (line .exit)) (now (out .exit)) r ⌝ }
+{
+    let at = progress.at;
+    let number = progress.number;
+    let used = progress.used;
+    let end = line_end(chunk, at);
+    let kept = keep(line, progress.kept, &chunk[at..end]);
+    if end == chunk.len() {
+        return Progress {
+            at: end,
+            kept,
+            number,
+            used,
+        };
+    }
+    let printed = put_line(&mut out[used..], number + 1, &line[..kept]);
+    Progress {
+        at: end + 1,
+        kept: 0,
+        number: number + 1,
+        used: used + printed,
+    }
+}
+
+// Takes lines until the chunk is used up or the output has no room for one more.
+pub fn take_lines(chunk: &[u8], line: &mut [u8], out: &mut [u8], progress: Progress) -> Progress
+    requires { ⌜ Ready (now chunk) (now line) (now out) progress ⌝ }
+    ensures { λ r. ⌜ Taken (now (chunk .entry)) (now (line .entry)) (now (out .entry)) progress (now (line .exit)) (now (out .exit)) r ⌝ }
+{
+    let mut reached = progress;
+    while reached.at < chunk.len() && reached.used + ROOM <= out.len() {
+        reached = take_line(chunk, line, out, reached);
+    }
+    reached
+}
+
+// Prints the open line at the end of a list, where it has a byte.
+pub fn end_lines(line: &[u8], out: &mut [u8], progress: Progress) -> usize
+    requires { ⌜ EndReady (now line) (now out) progress ⌝ }
+    ensures { λ r. ⌜ EndTaken (now (line .entry)) (now (out .entry)) progress (now (out .exit)) r ⌝ }
+{
+    let used = progress.used;
+    let kept = progress.kept;
+    if kept == 0 {
+        return used;
+    }
+    let printed = put_line(&mut out[used..], progress.number + 1, &line[..kept]);
+    used + printed
+}

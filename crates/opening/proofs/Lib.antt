@@ -1,0 +1,4 @@
+pub mod Marks
+pub mod Parts
+pub mod Chains
+pub mod Passing

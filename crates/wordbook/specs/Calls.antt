@@ -1,0 +1,59 @@
+-- Document 01, "The word book" and the two tables of refusals: what each call on a book answers to the word as it is handed in, and what each
+-- byte of the buffer is afterwards. Assumes nothing.
+use mathlib.Core.Path.{_≡_}
+use mathlib.Core.List.{List}
+use Prim.Native.Nat.{ℕ, _≤_}
+use lib.ListN.{length}
+use Rattle.formula.specs.Held.{wordOf}
+use Rattle.formula.specs.declared.Word.{Word}
+use Rattle.refusals.specs.Refusal.{numberOf, placeOf}
+use Rattle.storage.specs.Stored.{storedForm}
+use Rattle.normaliser.specs.Normal.{StoreRefusedWith, Stores}
+use Rattle.entries.specs.Entries.{entries}
+use Rattle.keeping.specs.Outcome.{Outcome, counts, refuses, addOf, removeOf}
+use Rattle.keeping.specs.Written.{bytesAdded, bytesRemoved}
+use Rattle.wordbook.specs.declared.Checked.{Checked}
+use Rattle.wordbook.specs.declared.Checked.the-variants as checked
+use Rattle.wordbook.specs.declared.enter.EnterAnswer.{EnterAnswer}
+use Rattle.wordbook.specs.declared.enter.EnterAnswer.the-variants as entered
+
+abbrev pub checkedOutcome : Checked → Outcome
+checkedOutcome (checked.Live count) = counts count
+checkedOutcome (checked.Refused refusal) = refuses (numberOf refusal) (placeOf refusal)
+
+-- "Tests run in the order 1, 7, 8, 2, 3 or 4": the refusals of a word that is handed in with a book
+pub data WordRefused (word : List ℕ) : ℕ → ℕ → Type 0 where
+  -- "empty word, book calls only"
+  empty : length word ≡ 0 → WordRefused word 8 0
+  -- 1 and 2 speak of the word as handed in, 3 and 4 of its stored form
+  refused : {number place : ℕ} → 1 ≤ length word → StoreRefusedWith word number place → WordRefused word number place
+
+-- a word that goes on to the book: not empty, and its stored form is a row of syllables
+pub record WordStored (word : List ℕ) : Type 0 where
+  pub some : 1 ≤ length word
+  pub syllables : ℕ
+  pub stores : Stores word syllables
+
+-- the answer of a call: the refusal of the word, or else what the book answers to the word's stored form
+pub data CallAnswers (word : List ℕ) (answer : Outcome) : Outcome → Type 0 where
+  word-refused : {number place : ℕ} → WordRefused word number place → CallAnswers word answer (refuses number place)
+  word-stored : WordStored word → CallAnswers word answer answer
+
+-- the promise of add, with the buffer as it was and as it is
+pub record AddPromise (word : List ℕ) (stock : ℕ) (before after : List ℕ) (outcome : Outcome) : Type 0 where
+  pub answers : CallAnswers word (addOf (entries before) (length before) (storedForm word)) outcome
+  pub bytes : after ≡ bytesAdded outcome before (storedForm word) stock
+
+-- the promise of remove, with the buffer as it was and as it is
+pub record RemovePromise (word before after : List ℕ) (outcome : Outcome) : Type 0 where
+  pub answers : CallAnswers word (removeOf (entries before) (storedForm word)) outcome
+  pub bytes : after ≡ bytesRemoved outcome before
+
+-- the word by value that goes on to the book; an inner contract cites it
+pub record HeldForm (word : List ℕ) (held : Word) : Type 0 where
+  pub stored : WordStored word
+  pub held-is : held ≡ wordOf (storedForm word)
+
+abbrev pub EnteredFor : List ℕ → EnterAnswer → Word → Type 0
+EnteredFor word entered.Stored held = HeldForm word held
+EnteredFor word (entered.Refused refusal) held = WordRefused word (numberOf refusal) (placeOf refusal)

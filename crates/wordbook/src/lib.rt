@@ -1,0 +1,77 @@
+// The word book: the calls on a book in a lent buffer, for every buffer and every word.
+use keeping::plan::Found;
+use keeping::plan::Placed;
+use opening::open::Opening;
+use opening::open::open_book;
+use refusals::Refusal;
+ghost use mathlib.Core.Path.{_≡_};
+ghost use Rattle.storage.specs.Stored.{storedForm};
+ghost use Rattle.entries.specs.Entries.{entries};
+ghost use Rattle.keeping.specs.Outcome.{foundOutcome, placedOutcome, checkOf, findOf};
+ghost use Rattle.wordbook.specs.Calls.{checkedOutcome, CallAnswers, AddPromise, RemovePromise};
+
+pub mod enter; // enter.rt: the word that is handed in with a book
+
+use crate::enter::EnterAnswer;
+use crate::enter::enter;
+
+// The answer of check: how many live records there are, or why the buffer is no book.
+pub enum Checked {
+    Live(usize),
+    Refused(Refusal),
+}
+
+// Whether the buffer is a book.
+pub fn check(book: &[u8]) -> Checked
+    ensures { λ r. ⌜ checkedOutcome r ≡ checkOf (entries (now (book .entry))) ⌝ }
+{
+    match open_book(book) {
+        Opening::Wrong(place) => Checked::Refused(Refusal::NotABook(place)),
+        Opening::Book { live, free: _ } => Checked::Live(live),
+    }
+}
+
+// Start and stock number of the live record with the word.
+pub fn find(book: &[u8], word: &[u16]) -> Found
+    ensures { λ r. ⌜ CallAnswers (now (word .entry)) (findOf (entries (now (book .entry))) (storedForm (now (word .entry)))) (foundOutcome r) ⌝ }
+{
+    let entered = enter(word);
+    let answer = entered.answer;
+    if let EnterAnswer::Refused(refusal) = answer {
+        return Found::Refused(refusal);
+    }
+    let form = entered.word;
+    let count = form.count;
+    let values = form.values;
+    keeping::plan::find(book, &values[..count])
+}
+
+// Puts a live record with the word just after the last record, and gives its start.
+pub fn add(book: &mut [u8], word: &[u16], stock: u32) -> Placed
+    ensures { λ r. ⌜ AddPromise (now (word .entry)) stock (now (book .entry)) (now (book .exit)) (placedOutcome r) ⌝ }
+{
+    let entered = enter(word);
+    let answer = entered.answer;
+    if let EnterAnswer::Refused(refusal) = answer {
+        return Placed::Refused(refusal);
+    }
+    let form = entered.word;
+    let count = form.count;
+    let values = form.values;
+    keeping::change::add(book, &values[..count], stock)
+}
+
+// Marks the live record with the word as removed, and gives its start.
+pub fn remove(book: &mut [u8], word: &[u16]) -> Placed
+    ensures { λ r. ⌜ RemovePromise (now (word .entry)) (now (book .entry)) (now (book .exit)) (placedOutcome r) ⌝ }
+{
+    let entered = enter(word);
+    let answer = entered.answer;
+    if let EnterAnswer::Refused(refusal) = answer {
+        return Placed::Refused(refusal);
+    }
+    let form = entered.word;
+    let count = form.count;
+    let values = form.values;
+    keeping::change::remove(book, &values[..count])
+}

@@ -1,0 +1,4 @@
+// The program over no input.
+fn main() {
+    listing::running::run();
+}
