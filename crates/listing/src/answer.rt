@@ -74,7 +74,7 @@ fn put_refused(out: &mut [u8], at: usize, refusal: Refusal) -> usize
 }
 
 // Writes what is printed for a line of this number and this answer to the front of the output, and answers how many bytes that is.
-pub fn put_answer(out: &mut [u8], number: u64, answer: ReadAnswer, key: &[u8; 320]) -> usize
+pub(crate) fn put_answer(out: &mut [u8], number: u64, answer: ReadAnswer, key: &[u8; 320]) -> usize
     requires { ⌜ (1024 ≤ length (now out)) × Printable answer ⌝ }
     ensures { λ r. ⌜ Written (now (out .entry)) (printed number answer (now (key .entry))) (now (out .exit)) r ⌝ }
 {
@@ -89,7 +89,7 @@ pub fn put_answer(out: &mut [u8], number: u64, answer: ReadAnswer, key: &[u8; 32
 }
 
 // The same for the line itself.
-pub fn put_line(out: &mut [u8], number: u64, line: &[u8]) -> usize
+pub(crate) fn put_line(out: &mut [u8], number: u64, line: &[u8]) -> usize
     requires { ⌜ 1024 ≤ length (now out) ⌝ }
     ensures { λ r. ⌜ LinePut (now (out .entry)) number (now (line .entry)) (now (out .exit)) r ⌝ }
 {

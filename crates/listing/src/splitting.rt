@@ -75,7 +75,7 @@ fn take_line(chunk: &[u8], line: &mut [u8], out: &mut [u8], progress: Progress) 
 }
 
 // Takes lines until the chunk is used up or the output has no room for one more.
-pub fn take_lines(chunk: &[u8], line: &mut [u8], out: &mut [u8], progress: Progress) -> Progress
+pub(crate) fn take_lines(chunk: &[u8], line: &mut [u8], out: &mut [u8], progress: Progress) -> Progress
     requires { ⌜ Ready (now chunk) (now line) (now out) progress ⌝ }
     ensures { λ r. ⌜ Taken (now (chunk .entry)) (now (line .entry)) (now (out .entry)) progress (now (line .exit)) (now (out .exit)) r ⌝ }
 {
@@ -87,7 +87,7 @@ pub fn take_lines(chunk: &[u8], line: &mut [u8], out: &mut [u8], progress: Progr
 }
 
 // Prints the open line at the end of a list, where it has a byte.
-pub fn end_lines(line: &[u8], out: &mut [u8], progress: Progress) -> usize
+pub(crate) fn end_lines(line: &[u8], out: &mut [u8], progress: Progress) -> usize
     requires { ⌜ EndReady (now line) (now out) progress ⌝ }
     ensures { λ r. ⌜ EndTaken (now (line .entry)) (now (out .entry)) progress (now (out .exit)) r ⌝ }
 {
