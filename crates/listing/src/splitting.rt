@@ -75,7 +75,12 @@ fn take_line(chunk: &[u8], line: &mut [u8], out: &mut [u8], progress: Progress) 
 }
 
 // Takes lines until the chunk is used up or the output has no room for one more.
-pub(crate) fn take_lines(chunk: &[u8], line: &mut [u8], out: &mut [u8], progress: Progress) -> Progress
+pub(crate) fn take_lines(
+    chunk: &[u8],
+    line: &mut [u8],
+    out: &mut [u8],
+    progress: Progress,
+) -> Progress
     requires { ⌜ Ready (now chunk) (now line) (now out) progress ⌝ }
     ensures { λ r. ⌜ Taken (now (chunk .entry)) (now (line .entry)) (now (out .entry)) progress (now (line .exit)) (now (out .exit)) r ⌝ }
 {
