@@ -5,3 +5,4 @@ pub mod Agree
 pub mod Lookups
 pub mod Added
 pub mod Removed
+pub mod Ranked

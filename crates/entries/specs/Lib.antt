@@ -4,3 +4,4 @@ pub mod Entries
 pub mod Book
 pub mod Map
 pub mod Change
+pub mod Rank
