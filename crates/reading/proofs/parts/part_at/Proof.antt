@@ -72,20 +72,6 @@ end-of-requires c κs =
     let r = subst (λ (w : ReadAnswer). Answers word (outcomeOf w)) (k .before .answer .given .1) (a .conclude .ensures) in
     (c .before .before .before .if2 .left, count-limit word count r)
 
-mul-result : tie.Need-mul-result
-mul-result c =
-    let k = c .before .before .before .before .before in
-    let a = k .before .before .before in
-    let word = a .before .before .before .before .args .word .now in
-    let count = k .before .answer .given .0 .0 in
-    let r = subst (λ (w : ReadAnswer). Answers word (outcomeOf w)) (k .before .answer .given .1) (a .conclude .ensures) in
-    let scan = a .before .scan-word .result in
-    let s = a .before .scan-word .ensures in
-    let low = from-to word (scan .at) (scan .window) (s .stopped) (scan .starts) (s .starts-of) count r (a .before .before .before .before .args .number) (c .before .before .before .before .if2 .left) (c .before .before .wide .result) (c .end-of .result) (c .before .before .wide .ensures) (c .end-of .ensures) in
-    let high = to-end word (scan .at) (scan .window) (s .stopped) (scan .starts) (s .starts-of) count r (a .before .before .before .before .args .number) (c .before .before .before .before .if2 .left) (c .before .before .wide .result) (c .end-of .result) (c .before .before .wide .ensures) (c .end-of .ensures) in
-    let short = s .stopped .short in
-    omega arith
-
 sub-result : tie.Need-sub-result
 sub-result c =
     let k = c .before .before .before .before .before in
@@ -96,22 +82,6 @@ sub-result c =
     let scan = a .before .scan-word .result in
     let s = a .before .scan-word .ensures in
     let low = from-to word (scan .at) (scan .window) (s .stopped) (scan .starts) (s .starts-of) count r (a .before .before .before .before .args .number) (c .before .before .before .before .if2 .left) (c .before .before .wide .result) (c .end-of .result) (c .before .before .wide .ensures) (c .end-of .ensures) in
-    let high = to-end word (scan .at) (scan .window) (s .stopped) (scan .starts) (s .starts-of) count r (a .before .before .before .before .args .number) (c .before .before .before .before .if2 .left) (c .before .before .wide .result) (c .end-of .result) (c .before .before .wide .ensures) (c .end-of .ensures) in
-    let short = s .stopped .short in
-    omega arith
-
-part-result-start : tie.Need-part-result-start
-part-result-start c =
-    let k = c .before .before .before .before .before in
-    let a = k .before .before .before in
-    let word = a .before .before .before .before .args .word .now in
-    let count = k .before .answer .given .0 .0 in
-    let r = subst (λ (w : ReadAnswer). Answers word (outcomeOf w)) (k .before .answer .given .1) (a .conclude .ensures) in
-    let scan = a .before .scan-word .result in
-    let s = a .before .scan-word .ensures in
-    let low = from-to word (scan .at) (scan .window) (s .stopped) (scan .starts) (s .starts-of) count r (a .before .before .before .before .args .number) (c .before .before .before .before .if2 .left) (c .before .before .wide .result) (c .end-of .result) (c .before .before .wide .ensures) (c .end-of .ensures) in
-    let high = to-end word (scan .at) (scan .window) (s .stopped) (scan .starts) (s .starts-of) count r (a .before .before .before .before .args .number) (c .before .before .before .before .if2 .left) (c .before .before .wide .result) (c .end-of .result) (c .before .before .wide .ensures) (c .end-of .ensures) in
-    let short = s .stopped .short in
     omega arith
 
 part-result-end : tie.Need-part-result-end
@@ -123,10 +93,14 @@ part-result-end c =
     let r = subst (λ (w : ReadAnswer). Answers word (outcomeOf w)) (k .before .answer .given .1) (a .conclude .ensures) in
     let scan = a .before .scan-word .result in
     let s = a .before .scan-word .ensures in
-    let low = from-to word (scan .at) (scan .window) (s .stopped) (scan .starts) (s .starts-of) count r (a .before .before .before .before .args .number) (c .before .before .before .before .if2 .left) (c .before .before .wide .result) (c .end-of .result) (c .before .before .wide .ensures) (c .end-of .ensures) in
     let high = to-end word (scan .at) (scan .window) (s .stopped) (scan .starts) (s .starts-of) count r (a .before .before .before .before .args .number) (c .before .before .before .before .if2 .left) (c .before .before .wide .result) (c .end-of .result) (c .before .before .wide .ensures) (c .end-of .ensures) in
-    let short = s .stopped .short in
     omega arith
+
+mul-result : tie.Need-mul-result
+mul-result c = omega (arith, sub-result c, part-result-end c)
+
+part-result-start : tie.Need-part-result-start
+part-result-start c = omega (arith, sub-result c, part-result-end c)
 
 returns-4 : tie.Need-returns-4
 returns-4 c =
