@@ -1,0 +1,1 @@
+// The states of a reading, and what each value does to them.
