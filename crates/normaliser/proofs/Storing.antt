@@ -17,7 +17,7 @@ use Rattle.formula.specs.declared.Word.{Word}
 use Rattle.formula.proofs.Lists.{both, both-left, both-right, every, every-at, at-every}
 use Rattle.refusals.specs.Refusal.{numberOf, placeOf}
 use Rattle.refusals.specs.declared.Refusal.{Refusal}
-use Rattle.reading.specs.Answer.{accepts, refuses, outcomeOf, Admissible, FirstForeign, RefusedWith, too-long, foreign, no-continuation, unfinished}
+use Rattle.reading.specs.Answer.{Outcome, outcomeOf, Admissible, Reads, Readable, FirstForeign, RefusedWith, too-long, foreign, no-continuation, unfinished}
 use Rattle.reading.specs.Concluded.{AdmittedTo}
 use Rattle.reading.specs.declared.read.ReadAnswer.{ReadAnswer}
 use Rattle.reading.specs.declared.read.ReadAnswer.the-variants.{Syllables}
@@ -25,7 +25,8 @@ use Rattle.storage.specs.Stored.{isRunMark, goesBehind, insert, makesLongVowel,
 use Rattle.storage.specs.Putting.{joinFront, putFront}
 use Rattle.storage.proofs.Composing.{stored-front}
 use Rattle.storage.proofs.Outcome.{stored-shorter, stored-admitted}
-use Rattle.normaliser.specs.Normal.{StoreRefusedWith, foreign as strange, outcome, Stores, StoreAnswers, WordFor, NormalRight, NormaliseRight, writes, too-short, HandedIn}
+use Rattle.storage.proofs.Rows.{gives-stored}
+use Rattle.normaliser.specs.Normal.{StoreRefusedWith, foreign as strange, outcome, Stores, StoreAnswers, WordFor, NormalRight, NormaliseRight, writes, too-short, PutRight, put, no-room, HandedIn}
 use Rattle.normaliser.specs.declared.Normalised.{Normalised}
 
 -- what is admitted with x put in front was admitted, and so is x
@@ -116,7 +117,7 @@ module _ (word : List ℕ) (short : length word ≤ limit) where
 
 -- what is known of a word whose stored form is read
 module _ (word : List ℕ) (r : Normalised) (right : NormalRight word r) (n : ℕ) (e : r .answer ≡ Syllables n) where
-  stores : Stores word n
+  pub stores : Stores word n
   stores = subst (λ (a : ReadAnswer). StoreAnswers word (outcomeOf a)) e (right .answers)
 
   pub held-form : r .word ≡ wordOf (storedForm word)
@@ -133,15 +134,33 @@ module _ (word : List ℕ) (r : Normalised) (right : NormalRight word r) (n : �
       let s = held-limit in
       omega (arith, ap (λ (w : Word). length (w .values)) held-form, length-append (storedForm word) (replicate (limit - length (storedForm word)) 0), held-count)
 
-  pub short-right : (before after : List ℕ) → length before < r .word .count → after ≡ before → NormaliseRight word before after (refuses 5 (r .word .count))
-  short-right before after h d =
-      subst (λ (k : ℕ). NormaliseRight word before after (refuses 5 k)) (sym held-count)
-      (too-short stores (omega (arith, held-count)) d)
+  -- the values at the front of the held word's array are the stored form
+  pub held-front : take (r .word .count) (r .word .values) ≡ storedForm word
+  held-front =
+      ap (λ (w : Word). take (w .count) (w .values)) held-form
+      ∙ take-at (storedForm word) (replicate (limit - length (storedForm word)) 0) (length (storedForm word)) refl
 
-  pub written-right : (before after : List ℕ) → r .word .count ≤ length before → after ≡ take (r .word .count) (r .word .values) ++ drop (r .word .count) before
-      → NormaliseRight word before after (accepts (r .word .count))
-  written-right before after h d =
-      subst (λ (k : ℕ). NormaliseRight word before after (accepts k)) (sym held-count)
-      (writes stores (omega (arith, held-count))
-      (d ∙ ap (λ (w : Word). take (w .count) (w .values) ++ drop (w .count) before) held-form
-      ∙ ap (λ (l : List ℕ). l ++ drop (length (storedForm word)) before) (take-at (storedForm word) (replicate (limit - length (storedForm word)) 0) (length (storedForm word)) refl)))
+-- a row of syllables is its own stored form
+pub row-stores : (word : List ℕ) (readable : Readable word) → Stores word (length (readable .row))
+row-stores word readable =
+    record {
+      admissible = readable .admissible;
+      reads =
+          subst (λ (form : List ℕ). Reads form (length (readable .row))) (sym (gives-stored (readable .row) word (readable .gives)))
+          (record {
+            admissible = readable .admissible;
+            row = readable .row;
+            gives = readable .gives;
+            only = readable .only;
+            count = refl;
+          });
+    }
+
+-- writing the stored form is what the normaliser promises
+pub put-right : (word values before after : List ℕ) (n : ℕ) (answer : Outcome) → Stores word n → values ≡ storedForm word → PutRight values before after answer
+    → NormaliseRight word before after answer
+put-right word values before after n answer s e p = go answer (subst (λ (form : List ℕ). PutRight form before after answer) e p)
+  where
+    go : (o : Outcome) → PutRight (storedForm word) before after o → NormaliseRight word before after o
+    go _ (put h d) = writes s h d
+    go _ (no-room h d) = too-short s h d

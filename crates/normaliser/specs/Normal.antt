@@ -9,7 +9,7 @@ use Rattle.formula.specs.Held.{wordOf}
 use Rattle.formula.specs.declared.Word.{Word}
 use Rattle.refusals.specs.Refusal.{numberOf, placeOf}
 use Rattle.refusals.specs.declared.Refusal.{Refusal}
-use Rattle.reading.specs.Answer.{Outcome, accepts, refuses, outcomeOf, Admissible, FirstForeign, RefusedWith, Reads, nothings, SyllablesFor}
+use Rattle.reading.specs.Answer.{Outcome, accepts, refuses, outcomeOf, Admissible, FirstForeign, RefusedWith, Reads}
 use Rattle.reading.specs.Concluded.{AdmittedTo}
 use Rattle.reading.specs.declared.read.ReadAnswer.the-variants.{Refused}
 use Rattle.storage.specs.Stored.{storedForm}
@@ -41,7 +41,6 @@ WordFor word (refuses number place) held = held ≡ wordOf []
 pub record NormalRight (word : List ℕ) (r : Normalised) : Type 0 where
   pub answers : StoreAnswers word (outcomeOf (r .answer))
   pub held : WordFor word (outcomeOf (r .answer)) (r .word)
-  pub syllables : SyllablesFor (storedForm word) (outcomeOf (r .answer)) (r .syllables)
 
 -- the answer of the normaliser in document 01's terms: how many values it wrote, or a refusal
 abbrev pub normaliseOutcomeOf : NormaliseAnswer → Outcome
@@ -58,7 +57,12 @@ pub data NormaliseRight (word before after : List ℕ) : Outcome → Type 0 wher
 
 -- inner contracts cite what follows
 abbrev pub refusedWord : Refusal → Normalised
-refusedWord refusal = record { answer = Refused refusal; syllables = nothings limit; word = wordOf [] }
+refusedWord refusal = record { answer = Refused refusal; word = wordOf [] }
+
+-- values written to an output, with the output as it was and as it is
+pub data PutRight (values before after : List ℕ) : Outcome → Type 0 where
+  put : length values ≤ length before → after ≡ values ++ drop (length values) before → PutRight values before after (accepts (length values))
+  no-room : length before < length values → after ≡ before → PutRight values before after (refuses 5 (length values))
 
 -- the refusal is the same, but for a foreign value: that is the first of the word
 pub record HandedIn (word : List ℕ) (refusal answer : Refusal) : Type 0 where

@@ -1,18 +1,16 @@
 // The normaliser: a word of any values to its stored form, which is then read.
-use formula::Syllable;
 use formula::Word;
 use reading::read::ReadAnswer;
 use refusals::Refusal;
 ghost use mathlib.Core.Path.{_≡_};
 ghost use mathlib.Core.List.{_++_};
 ghost use Prim.Native.Nat.{_≤_};
-ghost use lib.ListN.{length, take, drop};
-ghost use Rattle.normaliser.specs.Normal.{refusedWord, HandedIn, NormalRight, NormaliseRight, normaliseOutcomeOf};
+ghost use lib.ListN.{length, drop};
+ghost use Rattle.normaliser.specs.Normal.{refusedWord, HandedIn, NormalRight, PutRight, NormaliseRight, normaliseOutcomeOf};
 
-// A stored word by value with its reading. With a refusal the word is empty and there is no syllable.
+// A stored word by value, and how it reads. With a refusal the word is empty.
 pub struct Normalised {
     pub answer: ReadAnswer,
-    pub syllables: [Syllable; Word::LIMIT],
     pub word: Word,
 }
 
@@ -21,7 +19,6 @@ fn refused(refusal: Refusal) -> Normalised
 {
     Normalised {
         answer: ReadAnswer::Refused(refusal),
-        syllables: [Syllable::nothing(); Word::LIMIT],
         word: Word::empty(),
     }
 }
@@ -36,7 +33,7 @@ fn as_handed_in(word: &[u16], refusal: Refusal) -> Refusal
     refusal
 }
 
-// The stored form of a word, and its reading.
+// The stored form of a word, and how it reads.
 pub fn normal_form(word: &[u16]) -> Normalised
     ensures { λ r. ⌜ NormalRight (now (word .entry)) r ⌝ }
 {
@@ -51,12 +48,7 @@ pub fn normal_form(word: &[u16]) -> Normalised
     if let ReadAnswer::Refused(refusal) = answer {
         return refused(as_handed_in(word, refusal));
     }
-    let syllables = reading.syllables;
-    Normalised {
-        answer,
-        syllables,
-        word: form,
-    }
+    Normalised { answer, word: form }
 }
 
 pub enum NormaliseAnswer {
@@ -64,22 +56,37 @@ pub enum NormaliseAnswer {
     Refused(Refusal),
 }
 
-// Writes the first values of an array to the front of a slice.
-fn copy_out(values: &[u16; Word::LIMIT], count: usize, output: &mut [u16])
-    requires { ⌜ (count ≤ length (now values)) × (count ≤ length (now output)) × (count ≤ 64) ⌝ }
-    ensures { λ _. ⌜ now (output .exit) ≡ take count (now (values .entry)) ++ drop count (now (output .entry)) ⌝ }
+// Writes values to the front of a slice.
+fn copy_out(values: &[u16], output: &mut [u16])
+    requires { ⌜ (length (now values) ≤ length (now output)) × (length (now values) ≤ 64) ⌝ }
+    ensures { λ _. ⌜ now (output .exit) ≡ now (values .entry) ++ drop (length (now (values .entry))) (now (output .entry)) ⌝ }
 {
     let mut at = 0;
-    while at < count {
+    while at < values.len() {
         output[at] = values[at];
         at += 1;
     }
 }
 
-// Writes the stored form of a word to the front of `output`.
+// Writes a stored form to the front of `output`, where there is room for it.
+fn put_out(values: &[u16], output: &mut [u16]) -> NormaliseAnswer
+    requires { ⌜ length (now values) ≤ 64 ⌝ }
+    ensures { λ r. ⌜ PutRight (now (values .entry)) (now (output .entry)) (now (output .exit)) (normaliseOutcomeOf r) ⌝ }
+{
+    if output.len() < values.len() {
+        return NormaliseAnswer::Refused(Refusal::OutputTooShort(values.len()));
+    }
+    copy_out(values, output);
+    NormaliseAnswer::Stored(values.len())
+}
+
+// Writes the stored form of a word to the front of `output`. A row of syllables is its own stored form.
 pub fn normalise(word: &[u16], output: &mut [u16]) -> NormaliseAnswer
     ensures { λ r. ⌜ NormaliseRight (now (word .entry)) (now (output .entry)) (now (output .exit)) (normaliseOutcomeOf r) ⌝ }
 {
+    if reading::read::is_row(word) {
+        return put_out(word, output);
+    }
     let normal = normal_form(word);
     let answer = normal.answer;
     if let ReadAnswer::Refused(refusal) = answer {
@@ -87,10 +94,6 @@ pub fn normalise(word: &[u16], output: &mut [u16]) -> NormaliseAnswer
     }
     let form = normal.word;
     let count = form.count;
-    if output.len() < count {
-        return NormaliseAnswer::Refused(Refusal::OutputTooShort(count));
-    }
     let values = form.values;
-    copy_out(&values, count, output);
-    NormaliseAnswer::Stored(count)
+    put_out(&values[..count], output)
 }

@@ -32,7 +32,7 @@ refused-requires c κs = search needs
 returns : tie.Need-returns
 returns c =
     subst (NormalRight (c .before .before .before .args .word .now)) (sym (c .refused .ensures))
-    (record { answers = too-long (c .before .if1 .taken); held = refl; syllables = refl })
+    (record { answers = too-long (c .before .if1 .taken); held = refl })
 
 stored-requires : tie.Need-stored-requires
 stored-requires c κs = search needs
@@ -71,7 +71,6 @@ returns-2 c =
           refused-right word (s .before .if1 .left) (k .before .answer .given .0 .0) (c .before .as-handed-in .result)
           (subst (λ (w : ReadAnswer). Answers (storedForm word) (outcomeOf w)) (k .before .answer .given .1) (r .answers)) (c .before .as-handed-in .ensures);
       held = refl;
-      syllables = refl;
     })
 
 enum-told : tie.Need-enum-told
@@ -79,18 +78,17 @@ enum-told c = search needs
 
 returns-3 : tie.Need-returns-3
 returns-3 c =
-    let a = c .before .before .before in
+    let a = c .before .before in
     let s = a .before .before .before in
     let word = s .before .before .before .args .word .now in
     let r : ReadRight (storedForm word) (a .read .result) = subst (λ (l : List ℕ). ReadRight l (a .read .result)) (front (s .stored .result) (storedForm word) (s .stored .ensures)) (a .read .ensures) in
-    let e = c .before .enum-told .given .1 in
+    let e = c .enum-told .given .1 in
     let q = subst (λ (w : ReadAnswer). Answers (storedForm word) (outcomeOf w)) e (r .answers) in
     record {
       answers =
           subst (λ (w : ReadAnswer). StoreAnswers word (outcomeOf w)) (sym e)
           (record { admissible = word-admissible word (s .before .if1 .left) (q .admissible); reads = q });
       held = subst (λ (w : ReadAnswer). WordFor word (outcomeOf w) (s .stored .result)) (sym e) (s .stored .ensures);
-      syllables = r .syllables;
     }
 
 pub normal-form-spec : {M : Type 1} → statement M

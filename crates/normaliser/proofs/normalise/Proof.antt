@@ -1,13 +1,41 @@
--- `normaliser::normalise` meets its contract: the held word is written out where there is room for it.
+-- `normaliser::normalise` meets its contract: a row of syllables is its own stored form, and any other word is stored first.
 -- Assumes nothing.
-use mathlib.Core.Path.{refl, subst}
+use mathlib.Core.Path.{_≡_, refl, ap, sym, subst, _∙_}
+use mathlib.Core.Bool.{Bool, true}
+use Prim.Native.Nat.{ℕ}
+use native.Mathlib.Omega.{arith}
+use lib.ListN.{length}
+use lib.Seq.{length-take-le}
 use borrow.Author.Needs.{needs}
-use Rattle.reading.specs.Answer.{outcomeOf}
+use Rattle.reading.specs.Answer.{outcomeOf, Readable, RowTest}
 use Rattle.reading.specs.declared.read.ReadAnswer.{ReadAnswer}
-use Rattle.normaliser.specs.Normal.{StoreAnswers, word-refused}
-use Rattle.normaliser.proofs.Storing.{held-limit, held-room, short-right, written-right}
+use Rattle.storage.proofs.Rows.{gives-stored}
+use Rattle.normaliser.specs.Normal.{StoreAnswers, word-refused, normaliseOutcomeOf}
+use Rattle.normaliser.proofs.Storing.{stores, held-limit, held-room, held-front, row-stores, put-right}
 use Rattle.normaliser.proofs.normalise.Statement.{statement}
 use Rattle.normaliser.proofs.normalise.Tie as tie
+
+is-row-requires : tie.Need-is-row-requires
+is-row-requires c κs = search needs
+
+put-out-requires : tie.Need-put-out-requires
+put-out-requires c κs =
+    let a = c .before .before in
+    let word = a .before .before .before .args .word .now in
+    let readable : Readable word = subst (RowTest word) (c .before .if1 .taken) (a .is-row .ensures) in
+    readable .admissible .short
+
+same-length : tie.Need-same-length
+same-length c = search needs
+
+returns : tie.Need-returns
+returns c =
+    let p = c .before .before in
+    let a = p .before .before .before in
+    let word = a .before .before .before .args .word .now in
+    let readable : Readable word = subst (RowTest word) (p .before .before .if1 .taken) (a .is-row .ensures) in
+    put-right word word (a .before .before .before .args .output .now) _ (length (readable .row)) (normaliseOutcomeOf (p .put-out .result)) (row-stores word readable)
+    (sym (gives-stored (readable .row) word (readable .gives))) (p .put-out .ensures)
 
 normal-form-requires : tie.Need-normal-form-requires
 normal-form-requires c κs = search needs
@@ -15,48 +43,65 @@ normal-form-requires c κs = search needs
 enum-known-answer : tie.Need-enum-known-answer
 enum-known-answer c = search needs
 
-returns : tie.Need-returns
-returns c =
+returns-2 : tie.Need-returns-2
+returns-2 c =
     let a = c .before .before .before in
-    let word = a .before .before .before .args .word .now in
+    let word = a .before .before .before .before .before .args .word .now in
     word-refused (subst (λ (w : ReadAnswer). StoreAnswers word (outcomeOf w)) (c .before .answer .given .1) (a .normal-form .ensures .answers)) refl
 
 enum-told : tie.Need-enum-told
 enum-told c = search needs
 
-returns-2 : tie.Need-returns-2
-returns-2 c =
+array-share-prefix-values : tie.Need-array-share-prefix-values
+array-share-prefix-values c =
     let e = c .before .before in
     let a = e .before .before in
-    let word = a .before .before .before .args .word .now in
-    short-right word (a .normal-form .result) (a .normal-form .ensures) (e .enum-told .given .0 .0) (e .enum-told .given .1) (a .before .before .before .args .output .now) _ (c .if1 .taken) refl
+    let word = a .before .before .before .before .before .args .word .now in
+    held-room word (a .normal-form .result) (a .normal-form .ensures) (e .enum-told .given .0 .0) (e .enum-told .given .1)
 
-copy-out-requires : tie.Need-copy-out-requires
-copy-out-requires c κs =
-    let e = c .before .before .before .before .before in
+slice-aggregate-put-out : tie.Need-slice-aggregate-put-out
+slice-aggregate-put-out c =
+    let e = c .before .before .before in
     let a = e .before .before in
-    let word = a .before .before .before .args .word .now in
-    (held-room word (a .normal-form .result) (a .normal-form .ensures) (e .enum-told .given .0 .0) (e .enum-told .given .1), c .before .before .before .if1 .left, held-limit word (a .normal-form .result) (a .normal-form .ensures) (e .enum-told .given .0 .0) (e .enum-told .given .1))
+    let word = a .before .before .before .before .before .args .word .now in
+    sym (length-take-le (a .normal-form .result .word .count) (a .normal-form .result .word .values) (held-room word (a .normal-form .result) (a .normal-form .ensures) (e .enum-told .given .0 .0) (e .enum-told .given .1)))
 
-same-length : tie.Need-same-length
-same-length c = search needs
+put-out-requires-2 : tie.Need-put-out-requires-2
+put-out-requires-2 c κs =
+    let e = c .before .before .before .before in
+    let a = e .before .before in
+    let word = a .before .before .before .before .before .args .word .now in
+    let h = held-limit word (a .normal-form .result) (a .normal-form .ensures) (e .enum-told .given .0 .0) (e .enum-told .given .1) in
+    omega (arith, length-take-le (a .normal-form .result .word .count) (a .normal-form .result .word .values) (held-room word (a .normal-form .result) (a .normal-form .ensures) (e .enum-told .given .0 .0) (e .enum-told .given .1)))
+
+same-length-2 : tie.Need-same-length-2
+same-length-2 c = search needs
 
 returns-3 : tie.Need-returns-3
 returns-3 c =
-    let e = c .before .before .before .before .before .before .before .before in
+    let p = c .before .before in
+    let e = p .before .before .before .before .before in
     let a = e .before .before in
-    let word = a .before .before .before .args .word .now in
-    written-right word (a .normal-form .result) (a .normal-form .ensures) (e .enum-told .given .0 .0) (e .enum-told .given .1) (a .before .before .before .args .output .now) _ (c .before .before .before .before .before .before .if1 .left) (c .before .before .copy-out .ensures)
+    let word = a .before .before .before .before .before .args .word .now in
+    let n = e .enum-told .given .0 .0 in
+    put-right word _ (a .before .before .before .before .before .args .output .now) _ n (normaliseOutcomeOf (p .put-out2 .result))
+    (stores word (a .normal-form .result) (a .normal-form .ensures) n (e .enum-told .given .1))
+    (held-front word (a .normal-form .result) (a .normal-form .ensures) n (e .enum-told .given .1)) (p .put-out2 .ensures)
 
 pub normalise-spec : {M : Type 1} → statement M
 normalise-spec =
     tie.close
     (tie.spec
+    is-row-requires
+    put-out-requires
+    same-length
+    returns
     normal-form-requires
     enum-known-answer
-    returns
-    enum-told
     returns-2
-    copy-out-requires
-    same-length
+    enum-told
+    array-share-prefix-values
+    slice-aggregate-put-out
+    put-out-requires-2
+    same-length-2
     returns-3)
