@@ -1,6 +1,4 @@
-pub mod Stored
-pub mod Fronts
-pub mod Keying
+pub mod Weighing
 pub mod Comparing
 pub mod Determined
 pub mod Laws

@@ -2,9 +2,7 @@
 -- Assumes nothing.
 use mathlib.Core.Path.{_≡_}
 use mathlib.Core.List.{List}
-use Prim.Native.Nat.{ℕ, _≤_}
-use lib.ListN.{length}
-use Rattle.formula.specs.Limits.{limit}
+use Prim.Native.Nat.{ℕ}
 use Rattle.formula.specs.Row.{Row, Gives}
 use Rattle.refusals.specs.Refusal.{numberOf, placeOf}
 use Rattle.storage.specs.Stored.{storedForm}
@@ -52,13 +50,8 @@ CompareAnswers first second (second-refuses number place) = OnlyFirst first seco
 abbrev pub CompareRight : List ℕ → List ℕ → Compared → Type 0
 CompareRight first second answer = CompareAnswers first second (compareOutcomeOf answer)
 
--- inner contracts cite what follows: the answer that says the order,
+-- an inner contract cites the answer that says the order
 abbrev pub comparedAs : Order → Compared
 comparedAs Before = Less
 comparedAs Alike = Equal
 comparedAs Behind = Greater
-
--- and that so many elements are in an array as long as a word may be
-pub record Front {A : Type 0} (array : List A) (count : ℕ) : Type 0 where
-  pub room : length array ≡ limit
-  pub within : count ≤ limit

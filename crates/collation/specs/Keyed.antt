@@ -3,11 +3,13 @@
 use mathlib.Core.Path.{_≡_}
 use mathlib.Core.List.{List}
 use Prim.Native.Nat.{ℕ}
+use lib.ListN.{length}
 use Rattle.formula.specs.Row.{Row, Gives}
 use Rattle.reading.specs.Answer.{Outcome, accepts, refuses, outcomeOf}
 use Rattle.storage.specs.Stored.{storedForm}
 use Rattle.normaliser.specs.Normal.{StoreAnswers}
 use Rattle.weighing.specs.Keys.{keyLimit, zeros, keyBytes}
+use Rattle.reading.specs.declared.read.ReadAnswer.{ReadAnswer}
 use Rattle.collation.specs.declared.key.Key.{Key}
 
 -- "A key is held in 320 bytes, of which five a syllable are used. The rest are zero"; with a refusal "a key [..] is all zeros"
@@ -19,3 +21,13 @@ KeyFor word (refuses number place) bytes = bytes ≡ zeros keyLimit
 pub record KeyRight (word : List ℕ) (key : Key) : Type 0 where
   pub answers : StoreAnswers word (outcomeOf (key .answer))
   pub bytes : KeyFor word (outcomeOf (key .answer)) (key .bytes)
+
+-- inner contracts cite what follows: the same with nothing said of the bytes that go with a refusal
+abbrev pub WeighedFor : List ℕ → Outcome → List ℕ → Type 0
+WeighedFor word (accepts n) bytes = (row : Row) → Gives row (storedForm word) → bytes ≡ keyBytes row
+WeighedFor word (refuses number place) bytes = Unit {0}
+
+pub record WeighRight (word : List ℕ) (answer : ReadAnswer) (bytes : List ℕ) : Type 0 where
+  pub answers : StoreAnswers word (outcomeOf answer)
+  pub weighed : WeighedFor word (outcomeOf answer) bytes
+  pub room : length bytes ≡ keyLimit

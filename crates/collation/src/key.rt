@@ -1,7 +1,6 @@
 // The collation key of a word.
-use normaliser::normal_form;
+use crate::weigh::weigh;
 use reading::read::ReadAnswer;
-use weighing::weigh::put_weights;
 ghost use Rattle.collation.specs.Keyed.{KeyRight};
 
 // The weights of a word, five bytes a syllable and zeros behind them, with the number of syllables; zeros with a refusal.
@@ -14,20 +13,13 @@ pub struct Key {
 pub fn key_of(word: &[u16]) -> Key
     ensures { λ r. ⌜ KeyRight (now (word .entry)) r ⌝ }
 {
-    let normal = normal_form(word);
-    let answer = normal.answer;
     let mut bytes = [0; 320];
-    let ReadAnswer::Syllables(count) = answer else {
-        return Key { answer, bytes };
-    };
-    let syllables = normal.syllables;
-    let mut at = 0;
-    while at < count {
-        put_weights(&mut bytes, 5 * at, syllables[at]);
-        at += 1;
+    let answer = weigh(word, &mut bytes);
+    if let ReadAnswer::Refused(_) = answer {
+        return Key {
+            answer,
+            bytes: [0; 320],
+        };
     }
-    Key {
-        answer: ReadAnswer::Syllables(count),
-        bytes,
-    }
+    Key { answer, bytes }
 }

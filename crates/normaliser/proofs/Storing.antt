@@ -14,6 +14,7 @@ use Rattle.letters.specs.Letters.{isAdmitted}
 use Rattle.formula.specs.Limits.{limit}
 use Rattle.formula.specs.Held.{wordOf}
 use Rattle.formula.specs.declared.Word.{Word}
+use Rattle.formula.proofs.Held.{held-front}
 use Rattle.formula.proofs.Lists.{both, both-left, both-right, every, every-at, at-every}
 use Rattle.refusals.specs.Refusal.{numberOf, placeOf}
 use Rattle.refusals.specs.declared.Refusal.{Refusal}
@@ -135,26 +136,27 @@ module _ (word : List ℕ) (r : Normalised) (right : NormalRight word r) (n : �
       omega (arith, ap (λ (w : Word). length (w .values)) held-form, length-append (storedForm word) (replicate (limit - length (storedForm word)) 0), held-count)
 
   -- the values at the front of the held word's array are the stored form
-  pub held-front : take (r .word .count) (r .word .values) ≡ storedForm word
-  held-front =
-      ap (λ (w : Word). take (w .count) (w .values)) held-form
-      ∙ take-at (storedForm word) (replicate (limit - length (storedForm word)) 0) (length (storedForm word)) refl
+  pub held-values : take (r .word .count) (r .word .values) ≡ storedForm word
+  held-values = held-front (r .word) (storedForm word) held-form
 
 -- a row of syllables is its own stored form
-pub row-stores : (word : List ℕ) (readable : Readable word) → Stores word (length (readable .row))
-row-stores word readable =
+pub reads-stores : (word : List ℕ) (n : ℕ) → Reads word n → Stores word n
+reads-stores word n reads =
     record {
-      admissible = readable .admissible;
-      reads =
-          subst (λ (form : List ℕ). Reads form (length (readable .row))) (sym (gives-stored (readable .row) word (readable .gives)))
-          (record {
-            admissible = readable .admissible;
-            row = readable .row;
-            gives = readable .gives;
-            only = readable .only;
-            count = refl;
-          });
+      admissible = reads .admissible;
+      reads = subst (λ (form : List ℕ). Reads form n) (sym (gives-stored (reads .row) word (reads .gives))) reads;
     }
+
+pub readable-stores : (word : List ℕ) (readable : Readable word) → Stores word (length (readable .row))
+readable-stores word readable =
+    reads-stores word (length (readable .row))
+    (record {
+      admissible = readable .admissible;
+      row = readable .row;
+      gives = readable .gives;
+      only = readable .only;
+      count = refl;
+    })
 
 -- writing the stored form is what the normaliser promises
 pub put-right : (word values before after : List ℕ) (n : ℕ) (answer : Outcome) → Stores word n → values ≡ storedForm word → PutRight values before after answer

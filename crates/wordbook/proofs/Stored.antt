@@ -10,6 +10,7 @@ use lib.Seq.{take-at}
 use Rattle.letters.specs.Choice.{pick}
 use Rattle.formula.specs.Limits.{limit}
 use Rattle.formula.specs.declared.Word.{Word}
+use Rattle.formula.proofs.Held.{held-front, held-fits, held-length}
 use Rattle.storage.specs.Stored.{sortRuns, makesLongVowel, makesLetter, compose, storedForm}
 use Rattle.storage.proofs.Runs.{sort-length}
 use Rattle.entries.specs.Change.{Storable}
@@ -40,12 +41,10 @@ stored-storable word s =
 
 -- the front of a held word's array is the stored form
 pub form-front : {word : List ℕ} {held : Word} → HeldForm word held → take (held .count) (held .values) ≡ storedForm word
-form-front {word} {held} h =
-    ap (λ (w : Word). take (w .count) (w .values)) (h .held-is)
-    ∙ take-at (storedForm word) (replicate (limit - length (storedForm word)) 0) (length (storedForm word)) refl
+form-front {word} {held} h = held-front held (storedForm word) (h .held-is)
 
 pub form-fits : {word : List ℕ} {held : Word} → HeldForm word held → held .count ≤ length (held .values)
-form-fits h = subst (λ (w : Word). w .count ≤ length (w .values)) (sym (h .held-is)) (simp length-append (omega arith))
+form-fits {word} {held} h = held-fits held (storedForm word) (h .held-is)
 
 pub form-length : {word : List ℕ} {held : Word} → HeldForm word held → held .count ≡ length (take (held .count) (held .values))
-form-length h = ap (λ (w : Word). w .count) (h .held-is) ∙ sym (ap length (form-front h))
+form-length {word} {held} h = held-length held (storedForm word) (h .held-is)

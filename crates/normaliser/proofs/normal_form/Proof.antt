@@ -1,15 +1,10 @@
 -- `normaliser::normal_form` meets its contract: the stored form is read, and its refusal is one of the word.
 -- Assumes nothing.
-use mathlib.Core.Path.{_≡_, refl, ap, sym, subst, _∙_}
+use mathlib.Core.Path.{_≡_, refl, sym, subst}
 use mathlib.Core.List.{List}
-use Prim.Native.Nat.{ℕ, _≤_, _-_}
-use native.Mathlib.Omega.{arith}
-use lib.ListN.{length, take, replicate, length-append}
-use lib.Seq.{take-at}
+use Prim.Native.Nat.{ℕ}
 use borrow.Author.Needs.{needs}
-use Rattle.formula.specs.Limits.{limit}
-use Rattle.formula.specs.Held.{wordOf}
-use Rattle.formula.specs.declared.Word.{Word}
+use Rattle.formula.proofs.Held.{held-front, held-fits, held-length}
 use Rattle.reading.specs.Answer.{outcomeOf, Answers, ReadRight}
 use Rattle.reading.specs.declared.read.ReadAnswer.{ReadAnswer}
 use Rattle.storage.specs.Stored.{storedForm}
@@ -17,14 +12,6 @@ use Rattle.normaliser.specs.Normal.{too-long, StoreAnswers, WordFor, Nor
 use Rattle.normaliser.proofs.Storing.{word-admissible, refused-right}
 use Rattle.normaliser.proofs.normal_form.Statement.{statement}
 use Rattle.normaliser.proofs.normal_form.Tie as tie
-
--- what a held word's array has at its front
-front : (held : Word) (values : List ℕ) → held ≡ wordOf values → take (held .count) (held .values) ≡ values
-front held values e =
-    ap (λ (w : Word). take (w .count) (w .values)) e ∙ take-at values (replicate (limit - length values) 0) (length values) refl
-
-fits : (held : Word) (values : List ℕ) → held ≡ wordOf values → held .count ≤ length (held .values)
-fits held values e = subst (λ (w : Word). w .count ≤ length (w .values)) (sym e) (simp length-append (omega arith))
 
 refused-requires : tie.Need-refused-requires
 refused-requires c κs = search needs
@@ -38,13 +25,11 @@ stored-requires : tie.Need-stored-requires
 stored-requires c κs = search needs
 
 array-share-prefix-values : tie.Need-array-share-prefix-values
-array-share-prefix-values c = fits (c .before .stored .result) (storedForm (c .before .before .before .before .args .word .now)) (c .before .stored .ensures)
+array-share-prefix-values c = held-fits (c .before .stored .result) (storedForm (c .before .before .before .before .args .word .now)) (c .before .stored .ensures)
 
 slice-aggregate-read : tie.Need-slice-aggregate-read
 slice-aggregate-read c =
-    let s = c .before .before .stored in
-    let form = storedForm (c .before .before .before .before .before .args .word .now) in
-    ap (λ (w : Word). w .count) (s .ensures) ∙ sym (ap length (front (s .result) form (s .ensures)))
+    held-length (c .before .before .stored .result) (storedForm (c .before .before .before .before .before .args .word .now)) (c .before .before .stored .ensures)
 
 read-requires : tie.Need-read-requires
 read-requires c κs = search needs
@@ -64,7 +49,7 @@ returns-2 c =
     let a = k .before .before .before in
     let s = a .before .before .before in
     let word = s .before .before .before .args .word .now in
-    let r : ReadRight (storedForm word) (a .read .result) = subst (λ (l : List ℕ). ReadRight l (a .read .result)) (front (s .stored .result) (storedForm word) (s .stored .ensures)) (a .read .ensures) in
+    let r : ReadRight (storedForm word) (a .read .result) = subst (λ (l : List ℕ). ReadRight l (a .read .result)) (held-front (s .stored .result) (storedForm word) (s .stored .ensures)) (a .read .ensures) in
     subst (NormalRight word) (sym (c .refused2 .ensures))
     (record {
       answers =
@@ -81,7 +66,7 @@ returns-3 c =
     let a = c .before .before in
     let s = a .before .before .before in
     let word = s .before .before .before .args .word .now in
-    let r : ReadRight (storedForm word) (a .read .result) = subst (λ (l : List ℕ). ReadRight l (a .read .result)) (front (s .stored .result) (storedForm word) (s .stored .ensures)) (a .read .ensures) in
+    let r : ReadRight (storedForm word) (a .read .result) = subst (λ (l : List ℕ). ReadRight l (a .read .result)) (held-front (s .stored .result) (storedForm word) (s .stored .ensures)) (a .read .ensures) in
     let e = c .enum-told .given .1 in
     let q = subst (λ (w : ReadAnswer). Answers (storedForm word) (outcomeOf w)) e (r .answers) in
     record {

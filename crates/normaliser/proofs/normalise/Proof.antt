@@ -11,7 +11,7 @@ use Rattle.reading.specs.Answer.{outcomeOf, Readable, RowTest}
 use Rattle.reading.specs.declared.read.ReadAnswer.{ReadAnswer}
 use Rattle.storage.proofs.Rows.{gives-stored}
 use Rattle.normaliser.specs.Normal.{StoreAnswers, word-refused, normaliseOutcomeOf}
-use Rattle.normaliser.proofs.Storing.{stores, held-limit, held-room, held-front, row-stores, put-right}
+use Rattle.normaliser.proofs.Storing.{stores, held-limit, held-room, held-values, readable-stores, put-right}
 use Rattle.normaliser.proofs.normalise.Statement.{statement}
 use Rattle.normaliser.proofs.normalise.Tie as tie
 
@@ -34,7 +34,7 @@ returns c =
     let a = p .before .before .before in
     let word = a .before .before .before .args .word .now in
     let readable : Readable word = subst (RowTest word) (p .before .before .if1 .taken) (a .is-row .ensures) in
-    put-right word word (a .before .before .before .args .output .now) _ (length (readable .row)) (normaliseOutcomeOf (p .put-out .result)) (row-stores word readable)
+    put-right word word (a .before .before .before .args .output .now) _ (length (readable .row)) (normaliseOutcomeOf (p .put-out .result)) (readable-stores word readable)
     (sym (gives-stored (readable .row) word (readable .gives))) (p .put-out .ensures)
 
 normal-form-requires : tie.Need-normal-form-requires
@@ -86,7 +86,7 @@ returns-3 c =
     let n = e .enum-told .given .0 .0 in
     put-right word _ (a .before .before .before .before .before .args .output .now) _ n (normaliseOutcomeOf (p .put-out2 .result))
     (stores word (a .normal-form .result) (a .normal-form .ensures) n (e .enum-told .given .1))
-    (held-front word (a .normal-form .result) (a .normal-form .ensures) n (e .enum-told .given .1)) (p .put-out2 .ensures)
+    (held-values word (a .normal-form .result) (a .normal-form .ensures) n (e .enum-told .given .1)) (p .put-out2 .ensures)
 
 pub normalise-spec : {M : Type 1} → statement M
 normalise-spec =

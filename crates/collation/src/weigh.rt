@@ -1,0 +1,37 @@
+// The weights of a word that is normalised first.
+use crate::standin::fill;
+use normaliser::normal_form;
+use reading::read::ReadAnswer;
+ghost use mathlib.Core.Path.{_≡_};
+ghost use lib.ListN.{length};
+ghost use Rattle.weighing.specs.Keys.{keyLimit, zeros};
+ghost use Rattle.collation.specs.Keyed.{WeighRight};
+
+// Fills the key of a word's stored form, which is a word of its own.
+fn weigh_stored(word: &[u16], bytes: &mut [u8; 320]) -> ReadAnswer
+    requires { ⌜ length (now bytes) ≡ keyLimit ⌝ }
+    ensures { λ r. ⌜ WeighRight (now (word .entry)) r (now (bytes .exit)) ⌝ }
+{
+    let normal = normal_form(word);
+    let answer = normal.answer;
+    if let ReadAnswer::Refused(_) = answer {
+        return answer;
+    }
+    *bytes = [0; 320];
+    let form = normal.word;
+    let count = form.count;
+    let values = form.values;
+    fill(&values[..count], bytes)
+}
+
+// Fills a key of zeros with the weights of a word's stored form. A row of syllables is its own stored form.
+pub(crate) fn weigh(word: &[u16], bytes: &mut [u8; 320]) -> ReadAnswer
+    requires { ⌜ now bytes ≡ zeros keyLimit ⌝ }
+    ensures { λ r. ⌜ WeighRight (now (word .entry)) r (now (bytes .exit)) ⌝ }
+{
+    let answer = fill(word, bytes);
+    if let ReadAnswer::Syllables(_) = answer {
+        return answer;
+    }
+    weigh_stored(word, bytes)
+}
