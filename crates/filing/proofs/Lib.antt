@@ -1,0 +1,5 @@
+pub mod Stores
+pub mod Rows
+pub mod Putting
+pub mod Laws
+pub mod Comparing
