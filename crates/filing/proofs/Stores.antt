@@ -5,7 +5,7 @@ use mathlib.Core.List.{List, [], _∷_, _++_, append-assoc}
 use Prim.Native.Nat.{ℕ, zero, suc, _+_, _≤_}
 use native.Mathlib.Nat.{add-zero, le-of-suc-le-suc, not-suc-le-zero}
 use native.Mathlib.Omega.{arith}
-use lib.ListN.{length, take, drop, set}
+use lib.ListN.{length, take, drop, set, length-append}
 use lib.Seq.{sets, sets-eq, take-set-le, take-take, take-nil, length-take-le, take-at, drop-at}
 
 pub sets-append : (a b l : List ℕ) (i : ℕ) → sets (sets l i a) (i + length a) b ≡ sets l i (a ++ b)
@@ -38,3 +38,9 @@ part-of-front (x ∷ l) (suc p) n (suc q) h = part-of-front l p n q (omega arith
 pub part-behind : (l : List ℕ) (n : ℕ) → drop 1 (take (suc n) l) ≡ take n (drop 1 l)
 part-behind [] n = sym (take-nil n)
 part-behind (x ∷ l) n = refl
+
+-- what stands behind the stores stays
+pub sets-behind : (vs l : List ℕ) (i : ℕ) → i + length vs ≤ length l → drop (i + length vs) (sets l i vs) ≡ drop (i + length vs) l
+sets-behind vs l i h =
+    ap (drop (i + length vs)) (sets-eq vs l i h)
+    ∙ drop-at (take i l ++ vs) (drop (i + length vs) l) (i + length vs) (length-append (take i l) vs ∙ ap (λ (n : ℕ). n + length vs) (length-take-le i l (omega arith)))
