@@ -46,7 +46,8 @@ collect-start b free keys starts o =
     }
 
 -- the same state by other names
-pub collect-as : (b : List ℕ) (free : ℕ) (keys-before starts-before keys starts : List ℕ) (live at : ℕ) (keys-now starts-now : List ℕ) (live-now at-now : ℕ)
+pub collect-as : (b : List ℕ) (free : ℕ) (keys-before starts-before keys starts : List ℕ) (live at : ℕ)
+    (keys-now starts-now : List ℕ) (live-now at-now : ℕ)
     → keys-now ≡ keys → starts-now ≡ starts → live-now ≡ live → at-now ≡ at → Collected b free keys-before starts-before keys starts live at
     → Collected b free keys-before starts-before keys-now starts-now live-now at-now
 collect-as b free keys-before starts-before keys starts live at keys-now starts-now live-now at-now p q r s c = rw (p, q, r, s) c
@@ -66,7 +67,8 @@ live-snoc (y ∷ seen) x = go (y .live) (live-snoc seen x)
     go true h = ap (λ (l : List ℕ). y .start ∷ l) h
     go false h = h
 
-keys-snoc : (b keys starts : List ℕ) (s : ℕ) → withKeys b keys (starts ++ (s ∷ [])) ≡ sets (withKeys b keys starts) (5 * s) (keptKey (rowOf (wordAt b s)))
+keys-snoc : (b keys starts : List ℕ) (s : ℕ)
+    → withKeys b keys (starts ++ (s ∷ [])) ≡ sets (withKeys b keys starts) (5 * s) (keptKey (rowOf (wordAt b s)))
 unfolding withKeys
 keys-snoc b keys [] s = refl
 keys-snoc b keys (x ∷ starts) s = keys-snoc b (sets keys (5 * x) (keptKey (rowOf (wordAt b x)))) starts s
@@ -76,7 +78,8 @@ starts-snoc starts list s =
     let n : 0 + length list ≡ length list = omega arith in
     sym (sets-append list (s ∷ []) starts 0) ∙ ap (λ (k : ℕ). set (sets starts 0 list) k s) n
 
-module _ (b : List ℕ) (free : ℕ) (keys-before starts-before keys starts : List ℕ) (live at : ℕ) (c : Collected b free keys-before starts-before keys starts live at) where
+module _ (b : List ℕ) (free : ℕ) (keys-before starts-before keys starts : List ℕ) (live at : ℕ)
+    (c : Collected b free keys-before starts-before keys starts live at) where
   pub at-record : at < free → Turn b at free (c .list) (c .seen) (c .rest)
   at-record h = turn b at free (c .list) (c .seen) (c .rest) (c .walk) h
 
@@ -88,14 +91,16 @@ module _ (b : List ℕ) (free : ℕ) (keys-before starts-before keys starts : Li
     turn-readable = here-readable b at free (c .list) (c .seen) (t .entry) (t .behind) (t .stands)
 
     -- the starts after the record at the place, by whether it is live
-    passed : (live-is : Bool) → eqb (getD b (at + 1) 0) 0x57 ≡ live-is → liveStarts (c .seen ++ (t .entry ∷ [])) ≡ liveStarts (c .seen) ++ pick live-is (at ∷ []) []
+    passed : (live-is : Bool) → eqb (getD b (at + 1) 0) 0x57 ≡ live-is
+        → liveStarts (c .seen ++ (t .entry ∷ [])) ≡ liveStarts (c .seen) ++ pick live-is (at ∷ []) []
     passed live-is e =
         live-snoc (c .seen) (t .entry)
         ∙ ap (λ (x : Entry). liveStarts (c .seen) ++ pick (x .live) (x .start ∷ []) []) (sym (t .stands .is))
         ∙ ap (λ (u : Bool). liveStarts (c .seen) ++ pick u (at ∷ []) []) e
 
     pub collect-live : getD b (at + 1) 0 ≡ 0x57 → (keys-after starts-after : List ℕ) → keys-after ≡ sets keys (5 * at) (keptKey (rowOf (wordAt b at)))
-        → starts-after ≡ set starts live at → Collected b free keys-before starts-before keys-after starts-after (live + 1) (at + 7 + getD b (at + 2) 0)
+        → starts-after ≡ set starts live at
+        → Collected b free keys-before starts-before keys-after starts-after (live + 1) (at + 7 + getD b (at + 2) 0)
     unfolding pick
     collect-live m keys-after starts-after p q =
         let f = t .stands .frame in
@@ -108,7 +113,8 @@ module _ (b : List ℕ) (free : ℕ) (keys-before starts-before keys starts : Li
           count = omega (arith, c .count, ap length e, length-append (liveStarts (c .seen)) (at ∷ []));
           few = omega (arith, c .few, f .some);
           starts-are =
-              q ∙ (λ i. set (c .starts-are i) (c .count i) at) ∙ sym (starts-snoc starts-before (liveStarts (c .seen)) at) ∙ ap (sets starts-before 0) (sym e);
+              q ∙ (λ i. set (c .starts-are i) (c .count i) at) ∙ sym (starts-snoc starts-before (liveStarts (c .seen)) at)
+              ∙ ap (sets starts-before 0) (sym e);
           keys-are =
               p ∙ ap (λ (l : List ℕ). sets l (5 * at) (keptKey (rowOf (wordAt b at)))) (c .keys-are)
               ∙ sym (keys-snoc b keys-before (liveStarts (c .seen)) at) ∙ ap (withKeys b keys-before) (sym e);
@@ -131,7 +137,8 @@ module _ (b : List ℕ) (free : ℕ) (keys-before starts-before keys starts : Li
         }
 
   -- all are passed
-  pub collect-end : Opened b free → length keys-before ≡ keyRoom → length starts-before ≡ mostLive → free ≤ at → FiledRight b keys-before starts-before keys starts live
+  pub collect-end : Opened b free → length keys-before ≡ keyRoom → length starts-before ≡ mostLive → free ≤ at
+      → FiledRight b keys-before starts-before keys starts live
   collect-end o key-room start-room h =
       let w = c .walk in
       let ended : at ≡ free = sym (ap (endOf at) (walk-end b at free (c .list) (c .seen) (c .rest) w h)) ∙ w .end in

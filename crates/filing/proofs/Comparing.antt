@@ -8,7 +8,6 @@ use native.Mathlib.Omega.{arith}
 use types.Run.{OneOf}
 use denote.Enum.Declared.{tagOf}
 use lib.ListN.{length, getD, take, drop}
-use Rattle.formula.specs.Row.{Row}
 use Rattle.formula.specs.Weighing.{weights}
 use Rattle.weighing.specs.Order.{orderNumbers, inTurn, orderValues, orderWeights, order}
 use Rattle.weighing.specs.declared.order.Order.{Order}

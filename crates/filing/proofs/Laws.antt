@@ -27,7 +27,8 @@ pub before-transitive : (x y z : Entry) → T (before x y) → T (before y z) �
 unfolding before
 before-transitive x y z s t =
     is-less (order (fileOf x) (fileOf z))
-    (words-are-ordered .transitive (fileOf x) (fileOf y) (fileOf z) (less-is (order (fileOf x) (fileOf y)) s) (less-is (order (fileOf y) (fileOf z)) t))
+    (words-are-ordered .transitive (fileOf x) (fileOf y) (fileOf z) (less-is (order (fileOf x) (fileOf y)) s)
+    (less-is (order (fileOf y) (fileOf z)) t))
 
 -- two entries with different words
 pub before-total : (x y : Entry) → (x .word ≡ y .word → ⊥) → T (before x y) ⊎ T (before y x)

@@ -15,7 +15,7 @@ use Rattle.entries.specs.Limits.{bookLimit}
 use Rattle.entries.specs.Entries.{Entry, wordAt, entryAt, isFramed}
 use Rattle.entries.specs.Book.{endOf, IsBook}
 use Rattle.entries.specs.Map.{counted, liveCount}
-use Rattle.entries.proofs.Records.{Framed, framed-true, framed-is}
+use Rattle.entries.proofs.Records.{framed-true, framed-is}
 use Rattle.entries.proofs.Walk.{Walk, walk-start, Here, here}
 use Rattle.filing.specs.Filing.{rowOf, keptKey, keyRoom, HasKey, AllKeyed, liveOnes, startOf, withKeys}
 use Rattle.filing.proofs.Stores.{sets-before, sets-there, part-of-front}
@@ -38,10 +38,12 @@ whole : (b : List ℕ) (list : List Entry) → IsBook b list → Walk b 0 (endOf
 whole b list k = walk-start b (endOf 0 list) (record { list = list; is-book = k; end = refl })
 
 -- the word of the entry at a place of a walk is readable
-pub here-readable : (b : List ℕ) (at free : ℕ) (list seen : List Entry) (x : Entry) (rest : List Entry) → Here b at free list seen x rest → Readable (wordAt b at)
+pub here-readable : (b : List ℕ) (at free : ℕ) (list seen : List Entry) (x : Entry) (rest : List Entry) → Here b at free list seen x rest
+    → Readable (wordAt b at)
 here-readable b at free list seen x rest h = subst (λ (e : Entry). Readable (e .word)) (sym (h .is)) (h .good .readable)
 
-entries-ahead : (b : List ℕ) (at free : ℕ) (list seen rest : List Entry) → Walk b at free list seen rest → map (entryAt b) (liveStarts rest) ≡ liveOnes rest
+entries-ahead : (b : List ℕ) (at free : ℕ) (list seen rest : List Entry) → Walk b at free list seen rest
+    → map (entryAt b) (liveStarts rest) ≡ liveOnes rest
 unfolding liveOnes pick
 entries-ahead b at free list seen [] w = refl
 entries-ahead b at free list seen (x ∷ rest) w =
@@ -78,7 +80,8 @@ spaced-ahead b at free list seen (x ∷ rest) w =
     go : (t : Bool) → at ≡ x .start → T (isFramed b at) → Readable (wordAt b at) → Spaced b (at + 7 + getD b (at + 2) 0) (liveStarts rest)
         → Spaced b at (map startOf (pick t (x ∷ liveOnes rest) (liveOnes rest)))
     go true e f r s =
-        subst (λ (p : ℕ). (at ≤ p) × T (isFramed b p) × Readable (wordAt b p) × Spaced b (p + 7 + getD b (p + 2) 0) (liveStarts rest)) e (omega arith, f, r, s)
+        subst (λ (p : ℕ). (at ≤ p) × T (isFramed b p) × Readable (wordAt b p) × Spaced b (p + 7 + getD b (p + 2) 0) (liveStarts rest)) e
+        (omega arith, f, r, s)
     go false e f r s = spaced-before b (at + 7 + getD b (at + 2) 0) at (liveStarts rest) (omega arith) s
 
 pub spaced-of-book : (b : List ℕ) (list : List Entry) → IsBook b list → Spaced b 0 (liveStarts list)
@@ -107,7 +110,8 @@ kept-on b keys at next starts key h s e =
     ∙ ap (λ (l : List ℕ). take (length key) (drop (5 * at) l)) (keys-before b keys next (5 * next) starts (omega arith) s)
     ∙ part-of-front keys (5 * at) (length key) (5 * next) h ∙ e
 
-pub all-keyed : (b keys : List ℕ) (at : ℕ) (starts : List ℕ) → length b ≤ bookLimit → length keys ≡ keyRoom → Spaced b at starts → AllKeyed b (withKeys b keys starts) starts
+pub all-keyed : (b keys : List ℕ) (at : ℕ) (starts : List ℕ) → length b ≤ bookLimit → length keys ≡ keyRoom → Spaced b at starts
+    → AllKeyed b (withKeys b keys starts) starts
 unfolding withKeys
 all-keyed b keys at [] short room s = tt
 all-keyed b keys at (x ∷ starts) short room s =

@@ -2,9 +2,9 @@
 -- Assumes nothing.
 use mathlib.Core.Path.{_≡_, sym, ap, _∙_}
 use mathlib.Core.List.{List, _∷_}
-use Prim.Native.Nat.{ℕ, suc, _+_, _*_, _<_, _≤_}
+use Prim.Native.Nat.{ℕ, suc, _+_, _*_, _<_}
 use native.Mathlib.Omega.{arith}
-use lib.ListN.{length, take, getD, set, length-set}
+use lib.ListN.{length, take, getD, set}
 use lib.Seq.{sets, length-sets, length-take-le}
 use Rattle.formula.specs.declared.Syllable.{Syllable as Numbers}
 use Rattle.weighing.specs.Weighed.{weightsBy}
@@ -23,5 +23,6 @@ put-next keys from next list d h stored after e f =
     ∙ ap (sets keys (suc from)) (sym (key-next list next d h))
 
 -- stores keep the length
-pub put-length : (keys : List ℕ) (from count : ℕ) (vs stored : List ℕ) → stored ≡ sets (set keys from count) (suc from) vs → length stored ≡ length keys
+pub put-length : (keys : List ℕ) (from count : ℕ) (vs stored : List ℕ) → stored ≡ sets (set keys from count) (suc from) vs
+    → length stored ≡ length keys
 put-length keys from count vs stored e = ap length e ∙ length-sets keys from (count ∷ vs)

@@ -1,7 +1,7 @@
 -- The row of a readable word is the only one that gives it, with at most as many syllables as the word has values; and what its kept key tells.
 -- Assumes nothing.
-use mathlib.Core.Path.{_≡_, refl, sym, ap, subst, _∙_}
-use mathlib.Core.List.{List, _∷_}
+use mathlib.Core.Path.{_≡_, sym, ap, subst, _∙_}
+use mathlib.Core.List.{List}
 use Prim.Native.Nat.{ℕ, suc, _+_, _*_, _≤_}
 use native.Mathlib.Nat.{add-zero}
 use native.Mathlib.Omega.{arith}
@@ -40,7 +40,8 @@ kept-length row = omega (arith, key-used row)
 
 -- the key of the record at a place ends before that of the record behind it, within the room for keys
 pub key-within : (b : List ℕ) (at : ℕ) → length b ≤ bookLimit → Framed b at → Readable (wordAt b at)
-    → (5 * at + length (keptKey (rowOf (wordAt b at))) ≤ 5 * (at + 7 + getD b (at + 2) 0)) × (5 * at + length (keptKey (rowOf (wordAt b at))) ≤ keyRoom)
+    → (5 * at + length (keptKey (rowOf (wordAt b at))) ≤ 5 * (at + 7 + getD b (at + 2) 0))
+    × (5 * at + length (keptKey (rowOf (wordAt b at))) ≤ keyRoom)
 key-within b at s f r =
     let k = kept-length (rowOf (wordAt b at)) in
     let n = length-word b at (f .room) in

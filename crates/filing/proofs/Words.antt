@@ -1,12 +1,12 @@
 -- A readable word is read as its row, so the weights of the syllables that are read are those of its key.
 -- Assumes nothing.
-use mathlib.Core.Path.{_≡_, refl, sym, ap, subst, _∙_}
+use mathlib.Core.Path.{_≡_, sym, ap, subst, _∙_}
 use mathlib.Core.List.{List, _∷_}
 use Prim.Native.Nat.{ℕ, _≤_}
 use lib.ListN.{length, take}
 use Rattle.formula.specs.Limits.{limit}
 use Rattle.formula.specs.Syllable.{no-final}
-use Rattle.formula.specs.Row.{Row, Gives}
+use Rattle.formula.specs.Row.{Gives}
 use Rattle.refusals.specs.Refusal.{numberOf, placeOf}
 use Rattle.refusals.specs.declared.Refusal.{Refusal}
 use Rattle.reading.specs.Answer.{Reads, outcomeOf, Answers, Readable, ReadRight}
@@ -46,5 +46,6 @@ module _ (word : List ℕ) (readable : Readable word) (r : Reading) (right : Rea
     unfolding keptKey
     read-key =
         let weights : keyBy (take n (r .syllables)) ≡ keyOf (rowOf word) =
-        ap keyBy (front-of-row word n has (r .syllables) (syllables word r right n e) (rowOf word) gives) ∙ key-of-row no-final (rowOf word) (gives .is-row) in
+        ap keyBy (front-of-row word n has (r .syllables) (syllables word r right n e) (rowOf word) gives)
+        ∙ key-of-row no-final (rowOf word) (gives .is-row) in
         λ i. read-count i ∷ weights i

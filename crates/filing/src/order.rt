@@ -25,15 +25,15 @@ fn is_less(order: Order) -> bool
 fn order_parts(
     bytes: &[u8],
     first: usize,
-    first_count: usize,
+    first_size: usize,
     second: usize,
-    second_count: usize,
+    second_size: usize,
 ) -> Order
-    requires { ⌜ (first + «first_count» ≤ length (now bytes)) × (second + «second_count» ≤ length (now bytes)) ⌝ }
-    ensures { λ r. ⌜ r ≡ orderValues (take «first_count» (drop first (now (bytes .entry)))) (take «second_count» (drop second (now (bytes .entry)))) ⌝ }
+    requires { ⌜ (first + «first_size» ≤ length (now bytes)) × (second + «second_size» ≤ length (now bytes)) ⌝ }
+    ensures { λ r. ⌜ r ≡ orderValues (take «first_size» (drop first (now (bytes .entry)))) (take «second_size» (drop second (now (bytes .entry)))) ⌝ }
 {
-    let first_end = first + first_count;
-    let second_end = second + second_count;
+    let first_end = first + first_size;
+    let second_end = second + second_size;
     order_bytes(&bytes[first..first_end], &bytes[second..second_end])
 }
 

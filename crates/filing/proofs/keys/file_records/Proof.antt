@@ -1,17 +1,18 @@
 -- `filing::keys::file_records` meets its contract. The invariant: the live records among those that are passed are filed. The measure is what is left
 -- before the free bytes. Assumes nothing.
 use borrow.Author.Needs.{needs}
-use mathlib.Core.Path.{_≡_, refl, sym, ap, _∙_}
+use mathlib.Core.Path.{_≡_, ap}
 use mathlib.Core.Logic.{⊎-elim}
 use mathlib.Core.List.{List}
 use Prim.Native.Nat.{ℕ, _+_, _-_, _<_}
 use native.Mathlib.Omega.{arith}
-use lib.ListN.{length, getD, set}
+use lib.ListN.{getD, set}
 use denote.Ref.{now}
 use Rattle.entries.proofs.Records.{framed-is}
 use Rattle.entries.proofs.Walk.{Turn}
 use Rattle.opening.proofs.Marks.{mark-met, mark-missed}
-use Rattle.filing.proofs.Collecting.{Collected, collect-start, collect-as, at-record, collect-room, turn-readable, collect-live, collect-removed, collect-end}
+use Rattle.filing.proofs.Collecting.{Collected, collect-start, collect-as, at-record, collect-room, turn-readable}
+use Rattle.filing.proofs.Collecting.{collect-live, collect-removed, collect-end}
 use Rattle.filing.proofs.keys.file_records.Statement.{statement}
 use Rattle.filing.proofs.keys.file_records.Tie as tie
 
@@ -92,11 +93,13 @@ loop-again c =
     let e : l .at + (7 + c .wide .result) ≡ l .at + 7 + getD (bytes a) (l .at + 2) 0 = omega (arith, c .wide .ensures .0) in
     ⊎-elim
     (λ w. collect-as _ _ _ _ _ _ _ _ _ _ _ _ (w .4) (w .5) (w .6) e
-    (collect-live _ _ _ _ _ _ _ _ (l .inv) t (mark-met (getD (bytes a) (l .at) 0) _ 0x4D 0x57 _ (m .has-mark .ensures) (w .0 .taken) .1) _ _ (w .2 .ensures)
+    (collect-live _ _ _ _ _ _ _ _ (l .inv) t
+    (mark-met (getD (bytes a) (l .at) 0) _ 0x4D 0x57 _ (m .has-mark .ensures) (w .0 .taken) .1) _ _ (w .2 .ensures)
     (ap (set (l .starts) (l .live)) (w .3 .ensures))))
     (λ w. collect-as _ _ _ _ _ _ _ _ _ _ _ _ (w .1) (w .2) (w .3) e
     (collect-removed _ _ _ _ _ _ _ _ (l .inv) t
-    (λ live. mark-missed (getD (bytes a) (l .at) 0) _ 0x4D 0x57 _ (m .has-mark .ensures) (w .0 .left) (t .stands .frame .first) live))) (c .before .before .if1 .came)
+    (λ live. mark-missed (getD (bytes a) (l .at) 0) _ 0x4D 0x57 _ (m .has-mark .ensures) (w .0 .left) (t .stands .frame .first) live)))
+    (c .before .before .if1 .came)
 
 returns : tie.Need-returns Inv-loop μ-loop
 returns c =

@@ -1,11 +1,11 @@
 -- `filing::keys::keep_key` meets its contract: the word is readable, so it is read as its row, whose key is put.
 -- Assumes nothing.
 use borrow.Author.Needs.{needs}
-use mathlib.Core.Path.{_≡_, refl, sym, ap, subst, _∙_}
+use mathlib.Core.Path.{_≡_, sym, ap, subst, _∙_}
 use mathlib.Core.List.{List, map}
-use Prim.Native.Nat.{ℕ, _+_, _*_, _≤_}
+use Prim.Native.Nat.{ℕ, _+_, _*_}
 use native.Mathlib.Omega.{arith}
-use lib.ListN.{length, getD, take, drop}
+use lib.ListN.{take, drop}
 use lib.Seq.{sets, length-take-le}
 use denote.Ref.{now}
 use Rattle.reading.specs.Answer.{ReadRight}
@@ -72,7 +72,7 @@ enum-known-answer : tie.Need-enum-known-answer
 enum-known-answer c = search needs
 
 mul-put-key : tie.Need-mul-put-key
-mul-put-key c = let s = c .before .before .before .before .before .before .before .before .before .before .before .before in let f = frame s in omega (arith, f .room, s .pre .0)
+mul-put-key c = let s = start-of (c .before .before .before .before .before) in let f = frame s in omega (arith, f .room, s .pre .0)
 
 put-key-requires : tie.Need-put-key-requires
 put-key-requires c κs =

@@ -1,21 +1,17 @@
--- `filing::keys::put_key` meets its contract. The invariant: the number and the weights of the first syllables are stored. The measure is what is left
--- of the syllables. Assumes nothing.
+-- `filing::keys::put_key` meets its contract. The invariant: the number and the weights of the first syllables are stored. The measure is
+-- what is left of the syllables. Assumes nothing.
 use borrow.Author.Needs.{needs}
-use mathlib.Core.Path.{_≡_, refl, sym, ap, _∙_}
-use mathlib.Core.List.{List, _∷_}
-use Prim.Native.Nat.{ℕ, suc, _+_, _*_, _-_, _≤_}
+use mathlib.Core.Path.{_≡_, refl, _∙_}
+use mathlib.Core.List.{_∷_}
+use Prim.Native.Nat.{suc, _-_, _≤_}
 use native.Mathlib.Omega.{arith}
-use lib.ListN.{length, take, length-set}
-use lib.Seq.{sets, length-sets}
+use lib.ListN.{length, take}
+use lib.Seq.{sets}
 use denote.Ref.{now}
 use Rattle.weighing.specs.Keys.{keyBy}
 use Rattle.filing.proofs.Putting.{put-next, put-length}
 use Rattle.filing.proofs.keys.put_key.Statement.{statement}
 use Rattle.filing.proofs.keys.put_key.Tie as tie
-use Rattle.filing.proofs.keys.put_key.Reads as reads
-use Rattle.filing.proofs.keys.put_key.Lts as lts
-use Rattle.filing.proofs.keys.count_byte.Reads as count-byte-reads
-use Rattle.weighing.proofs.weigh.put_weights.Reads as put-weights-reads
 
 abbrev Inv-loop : tie.InvT-loop
 Inv-loop keys₀ from count syllables next₀ keys next = (next ≤ count) × (keys ≡ sets keys₀ (suc from) (keyBy (take next syllables)))
@@ -23,54 +19,47 @@ Inv-loop keys₀ from count syllables next₀ keys next = (next ≤ count) × (k
 abbrev μ-loop : tie.MeasureT-loop
 μ-loop keys₀ from count syllables next₀ keys next = count - next
 
--- src/keys.rt:51:18
+same-size : (a : tie.At-loop Inv-loop μ-loop) → length (a .loop .keys) ≡ length (now (a .before .before .before .args .keys))
+same-size a =
+    let s = a .before .before .before .args in
+    put-length (now (s .keys)) (s .from) (a .before .count-byte .result) (keyBy (take (a .loop .next) (s .t3))) (a .loop .keys) (a .loop .inv .1)
+
 count-byte-requires : tie.Need-count-byte-requires Inv-loop μ-loop
 count-byte-requires c κs = search needs
 
--- src/keys.rt:51:5
 slice-write-keys : tie.Need-slice-write-keys Inv-loop μ-loop
 slice-write-keys c = search needs
 
--- src/keys.rt:53:5
 loop-holds : tie.Need-loop-holds Inv-loop μ-loop
 loop-holds c = (omega arith, refl)
 
--- src/keys.rt:54:27
 add-put-weights : tie.Need-add-put-weights Inv-loop μ-loop
 add-put-weights c = search needs
 
--- src/keys.rt:54:38
 mul-put-weights : tie.Need-mul-put-weights Inv-loop μ-loop
 mul-put-weights c = search needs
 
--- src/keys.rt:54:27
 add-put-weights-2 : tie.Need-add-put-weights-2 Inv-loop μ-loop
 add-put-weights-2 c = search needs
 
--- src/keys.rt:54:48
 mul-put-weights-2 : tie.Need-mul-put-weights-2 Inv-loop μ-loop
 mul-put-weights-2 c = search needs
 
--- src/keys.rt:54:48
 array-copy-out-put-weights : tie.Need-array-copy-out-put-weights Inv-loop μ-loop
 array-copy-out-put-weights c = search needs
 
--- src/keys.rt:54:9
 put-weights-requires : tie.Need-put-weights-requires Inv-loop μ-loop
 put-weights-requires c κs =
     let s = c .before .before .before .before .before .before in
     let l = c .before .before .before .loop in
-    omega (arith, s .pre .2, put-length (now (s .args .keys)) (s .args .from) (c .before .before .before .before .count-byte .result) (keyBy (take (l .next) (s .args .t3))) (l .keys) (l .inv .1))
+    omega (arith, s .pre .2, same-size (c .before .before .before))
 
--- src/keys.rt:55:9
 add-next : tie.Need-add-next Inv-loop μ-loop
 add-next c = search needs
 
--- src/keys.rt:53:5
 loop-less : tie.Need-loop-less Inv-loop μ-loop
 loop-less c = search needs
 
--- src/keys.rt:53:5
 loop-again : tie.Need-loop-again Inv-loop μ-loop
 loop-again c =
     let s = c .before .before .before .before .before .before .before .before .before in
@@ -79,13 +68,10 @@ loop-again c =
       put-next _ _ (l .next) (s .args .t3) _ (omega (arith, s .pre .1)) (l .keys) _ (l .inv .1) (c .before .before .put-weights .ensures),
     )
 
--- src/keys.rt:47:1
 same-length : tie.Need-same-length Inv-loop μ-loop
 same-length c =
-    let s = c .before .before .before .before in
-    put-length (now (s .args .keys)) (s .args .from) (c .before .before .count-byte .result) (keyBy (take (c .before .loop .next) (s .args .t3))) (c .before .loop .keys) (c .before .loop .inv .1)
+    same-size (c .before)
 
--- src/keys.rt:47:1
 returns : tie.Need-returns Inv-loop μ-loop
 returns c =
     let s = c .before .before .before .before in

@@ -40,8 +40,8 @@ order-bytes-requires c κs = search needs
 returns : tie.Need-returns
 returns c =
     let s = c .before .before .before .before .args in
-    let n : s .first + s .first-count - s .first ≡ s .first-count = omega arith in
-    let m : s .second + s .second-count - s .second ≡ s .second-count = omega arith in
+    let n : s .first + s .first-size - s .first ≡ s .first-size = omega arith in
+    let m : s .second + s .second-size - s .second ≡ s .second-size = omega arith in
     c .order-bytes .ensures
     ∙ (λ i. orderValues (take (n i) (drop (s .first) (now (s .bytes)))) (take (m i) (drop (s .second) (now (s .bytes)))))
 
