@@ -15,6 +15,9 @@ use Rattle.entries.specs.Limits.{bookLimit}
 use Rattle.entries.specs.Entries.{Entry, wordAt, entryAt, isFramed}
 use Rattle.entries.specs.Book.{endOf, IsBook}
 use Rattle.entries.specs.Map.{counted, liveCount}
+use Rattle.entries.specs.Rank.{insert, sortedOnto}
+use Rattle.entries.proofs.Tests.{of-true}
+use Rattle.entries.proofs.Ranked.{AllLive}
 use Rattle.entries.proofs.Records.{framed-true, framed-is}
 use Rattle.entries.proofs.Walk.{Walk, walk-start, Here, here}
 use Rattle.filing.specs.Filing.{rowOf, keptKey, keyRoom, HasKey, AllKeyed, liveOnes, startOf, withKeys}
@@ -32,6 +35,28 @@ live-count (x ∷ list) = go (x .live) (live-count list)
     go : (t : Bool) → length (liveOnes list) ≡ liveCount list → length (pick t (x ∷ liveOnes list) (liveOnes list)) ≡ counted t (liveCount list)
     go true h = ap suc h
     go false h = h
+
+pub live-all : (list : List Entry) → AllLive (liveOnes list)
+unfolding liveOnes pick
+live-all [] = tt
+live-all (x ∷ list) = go (x .live) refl (live-all list)
+  where
+    go : (t : Bool) → x .live ≡ t → AllLive (liveOnes list) → AllLive (pick t (x ∷ liveOnes list) (liveOnes list))
+    go true e h = (of-true (x .live) e, h)
+    go false e h = h
+
+-- removed entries have no part in the order
+pub sorted-live : (test : Entry → Entry → Bool) (done list : List Entry) → sortedOnto test done (liveOnes list) ≡ sortedOnto test done list
+unfolding sortedOnto liveOnes pick
+sorted-live test done [] = refl
+sorted-live test done (x ∷ list) =
+    go (x .live) refl (sorted-live test (pick (x .live) (insert test x done) done) list)
+  where
+    go : (t : Bool) → x .live ≡ t
+        → sortedOnto test (pick (x .live) (insert test x done) done) (liveOnes list) ≡ sortedOnto test (pick (x .live) (insert test x done) done) list
+        → sortedOnto test done (pick t (x ∷ liveOnes list) (liveOnes list)) ≡ sortedOnto test (pick (x .live) (insert test x done) done) list
+    go true e h = h
+    go false e h = ap (λ (u : Bool). sortedOnto test (pick u (insert test x done) done) (liveOnes list)) (sym e) ∙ h
 
 -- a walk over all of a book
 whole : (b : List ℕ) (list : List Entry) → IsBook b list → Walk b 0 (endOf 0 list) list [] list

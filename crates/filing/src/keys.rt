@@ -56,7 +56,7 @@ fn put_key(keys: &mut [u8], from: usize, syllables: [Syllable; Word::LIMIT], cou
     }
 }
 
-// Keeps the key of the record at a place.
+// Keeps the key of the record at a place, whose word is readable.
 fn keep_key(book: &[u8], at: usize, keys: &mut [u8])
     requires { ⌜ (length (now book) ≤ bookLimit) × (length (now keys) ≡ keyRoom) × T (isFramed (now book) at) × Readable (wordAt (now book) at) ⌝ }
     ensures { λ _. ⌜ now (keys .exit) ≡ sets (now (keys .entry)) (5 * at) (keptKey (rowOf (wordAt (now (book .entry)) at))) ⌝ }
