@@ -38,7 +38,8 @@ pub record Here (b : List ℕ) (at free : ℕ) (list seen : List Entry) (entry :
   pub good : GoodEntry entry
   pub next : Walk b (at + 7 + getD b (at + 2) 0) free list (seen ++ (entry ∷ [])) behind
 
-pub here : (b : List ℕ) (at free : ℕ) (list seen : List Entry) (x : Entry) (rest : List Entry) → Walk b at free list seen (x ∷ rest) → Here b at free list seen x rest
+pub here : (b : List ℕ) (at free : ℕ) (list seen : List Entry) (x : Entry) (rest : List Entry) → Walk b at free list seen (x ∷ rest)
+    → Here b at free list seen x rest
 here b at free list seen x rest w =
     let g = w .good in
     let left : List ℕ = records rest ++ zeros (w .pad) in

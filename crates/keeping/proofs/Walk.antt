@@ -2,7 +2,7 @@
 -- Assumes nothing.
 use mathlib.Core.Path.{_≡_, refl, sym, ap, _∙_}
 use mathlib.Core.Bool.{Bool, true, false, _&&_}
-use mathlib.Core.List.{List, [], _∷_}
+use mathlib.Core.List.{List, []}
 use mathlib.Core.Option.{Option, some}
 use Prim.Native.Nat.{ℕ, _+_, _≤_, _<_}
 use lib.Dec.{eqb}
@@ -12,7 +12,6 @@ use Rattle.formula.proofs.Lists.{sameList}
 use Rattle.entries.specs.Entries.{Entry, wordAt, entryAt, Entries, book, entries}
 use Rattle.entries.specs.Book.{Opened}
 use Rattle.entries.specs.Map.{lookup}
-use Rattle.entries.proofs.Records.{Framed}
 use Rattle.entries.proofs.Agree.{opened-is}
 use Rattle.entries.proofs.Walk.{Walk, walk-start, Turn, turn, walk-end}
 use Rattle.keeping.specs.Look.{lookOfEntry, lookOf}
@@ -78,4 +77,5 @@ module _ (b : List ℕ) (at free : ℕ) (w : List ℕ) (a : Ahead b at free w) w
   unfolding lookup
   done h =
       ap (λ (y : Entries). lookOf y w) (a .is)
-      ∙ ap (λ (o : Option Entry). lookOfEntry o free) (a .looks ∙ ap (λ (l : List Entry). lookup l w) (walk-end b at free (a .list) (a .seen) (a .rest) (a .walk) h))
+      ∙ ap (λ (o : Option Entry). lookOfEntry o free) (a .looks ∙ ap (λ (l : List Entry). lookup l w)
+      (walk-end b at free (a .list) (a .seen) (a .rest) (a .walk) h))

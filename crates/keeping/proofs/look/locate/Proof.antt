@@ -31,14 +31,17 @@ has-word-requires : tie.Need-has-word-requires Inv-loop μ-loop
 has-word-requires c κs = (c .before .loop .inv .walk .is-book .short, framed-is _ _ (at-turn c .stands .frame))
 
 stock-at-requires : tie.Need-stock-at-requires Inv-loop μ-loop
-stock-at-requires c κs = let t = at-turn (c .before .before) in (c .before .before .before .loop .inv .walk .is-book .short, omega (arith, t .stands .frame .room))
+stock-at-requires c κs =
+    let t = at-turn (c .before .before) in
+    (c .before .before .before .loop .inv .walk .is-book .short, omega (arith, t .stands .frame .room))
 
 returns : tie.Need-returns Inv-loop μ-loop
 returns c =
     let t = at-turn (c .before .before .before) in
     let l = c .before .before .before .before .loop in
     record {
-      answer = ap (Live (l .at)) (c .stock-at .ensures) ∙ sym (hit _ _ _ _ (l .inv) t (sym (c .before .before .has-word .ensures) ∙ c .before .if1 .taken));
+      answer = ap (Live (l .at)) (c .stock-at .ensures)
+          ∙ sym (hit _ _ _ _ (l .inv) t (sym (c .before .before .has-word .ensures) ∙ c .before .if1 .taken));
       within = record { short = l .inv .walk .is-book .short; room = omega (arith, t .stands .frame .room) };
     }
 

@@ -57,7 +57,9 @@ same-length : tie.Need-same-length
 same-length c = search needs
 
 returns : tie.Need-returns
-returns c = stores-five (now (c .before .before .args .bytes)) (c .before .before .args .at) (c .before .before .args .s) (c .weights-of .result) (c .weights-of .ensures)
+returns c =
+    let s = c .before .before .args in
+    stores-five (now (s .bytes)) (s .at) (s .s) (c .weights-of .result) (c .weights-of .ensures)
 
 pub put-weights-spec : {M : Type 1} → statement M
 put-weights-spec =
