@@ -1,0 +1,5 @@
+pub mod Tested
+pub mod Known
+pub mod Marked
+pub mod Closing
+pub mod Turned
