@@ -3,3 +3,4 @@ pub mod Known
 pub mod Marked
 pub mod Closing
 pub mod Turned
+pub mod Entered
