@@ -1,0 +1,1 @@
+// The key of a word, made in the pass that reads it.
