@@ -1,1 +1,2 @@
 // The key of a word, made in the pass that reads it.
+pub mod gain; // gain.rt: what a value adds to the packed weights of a syllable
