@@ -2,10 +2,12 @@
 -- Assumes nothing.
 use mathlib.Core.Path.{_≡_, refl}
 use mathlib.Core.Bool.{Bool, true, false}
-use mathlib.Core.List.{[], _∷_}
-use Prim.Native.Nat.{ℕ, _+_, _-_, _*_, _/_, _%_, _≤_, _<_}
+use mathlib.Core.List.{List, [], _∷_}
+use Prim.Native.Nat.{ℕ, suc, _+_, _-_, _*_, _/_, _%_, _≤_, _<_}
 use native.Mathlib.Omega.{arith}
 use lib.Dec.{T, leb, leb→le}
+use lib.ListN.{set}
+use lib.Seq.{sets}
 use Rattle.letters.specs.Choice.{pick}
 use Rattle.letters.specs.Letters.{within, isConsonant, isIndependentVowel, isDigit, isStop, isSign}
 use Rattle.letters.specs.Marks.{MedialGroup, Vowel, ToneMark, no-tone, dot, visarga}
@@ -102,3 +104,15 @@ packed-small (syllable h m v f t) ok =
     let u = tone-at-most t in
     let g = final-at-most f (apart h m v f t ok .final) in
     omega arith
+
+-- five stores one after the other
+pub stores-five : (l : List ℕ) (at n : ℕ)
+    → set (set (set (set (set l at (n % 256)) (at + 1) (n / 0x100 % 256)) (at + 2) (n / 0x10000 % 256)) (at + 3) (n / 0x1000000 % 256)) (at + 4) (n / 0x100000000 % 256)
+    ≡ sets l at (fiveBytes n)
+unfolding fiveBytes
+stores-five l at n =
+    let one : at + 1 ≡ suc at = omega arith in
+    let two : at + 2 ≡ suc (suc at) = omega arith in
+    let three : at + 3 ≡ suc (suc (suc at)) = omega arith in
+    let four : at + 4 ≡ suc (suc (suc (suc at))) = omega arith in
+    rw (one, two, three, four)

@@ -1,1 +1,3 @@
 pub mod State
+pub mod Turn
+pub mod Tables
