@@ -17,11 +17,10 @@ use Rattle.weighing.specs.Keys.{keyLimit, zeros}
 use Rattle.keying.specs.Packed.{fiveBytes, gainOf, headPacked, packedTop, packedBelow, keptKey}
 use Rattle.keying.specs.declared.fill.Weights.{Weights}
 
--- the weights fit where a value with d syllables more, less 1, changes them; a last head that closes is a letter
+-- the weights fit where a value changes them that makes d syllables more, less 1; a last head that closes is a letter
 pub record Fit (d : ℕ) (w : Weights) : Type 0 where
   pub last : w .last < 0x300000000
-  pub before : w .before < 0x300000000
-  pub closing : (d ≡ 1 → ⊥) → (d ≡ 2 → ⊥) → (13 ≤ w .last) × (w .last ≤ 45)
+  pub closing : (d ≡ 1 → ⊥) → (d ≡ 2 → ⊥) → (13 ≤ w .last) × (w .last ≤ 45) × (w .before < 0x300000000)
 
 -- what great sa adds to the syllable that it closes: the final 101E
 unfoldable pub closedBy : ℕ → ℕ → ℕ
@@ -67,5 +66,6 @@ pub record Filled (word : List ℕ) (at state count : ℕ) (w : Weights) (bytes 
   pub came : run (take at word) [] ≡ some kept
   pub state-of : state ≡ stateNumber (stateOf kept)
   pub count-of : count ≡ length kept
+  pub bounded : count ≤ at
   pub weights-of : WeightsOf kept w
   pub key-of : KeyOf kept bytes

@@ -82,24 +82,33 @@ pub open-is : (kept : Row) → isOpenState (stateOf kept) ≡ isOpenTop kept
 open-is [] = refl
 open-is (syllable h m v f t ∷ a) = known h m v f t a .0
 
--- a head: what waits asks for a final letter
-admits-by : (x : ℕ) (c : Bool) (f : Final) (t : ToneMark) → T (c || (isNoFinal f && isNoTone t)) → T (takesTone f t) → T (isNotGreatSa f)
-    → admits f x ≡ (not (c && waits f t) || isFinalLetter x)
-admits-by x true no-final no-tone i k n = refl
-admits-by x true no-final dot i k n = refl
-admits-by x true no-final visarga i k n = refl
-admits-by x true (plain c) no-tone i k n = refl
-admits-by x true (plain c) dot i k n = refl
-admits-by x true (plain c) visarga i k n = refl
-admits-by x true (stacked c) no-tone i k n = refl
-admits-by x true kinzi no-tone i k n = refl
-admits-by x false no-final no-tone i k n = refl
+-- a final that is not closed waits, and asks for a final letter
+waits-by : (c : Bool) (f : Final) (t : ToneMark) → T (c || (isNoFinal f && isNoTone t)) → T (takesTone f t) → T (isNotGreatSa f)
+    → (c && waits f t) ≡ not (isClosed f)
+waits-by true no-final no-tone i k n = refl
+waits-by true no-final dot i k n = refl
+waits-by true no-final visarga i k n = refl
+waits-by true (plain c) no-tone i k n = refl
+waits-by true (plain c) dot i k n = refl
+waits-by true (plain c) visarga i k n = refl
+waits-by true (stacked c) no-tone i k n = refl
+waits-by true kinzi no-tone i k n = refl
+waits-by false no-final no-tone i k n = refl
+
+pub waiting-is : (kept : Row) → KeptOk kept → T (isNotGreatSa (endOf kept)) → is waiting (stateOf kept) ≡ not (isClosed (endOf kept))
+waiting-is [] k n = refl
+waiting-is (syllable h m v f t ∷ a) k n =
+    let p = apart h m v f t (k .1) in
+    known h m v f t a .1 ∙ waits-by (carriesFinal h) f t (p .closing) (p .tone) n
+
+admits-by : (x : ℕ) (f : Final) → T (isNotGreatSa f) → admits f x ≡ (not (not (isClosed f)) || isFinalLetter x)
+admits-by x no-final n = refl
+admits-by x (plain c) n = refl
+admits-by x (stacked c) n = refl
+admits-by x kinzi n = refl
 
 pub admits-is : (x : ℕ) (kept : Row) → KeptOk kept → T (isNotGreatSa (endOf kept)) → admits (endOf kept) x ≡ takesHead x (stateOf kept)
-admits-is x [] k n = refl
-admits-is x (syllable h m v f t ∷ a) k n =
-    let p = apart h m v f t (k .1) in
-    admits-by x (carriesFinal h) f t (p .closing) (p .tone) n ∙ ap (λ (w : Bool). not w || isFinalLetter x) (sym (known h m v f t a .1))
+admits-is x kept k n = admits-by x (endOf kept) n ∙ ap (λ (w : Bool). not w || isFinalLetter x) (sym (waiting-is kept k n))
 
 -- a head that carries marks has the state that they show
 pub carried : (c : Bool) (s : State) → T c → s ≡ pick c s done

@@ -30,10 +30,10 @@ sub-t12 : tie.Need-sub-t12
 sub-t12 c = let f = c .before .before .pre .1 .closing (c .before .if1 .left) (c .if2 .left) in omega arith
 
 mul-t13 : tie.Need-mul-t13
-mul-t13 c = search needs
+mul-t13 c = let f = c .before .before .pre .1 .closing (c .before .if1 .left) (c .if2 .left) in omega arith
 
 add-t14 : tie.Need-add-t14
-add-t14 c = search needs
+add-t14 c = let f = c .before .before .pre .1 .closing (c .before .if1 .left) (c .if2 .left) in omega arith
 
 returns-3 : tie.Need-returns-3
 returns-3 c = after-close (c .before .before .args .weights) _ (c .before .before .args .state) (c .before .before .args .x) (c .before .if1 .left) (c .if2 .left)
