@@ -1,18 +1,16 @@
 -- The packed weights of the last two syllables and the bytes of the key, as the pass over a word has them. Inner contracts cite it;
 -- no public promise does. Assumes nothing.
 use mathlib.Core.Path.{_≡_}
-use mathlib.Core.Bool.{Bool}
 use mathlib.Core.List.{List, [], _∷_, _++_}
-use mathlib.Core.Option.{some}
 use Prim.Native.Nat.{ℕ, _+_, _-_, _*_, _≤_, _<_}
 use lib.Dec.{T, eqb}
-use lib.ListN.{length, take}
+use lib.ListN.{length}
 use lib.Seq.{sets}
 use Rattle.letters.specs.Choice.{pick}
 use Rattle.formula.specs.Syllable.{isNoFinal}
 use Rattle.formula.specs.Row.{Row}
-use Rattle.rows.specs.Kept.{endOf, run}
-use Rattle.transitions.specs.State.{stateOf, stateNumber}
+use Rattle.rows.specs.Kept.{endOf}
+use Rattle.reading.specs.Walked.{Walked}
 use Rattle.weighing.specs.Keys.{keyLimit, zeros}
 use Rattle.keying.specs.Packed.{fiveBytes, gainOf, headPacked, packedTop, packedBelow, keptKey}
 use Rattle.keying.specs.declared.fill.Weights.{Weights}
@@ -62,10 +60,7 @@ pub record KeyOf (kept : Row) (bytes : List ℕ) : Type 0 where
 
 -- the state of the pass after the first `at` values of the word
 pub record Filled (word : List ℕ) (at state count : ℕ) (w : Weights) (bytes : List ℕ) : Type 0 where
-  pub kept : Row
-  pub came : run (take at word) [] ≡ some kept
-  pub state-of : state ≡ stateNumber (stateOf kept)
-  pub count-of : count ≡ length kept
+  pub walked : Walked word at state count
   pub bounded : count ≤ at
-  pub weights-of : WeightsOf kept w
-  pub key-of : KeyOf kept bytes
+  pub weights-of : WeightsOf (walked .kept) w
+  pub key-of : KeyOf (walked .kept) bytes

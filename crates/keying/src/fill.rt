@@ -1,14 +1,23 @@
 // The reading of a word and its key in one pass. The weights of the last two syllables are kept packed, a byte for each weight.
 use crate::gain::gain;
 use crate::gain::head_weights;
+use formula::Word;
+use reading::read::ReadAnswer;
+use reading::walk::answer_at;
+use refusals::Refusal;
+use transitions::tables::next;
 ghost use mathlib.Core.Path.{_≡_};
 ghost use Prim.Native.Nat.{_+_, _≤_, _<_};
 ghost use lib.Seq.{sets};
-ghost use Rattle.weighing.specs.Keys.{keyLimit};
+ghost use Rattle.weighing.specs.Keys.{keyLimit, zeros};
 ghost use Rattle.keying.specs.Packed.{fiveBytes};
 ghost use Rattle.keying.specs.Filling.{Fit, closedBy, weightsAfter, putLast, bytesAfter};
+ghost use Rattle.keying.specs.Filled.{FillRight};
 
 const GREAT_SA: u16 = 0x103F;
+
+// The entry of a refused value.
+const REFUSED: u8 = 48;
 
 // The packed weights of the last syllable and of the one before it.
 pub struct Weights {
@@ -84,4 +93,33 @@ fn weights_after(weights: Weights, change: u8, state: usize, x: u16) -> Weights
         last: before + (last - 12) * 0x10000,
         before,
     }
+}
+
+// Reads a word of any values and any length, and fills a key of zeros with its weights; with a refusal the bytes are of no use.
+pub fn fill(word: &[u16], bytes: &mut [u8; 320]) -> ReadAnswer
+    requires { ⌜ now bytes ≡ zeros keyLimit ⌝ }
+    ensures { λ r. ⌜ FillRight (now (word .entry)) r (now (bytes .exit)) ⌝ }
+{
+    if Word::LIMIT < word.len() {
+        return ReadAnswer::Refused(Refusal::TooLong);
+    }
+    let mut weights = Weights { last: 0, before: 0 };
+    let mut state = 0;
+    let mut count = 0;
+    let mut at = 0;
+    while at < word.len() {
+        let x = word[at];
+        let entry = next(state, x);
+        if entry == REFUSED {
+            return answer_at(word, at, state, count);
+        }
+        let change = entry / 16;
+        weights = weights_after(weights, change, state, x);
+        put_finished(bytes, change, count, weights.before);
+        count = count + change as usize - 1;
+        state = (entry % 16) as usize;
+        at += 1;
+    }
+    put_last(bytes, count, weights.last);
+    answer_at(word, at, state, count)
 }

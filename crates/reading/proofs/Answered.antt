@@ -1,13 +1,13 @@
 -- The answer where a pass has stopped is right: what the machine kept is the word's row, or shows that there is none.
 -- Assumes nothing.
 use mathlib.Core.Path.{_≡_, refl, ap, sym, subst, _∙_}
-use mathlib.Core.Bool.{Bool, true, false}
+use mathlib.Core.Bool.{Bool, true, false, not}
 use mathlib.Core.List.{List, [], _∷_, _++_, map, append-assoc, append-nil, reverse, reverseAux, reverse-reverse}
 use mathlib.Core.Option.{none, some, Option·some-injective}
 use Prim.Native.Nat.{ℕ, _-_, _≤_, _<_}
 use native.Mathlib.Decide.{decLt}
 use native.Mathlib.Omega.{arith}
-use lib.Dec.{T}
+use lib.Dec.{T, eqb}
 use lib.ListN.{length, getD, take, length-take, length-reverse}
 use lib.Seq.{take-all, getD-take}
 use Rattle.letters.specs.Letters.{isAdmitted}
@@ -25,30 +25,20 @@ use Rattle.rows.proofs.Admitted.{run-admitted}
 use Rattle.rows.proofs.Viable.{read-back, only-row, unfinished, alive, stops, longest}
 use Rattle.steps.specs.Agree.{topOf}
 use Rattle.reading.specs.Answer.{Admissible, RefusedWith, too-long, foreign, no-continuation, unfinished as open-end, Reads, nothings}
-use Rattle.reading.specs.Concluded.{AdmittedTo}
+use Rattle.reading.specs.Concluded.{AdmittedTo, Halted}
 use Rattle.reading.specs.Scanned.{keptNumbers, Stopped}
 use Rattle.reading.proofs.Reach.{kept-right}
 
-top-link : (kept : Row) → topOf kept .link ≡ linkOf (endOf kept)
-top-link [] = refl
-top-link (syllable h m v f t ∷ kept) = refl
+-- whether a test of the row's last final passes
+untrue : (b : Bool) → true ≡ not b → T b → ⊥
+untrue true e t = subst T e tt
+untrue false e t = t
 
--- link 2 is that of a final that waits; great sa never stands on top
-waits : (f : Final) → linkOf f ≡ 2 → T (isClosed f) → ⊥
-waits no-final e t = omega arith
-waits (plain c) e t = omega arith
-waits (stacked c) e t = t
-waits kinzi e t = t
-waits great-sa e t = t
+true-of : (b : Bool) → false ≡ not b → T b
+true-of true e = tt
+true-of false e = subst T (sym e) tt
 
-waits-not : (f : Final) → T (isNotGreatSa f) → (linkOf f ≡ 2 → ⊥) → T (isClosed f)
-waits-not no-final g n = tt
-waits-not (plain c) g n = tt
-waits-not (stacked c) g n = n refl
-waits-not kinzi g n = n refl
-waits-not great-sa g n = g
-
-module _ (word : List ℕ) (at : ℕ) (window : Window) (s : Stopped word at window) where
+module _ (word : List ℕ) (at : ℕ) (waits : Bool) (count : ℕ) (s : Halted word at waits count) where
   -- the values before the place where the pass stopped
   passed : (k : ℕ) → k < at → T (isAdmitted (getD word k 0))
   passed k h =
@@ -86,36 +76,56 @@ module _ (word : List ℕ) (at : ℕ) (window : Window) (s : Stopped word at win
     at-end : at ≡ length word
     at-end = let i = s .within in omega arith
 
-    -- the link of the last syllable says whether its final waits
-    last-link : window .last .link ≡ linkOf (endOf (s .kept))
-    last-link = ap (λ (n : Numbers). n .link) (s .window-of .last) ∙ top-link (s .kept)
-
-    pub answer-unfinished : window .last .link ≡ 2 → RefusedWith word 4 at
+    pub answer-unfinished : waits ≡ true → RefusedWith word 4 at
     answer-unfinished e =
         subst (RefusedWith word 4) (sym at-end)
         (open-end all-admitted
-        (unfinished word (s .kept) came-whole (waits (endOf (s .kept)) (sym last-link ∙ e))) (alive word (s .kept) came-whole))
+        (unfinished word (s .kept) came-whole (untrue (isClosed (endOf (s .kept))) (sym e ∙ s .waits-is))) (alive word (s .kept) came-whole))
 
-    closes : (window .last .link ≡ 2 → ⊥) → T (isClosed (endOf (s .kept)))
-    closes n =
-        waits-not (endOf (s .kept)) (kept-right word at (s .kept) (s .came) .2 tt) (λ (e : linkOf (endOf (s .kept)) ≡ 2). n (last-link ∙ e))
+    gives-kept : waits ≡ false → Gives (reverse (s .kept)) word
+    gives-kept e = sound word (s .kept) came-whole (true-of (isClosed (endOf (s .kept))) (sym e ∙ s .waits-is))
 
-    gives-kept : (window .last .link ≡ 2 → ⊥) → Gives (reverse (s .kept)) word
-    gives-kept n = sound word (s .kept) came-whole (closes n)
-
-    pub answer-syllables : (window .last .link ≡ 2 → ⊥) → Reads word (window .count)
-    answer-syllables n =
+    pub answer-syllables : waits ≡ false → Reads word count
+    answer-syllables e =
         record {
           admissible = all-admitted;
           row = reverse (s .kept);
-          gives = gives-kept n;
-          only = λ other g. only-row other (reverse (s .kept)) word g (gives-kept n);
-          count = length-reverse (s .kept) ∙ sym (s .window-of .count);
+          gives = gives-kept e;
+          only = λ other g. only-row other (reverse (s .kept)) word g (gives-kept e);
+          count = length-reverse (s .kept) ∙ sym (s .count-is);
         }
 
-    -- the syllables by numbers, in the word's order
-    pub kept-is : (row : Row) → Gives row word → row ≡ reverse (s .kept)
-    kept-is row g = sym (reverse-reverse row) ∙ ap reverse (Option·some-injective (reverse row) (s .kept) (sym (read-back row word g) ∙ came-whole))
+-- the link of the last syllable says whether its final waits; great sa never stands on top
+top-link : (kept : Row) → topOf kept .link ≡ linkOf (endOf kept)
+top-link [] = refl
+top-link (syllable h m v f t ∷ kept) = refl
+
+link-waits : (f : Final) → T (isNotGreatSa f) → eqb (linkOf f) 2 ≡ not (isClosed f)
+link-waits no-final g = refl
+link-waits (plain c) g = refl
+link-waits (stacked c) g = refl
+link-waits kinzi g = refl
+link-waits great-sa g = absurd g
+
+pub scan-halted : (word : List ℕ) (at : ℕ) (window : Window) → Stopped word at window → Halted word at (eqb (window .last .link) 2) (window .count)
+scan-halted word at window s =
+    let e : window .last .link ≡ linkOf (endOf (s .kept)) = ap (λ (n : Numbers). n .link) (s .window-of .last) ∙ top-link (s .kept) in
+    record {
+      short = s .short;
+      within = s .within;
+      kept = s .kept;
+      came = s .came;
+      waits-is = ap (λ (n : ℕ). eqb n 2) e ∙ link-waits (endOf (s .kept)) (kept-right word at (s .kept) (s .came) .2 tt);
+      count-is = s .window-of .count;
+      refused = s .refused;
+    }
+
+-- the row that gives a word is what is kept at its end
+pub kept-is : (word : List ℕ) (at : ℕ) (kept : Row) → run (take at word) [] ≡ some kept → length word ≤ at → (row : Row) → Gives row word
+    → row ≡ reverse kept
+kept-is word at kept came end row g =
+    let whole : run word [] ≡ some kept = subst (λ (w : List ℕ). run w [] ≡ some kept) (take-all at word end) came in
+    sym (reverse-reverse row) ∙ ap reverse (Option·some-injective (reverse row) kept (sym (read-back row word g) ∙ whole))
 
 pub numbers-reverse : (a r : Row) → map numbersOf (reverseAux a r) ≡ keptNumbers a ++ map numbersOf r
 numbers-reverse [] r = refl
@@ -141,7 +151,7 @@ pub syllables-right : (word : List ℕ) (at : ℕ) (window : Window) (s : Stoppe
     → (row : Row) → Gives row word → syllables ≡ map numbersOf row ++ nothings (limit - n)
 syllables-right word at window s n r syllables e row g =
     let end : length word ≤ at = read-ends word at window s n r in
-    let k : row ≡ reverse (s .kept) = kept-is word at window s end row g in
+    let k : row ≡ reverse (s .kept) = kept-is word at (s .kept) (s .came) end row g in
     let c : length (s .kept) ≡ n = sym (length-reverse (s .kept)) ∙ sym (ap length k) ∙ ap length (r .only row g) ∙ r .count in
     e end ∙ ap (λ (m : ℕ). keptNumbers (s .kept) ++ nothings (limit - m)) c
     ∙ ap (λ (l : List Numbers). l ++ nothings (limit - n)) (sym (ap (map numbersOf) k ∙ numbers-reverse (s .kept) [] ∙ append-nil (keptNumbers (s .kept))))

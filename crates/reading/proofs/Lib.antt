@@ -1,5 +1,6 @@
 pub mod Reach
 pub mod Answered
+pub mod Walking
 pub mod Recorded
 pub mod Parted
 pub mod Determined

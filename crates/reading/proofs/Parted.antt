@@ -70,7 +70,7 @@ located f n (s ∷ row) (suc k) h =
 module _ (word : List ℕ) (at : ℕ) (window : Window) (s : Stopped word at window) (starts : List ℕ) (o : StartsOf (s .kept) starts) (n : ℕ) (r : Reads word n)
     (k : ℕ) (h : k < n) where
   row-is : r .row ≡ reverse (s .kept)
-  row-is = kept-is word at window s (read-ends word at window s n r) (r .row) (r .gives)
+  row-is = kept-is word at (s .kept) (s .came) (read-ends word at window s n r) (r .row) (r .gives)
 
   kept-count : length (s .kept) ≡ n
   kept-count = sym (length-reverse (s .kept)) ∙ sym (ap length row-is) ∙ r .count

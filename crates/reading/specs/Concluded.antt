@@ -1,12 +1,17 @@
--- Foreign values, and a refused reading. Inner contracts cite it; no public promise does.
+-- Foreign values, where a pass has stopped, and a refused reading. Inner contracts cite it; no public promise does.
 -- Assumes nothing.
+use mathlib.Core.Path.{_≡_}
 use mathlib.Core.Bool.{Bool, not}
-use mathlib.Core.List.{List}
+use mathlib.Core.List.{List, []}
+use mathlib.Core.Option.{none, some}
 use Prim.Native.Nat.{ℕ, _≤_, _<_}
 use lib.Dec.{T}
-use lib.ListN.{length, getD}
+use lib.ListN.{length, getD, take}
 use Rattle.letters.specs.Letters.{isAdmitted}
 use Rattle.formula.specs.Limits.{limit}
+use Rattle.formula.specs.Syllable.{isClosed}
+use Rattle.formula.specs.Row.{Row}
+use Rattle.rows.specs.Kept.{endOf, step, run}
 use Rattle.refusals.specs.declared.Refusal.{Refusal}
 use Rattle.reading.specs.Answer.{nothings}
 use Rattle.reading.specs.declared.read.ReadAnswer.the-variants.{Refused}
@@ -21,6 +26,17 @@ pub record AdmittedTo (word : List ℕ) (from place : ℕ) : Type 0 where
   pub within : place ≤ length word
   pub before : (k : ℕ) → from ≤ k → k < place → T (isAdmitted (getD word k 0))
   pub foreign : place < length word → T (isAdmitted (getD word place 0)) → ⊥
+
+-- the values before `at` are read, as so many syllables, the last of which waits for a letter or not, and the value at `at` is refused,
+-- unless it is the end
+pub record Halted (word : List ℕ) (at : ℕ) (waits : Bool) (count : ℕ) : Type 0 where
+  pub short : length word ≤ limit
+  pub within : at ≤ length word
+  pub kept : Row
+  pub came : run (take at word) [] ≡ some kept
+  pub waits-is : waits ≡ not (isClosed (endOf kept))
+  pub count-is : count ≡ length kept
+  pub refused : at < length word → step kept (getD word at 0) ≡ none
 
 abbrev pub refusedReading : Refusal → Reading
 refusedReading refusal = record { answer = Refused refusal; syllables = nothings limit }

@@ -1,5 +1,6 @@
 pub mod Answer
 pub mod Scanned
+pub mod Walked
 pub mod Concluded
 pub mod Records
 pub mod Parts

@@ -1,5 +1,6 @@
 // The reading of a word: how many syllables it has and which, or why it is refused.
 use crate::scan::scan_word;
+use crate::walk::answer_of;
 use formula::Syllable;
 use formula::Window;
 use formula::Word;
@@ -9,7 +10,7 @@ ghost use mathlib.Core.Path.{_≡_};
 ghost use Prim.Native.Nat.{_≤_};
 ghost use lib.ListN.{length};
 ghost use Rattle.reading.specs.Answer.{Answers, outcomeOf, ReadRight, RowTest};
-ghost use Rattle.reading.specs.Concluded.{isForeign, AdmittedTo, refusedReading};
+ghost use Rattle.reading.specs.Concluded.{isForeign, AdmittedTo, Halted, refusedReading};
 ghost use Rattle.reading.specs.Scanned.{Stopped};
 
 pub enum ReadAnswer {
@@ -55,9 +56,9 @@ pub fn first_foreign(word: &[u16]) -> usize
     foreign_from(word, 0)
 }
 
-// The answer where a pass over the word has stopped.
-pub(crate) fn conclude(word: &[u16], at: usize, window: Window) -> ReadAnswer
-    requires { ⌜ Stopped (now word) at window ⌝ }
+// The answer where a pass over the word has stopped with so many syllables, the last of which waits for a letter or not.
+pub(crate) fn answer_where(word: &[u16], at: usize, waits: bool, count: usize) -> ReadAnswer
+    requires { ⌜ Halted (now word) at waits count ⌝ }
     ensures { λ r. ⌜ Answers (now (word .entry)) (outcomeOf r) ⌝ }
 {
     if at < word.len() {
@@ -67,11 +68,19 @@ pub(crate) fn conclude(word: &[u16], at: usize, window: Window) -> ReadAnswer
         }
         return ReadAnswer::Refused(Refusal::NoContinuation(at));
     }
-    let last = window.last;
-    if last.link == 2 {
+    if waits {
         return ReadAnswer::Refused(Refusal::Unfinished(at));
     }
-    ReadAnswer::Syllables(window.count)
+    ReadAnswer::Syllables(count)
+}
+
+// The answer where a scan of the word has stopped.
+pub(crate) fn conclude(word: &[u16], at: usize, window: Window) -> ReadAnswer
+    requires { ⌜ Stopped (now word) at window ⌝ }
+    ensures { λ r. ⌜ Answers (now (word .entry)) (outcomeOf r) ⌝ }
+{
+    let last = window.last;
+    answer_where(word, at, last.link == 2, window.count)
 }
 
 fn refused(refusal: Refusal) -> Reading
@@ -103,11 +112,7 @@ pub fn read(word: &[u16]) -> Reading
 pub fn is_row(word: &[u16]) -> bool
     ensures { λ r. ⌜ RowTest (now (word .entry)) r ⌝ }
 {
-    if Word::LIMIT < word.len() {
-        return false;
-    }
-    let scan = scan_word(word);
-    let answer = conclude(word, scan.at, scan.window);
+    let answer = answer_of(word);
     let ReadAnswer::Syllables(_) = answer else {
         return false;
     };

@@ -1,33 +1,17 @@
--- `reading::read::conclude` meets its contract: each answer is what the machine's row at that place shows.
+-- `reading::read::conclude` meets its contract: the link of the last syllable says whether it waits.
 -- Assumes nothing.
 use borrow.Author.Needs.{needs}
-use Rattle.reading.proofs.Answered.{answer-foreign, answer-no-continuation, answer-unfinished, answer-syllables}
+use Rattle.reading.proofs.Answered.{scan-halted}
 use Rattle.reading.proofs.read.conclude.Statement.{statement}
 use Rattle.reading.proofs.read.conclude.Tie as tie
 
-foreign-from-requires : tie.Need-foreign-from-requires
-foreign-from-requires c κs = search needs
+answer-where-requires : tie.Need-answer-where-requires
+answer-where-requires c κs =
+    let a = c .before .before .before in
+    scan-halted (a .args .word .now) (a .args .at) (a .args .window) (a .pre)
 
 returns : tie.Need-returns
-returns c =
-    let a = c .before .before .before .before in
-    answer-foreign (a .args .word .now) (a .args .at) (a .args .window) (a .pre) (c .before .foreign-from .result) (c .before .foreign-from .ensures) (c .if2 .taken)
-
-returns-2 : tie.Need-returns-2
-returns-2 c =
-    let a = c .before .before .before .before in
-    answer-no-continuation (a .args .word .now) (a .args .at) (a .args .window) (a .pre) (c .before .foreign-from .result) (c .before .foreign-from .ensures)
-    (c .before .before .if1 .taken) (c .if2 .left)
-
-returns-3 : tie.Need-returns-3
-returns-3 c =
-    let a = c .before .before .before .before .before in
-    answer-unfinished (a .args .word .now) (a .args .at) (a .args .window) (a .pre) (c .before .before .before .if1 .left) (c .if3 .taken)
-
-returns-4 : tie.Need-returns-4
-returns-4 c =
-    let a = c .before .before .before .before .before in
-    answer-syllables (a .args .word .now) (a .args .at) (a .args .window) (a .pre) (c .before .before .before .if1 .left) (c .if3 .left)
+returns c = search needs
 
 pub conclude-spec : {M : Type 1} → statement M
-conclude-spec = tie.close (tie.spec foreign-from-requires returns returns-2 returns-3 returns-4)
+conclude-spec = tie.close (tie.spec answer-where-requires returns)
