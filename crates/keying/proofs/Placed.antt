@@ -1,0 +1,169 @@
+-- The bytes of the key while a word is read: a syllable is put when the next one begins, and the last at the end.
+-- Assumes nothing.
+use mathlib.Core.Path.{_≡_, refl, ap, sym, subst, _∙_}
+use mathlib.Core.Bool.{Bool, true, false, not}
+use mathlib.Core.List.{List, [], _∷_, _++_, append-assoc, append-nil, reverse, reverseAux}
+use Prim.Native.Nat.{ℕ, zero, suc, _+_, _-_, _*_, _≤_, _<_}
+use native.Mathlib.Nat.{zero-add, suc-add}
+use native.Mathlib.Omega.{arith}
+use lib.Dec.{T, eqb}
+use lib.ListN.{length, take, drop, length-append, length-replicate}
+use lib.Seq.{take-at, drop-at, drop-append-add, sets, sets-eq, length-sets}
+use Rattle.letters.specs.Choice.{pick}
+use Rattle.letters.specs.Weights.{isHead}
+use Rattle.formula.specs.Limits.{limit}
+use Rattle.formula.specs.Syllable.{Syllable, syllable, bare, finalOf, isNoFinal, isSyllable}
+use Rattle.formula.specs.Row.{Row}
+use Rattle.formula.specs.Weighing.{weightsOf}
+use Rattle.rows.specs.Kept.{endOf, KeptOk}
+use Rattle.steps.proofs.Branches.{when-equal, when-unequal}
+use Rattle.weighing.specs.Keys.{keyLimit, usedBytes, zeros, keyOf}
+use Rattle.keying.specs.Packed.{packed, fiveBytes, packedTop, keptKey}
+use Rattle.keying.specs.Filling.{weightsAfter, putLast, bytesAfter, belowLast, WeightsOf, KeyOf}
+use Rattle.keying.specs.declared.fill.Weights.{Weights}
+use Rattle.keying.proofs.Bytes.{packed-bytes}
+use Rattle.keying.proofs.After.{no-great-sa, closed-itself, closed-great, refuted, finished-before}
+use Rattle.keying.proofs.Gained.{Moved, pushed, changed, closed, doubled}
+
+five-long : (s : Syllable) → length (weightsOf s) ≡ 5
+unfolding weightsOf
+five-long (syllable h m v f t) = refl
+
+kept-long : (kept : Row) → length (keptKey kept) ≡ 5 * length kept
+kept-long [] = refl
+kept-long (s ∷ kept) = length-append (keptKey kept) (weightsOf s) ∙ omega (arith, five-long s, kept-long kept)
+
+zeros-add : (m n : ℕ) → zeros m ++ zeros n ≡ zeros (m + n)
+zeros-add zero n = ap zeros (sym (zero-add n))
+zeros-add (suc m) n = ap (λ (l : List ℕ). 0 ∷ l) (zeros-add m n) ∙ ap zeros (sym (suc-add m n))
+
+-- values put in the place of as many
+sets-in : (a p z v : List ℕ) (n : ℕ) → length a ≡ n → length p ≡ length v → sets (a ++ (p ++ z)) n v ≡ a ++ (v ++ z)
+sets-in a p z v n e f =
+    sets-eq v (a ++ (p ++ z)) n (omega (arith, length-append a (p ++ z), length-append p z))
+    ∙ ap (λ (k : List ℕ). (k ++ v) ++ drop (n + length v) (a ++ (p ++ z))) (take-at a (p ++ z) n e)
+    ∙ ap (λ (k : ℕ). (a ++ v) ++ drop (k + length v) (a ++ (p ++ z))) (sym e)
+    ∙ ap (λ (k : List ℕ). (a ++ v) ++ k) (drop-append-add a (p ++ z) (length v) ∙ drop-at p z (length v) f)
+    ∙ append-assoc a v z
+
+pub key-start : KeyOf [] (zeros keyLimit)
+key-start = record { place = zeros 5; rest = 315; is = sym (zeros-add 5 315); five = refl; size = refl; fresh = λ _. refl }
+
+pub key-length : (kept : Row) (bytes : List ℕ) → KeyOf kept bytes → length bytes ≡ keyLimit
+key-length kept bytes k =
+    ap length (k .is)
+    ∙ omega (
+      arith,
+      length-append (keptKey (belowLast kept)) (k .place ++ zeros (k .rest)),
+      length-append (k .place) (zeros (k .rest)),
+      length-replicate {A = ℕ} (k .rest) 0,
+      kept-long (belowLast kept),
+      k .five,
+      k .size,
+    )
+
+-- the last syllable, put at its place
+put-at : (t s : Syllable) (rest : Row) (bytes : List ℕ) (k : KeyOf (t ∷ rest) bytes) → T (isSyllable s) → (p : ℕ) → p ≡ packed s
+    → putLast (suc (length rest)) p bytes ≡ keptKey (s ∷ rest) ++ zeros (k .rest)
+unfolding putLast
+put-at t s rest bytes k i p e =
+    let v : fiveBytes p ≡ weightsOf s = ap fiveBytes e ∙ packed-bytes s i in
+    let n : length (keptKey rest) ≡ 5 * (suc (length rest) - 1) = omega (arith, kept-long rest) in
+    sym (when-unequal (suc (length rest)) 0 _ _ _ (λ (z : suc (length rest) ≡ 0). omega arith) refl)
+    ∙ ap (λ (l : List ℕ). sets bytes (5 * (suc (length rest) - 1)) l) v
+    ∙ ap (λ (l : List ℕ). sets l (5 * (suc (length rest) - 1)) (weightsOf s)) (k .is)
+    ∙ sets-in (keptKey rest) (k .place) (zeros (k .rest)) (weightsOf s) _ n (k .five ∙ sym (five-long s))
+    ∙ sym (append-assoc (keptKey rest) (weightsOf s) (zeros (k .rest)))
+
+-- another syllable begins on it
+begun : (y t s : Syllable) (rest : Row) (bytes : List ℕ) → KeyOf (t ∷ rest) bytes → T (isSyllable s) → suc (length rest) < limit → (p : ℕ) → p ≡ packed s
+    → KeyOf (y ∷ s ∷ rest) (putLast (suc (length rest)) p bytes)
+begun y t s rest bytes k i h p e =
+    let z = k .size in
+    let r : k .rest ≡ 5 + (k .rest - 5) = omega arith in
+    record {
+      place = zeros 5;
+      rest = k .rest - 5;
+      is = put-at t s rest bytes k i p e ∙ ap (λ (n : ℕ). keptKey (s ∷ rest) ++ zeros n) r ∙ ap (λ (l : List ℕ). keptKey (s ∷ rest) ++ l) (sym (zeros-add 5 (k .rest - 5)));
+      five = refl;
+      size = omega arith;
+      fresh = λ _. refl;
+    }
+
+first-begun : (y : Syllable) (bytes : List ℕ) (p : ℕ) → KeyOf [] bytes → KeyOf (y ∷ []) (putLast 0 p bytes)
+unfolding putLast pick
+first-begun y bytes p k = record { place = k .place; rest = k .rest; is = k .is; five = k .five; size = k .size; fresh = λ _. k .fresh tt }
+
+not-begun : (d count p : ℕ) (bytes : List ℕ) → (d ≡ 2 → ⊥) → bytes ≡ bytesAfter d count p bytes
+unfolding bytesAfter
+not-begun d count p bytes n = when-unequal d 2 _ _ _ n refl
+
+is-begun : (d count p : ℕ) (bytes : List ℕ) → d ≡ 2 → putLast count p bytes ≡ bytesAfter d count p bytes
+unfolding bytesAfter
+is-begun d count p bytes e = when-equal d 2 _ _ _ e refl
+
+module _ (x d q : ℕ) (w : Weights) (bytes : List ℕ) where
+  abbrev put : ℕ
+  put = weightsAfter d q x w .before
+
+  pushed-key : (kept : Row) → T (isHead x) → KeptOk kept → length kept < limit → WeightsOf kept w → KeyOf kept bytes → d ≡ 2
+      → KeyOf (bare x ∷ kept) (putLast (length kept) put bytes)
+  pushed-key [] i o h g k e = first-begun (bare x) bytes put k
+  pushed-key (s ∷ rest) i o h g k e =
+      begun (bare x) s s rest bytes k (o .1) h put (finished-before x d q w e ∙ closed-itself x (w .last) (no-great-sa x i) ∙ g .last)
+
+  -- the bytes after the value are those of the new row
+  pub key-move : (kept b : Row) → Moved x kept b → length b + 1 ≡ length kept + d → KeptOk kept → KeptOk b → length kept < limit → WeightsOf kept w
+      → KeyOf kept bytes → KeyOf b (bytesAfter d (length kept) put bytes)
+  key-move kept _ (pushed i) l o v h g k =
+      let e : d ≡ 2 = omega arith in
+      subst (KeyOf (bare x ∷ kept)) (is-begun d (length kept) put bytes e) (pushed-key kept i o h g k e)
+  key-move _ _ (changed {s} {n} {rest} p f) l o v h g k =
+      subst (KeyOf (n ∷ rest)) (not-begun d (suc (length rest)) put bytes (λ (i : d ≡ 2). omega arith))
+      (record { place = k .place; rest = k .rest; is = k .is; five = k .five; size = k .size; fresh = λ t. k .fresh (f t) })
+  key-move _ _ (closed {top} {s} {n} {rest} t r p f) l o v h g k =
+      let z = k .size in
+      subst (KeyOf (n ∷ rest)) (not-begun d (suc (suc (length rest))) put bytes (λ (i : d ≡ 2). omega arith))
+      (record {
+        place = weightsOf s;
+        rest = 5 + k .rest;
+        is =
+            k .is ∙ ap (λ (u : List ℕ). keptKey (s ∷ rest) ++ (u ++ zeros (k .rest))) (k .fresh t)
+            ∙ ap (λ (u : List ℕ). keptKey (s ∷ rest) ++ u) (zeros-add 5 (k .rest)) ∙ append-assoc (keptKey rest) (weightsOf s) (zeros (5 + k .rest));
+        five = five-long s;
+        size = omega arith;
+        fresh = λ u. absurd (refuted n f u);
+      })
+  key-move _ _ (doubled {s} {n} {rest} y p) l o v h g k =
+      let e : d ≡ 2 = omega arith in
+      subst (KeyOf (bare 0x101E ∷ n ∷ rest)) (is-begun d (suc (length rest)) put bytes e)
+      (begun (bare 0x101E) s n rest bytes k (v .2 .1) h put
+      (finished-before x d q w e ∙ closed-great x (w .last) y ∙ omega (arith, g .last, p)))
+
+-- at the end of the word
+pub key-end : (kept : Row) (bytes : List ℕ) → KeptOk kept → (w : Weights) → WeightsOf kept w → KeyOf kept bytes
+    → putLast (length kept) (w .last) bytes ≡ keptKey kept ++ zeros (keyLimit - usedBytes (length kept))
+unfolding putLast pick
+key-end [] bytes o w g k =
+    let z = k .size in
+    k .is ∙ ap (λ (u : List ℕ). u ++ zeros (k .rest)) (k .fresh tt) ∙ zeros-add 5 (k .rest) ∙ ap zeros (let e : 5 + k .rest ≡ keyLimit = omega arith in e)
+key-end (s ∷ rest) bytes o w g k =
+    let z = k .size in
+    put-at s s rest bytes k (o .1) (w .last) (g .last)
+    ∙ ap (λ (n : ℕ). keptKey (s ∷ rest) ++ zeros n) (let e : k .rest ≡ keyLimit - usedBytes (suc (length rest)) = omega arith in e)
+
+-- what is kept is the row in reverse
+key-reverse : (a r : Row) → keyOf (reverseAux a r) ≡ keptKey a ++ keyOf r
+key-reverse [] r = refl
+key-reverse (s ∷ a) r = key-reverse a (s ∷ r) ∙ sym (append-assoc (keptKey a) (weightsOf s) (keyOf r))
+
+pub kept-key : (kept : Row) → keyOf (reverse kept) ≡ keptKey kept
+kept-key kept = key-reverse kept [] ∙ append-nil (keptKey kept)
+
+pub put-length : (count p : ℕ) (bytes : List ℕ) → length (putLast count p bytes) ≡ length bytes
+unfolding putLast pick
+put-length count p bytes = go (eqb count 0)
+  where
+    go : (b : Bool) → length (pick b bytes (sets bytes (5 * (count - 1)) (fiveBytes p))) ≡ length bytes
+    go true = refl
+    go false = length-sets bytes (5 * (count - 1)) (fiveBytes p)

@@ -1,0 +1,153 @@
+-- `keying::fill::fill` meets its contract: before each turn the weights and the bytes are those of what the machine has kept of the values
+-- read. The measure is what is left of the word. Assumes nothing.
+use mathlib.Core.Path.{ap, sym, subst}
+use Prim.Native.Nat.{_-_, _≤_, _<_}
+use native.Mathlib.Omega.{arith}
+use lib.ListN.{length}
+use Rattle.reading.specs.Answer.{outcomeOf, too-long}
+use Rattle.keying.specs.Filling.{Filled}
+use Rattle.keying.proofs.Passing.{at-start, small, sized, refused, fits, some-left, next, stopped-short, key-short, stopped-end, key-whole, size-whole}
+use Rattle.keying.proofs.fill.fill.Statement.{statement}
+use Rattle.keying.proofs.fill.fill.Tie as tie
+
+abbrev Inv-loop : tie.InvT-loop
+Inv-loop word bytes₀ weights₀ state₀ count₀ at₀ bytes weights state count at = (at ≤ length word) × Filled word at state count weights bytes
+
+abbrev μ-loop : tie.MeasureT-loop
+μ-loop word bytes₀ weights₀ state₀ count₀ at₀ bytes weights state count at = length word - at
+
+returns : tie.Need-returns Inv-loop μ-loop
+returns c =
+    record {
+      answers = too-long (c .if1 .taken);
+      key = tt;
+      size = ap length (c .before .before .pre);
+    }
+
+loop-holds : tie.Need-loop-holds Inv-loop μ-loop
+loop-holds c =
+    (omega arith, subst (Filled (c .before .before .args .word .now) 0 0 0 (record { last = 0; before = 0 })) (sym (c .before .before .pre)) (at-start (c .before .before .args .word .now)))
+
+mul-x : tie.Need-mul-x Inv-loop μ-loop
+mul-x c = omega arith
+
+shared-slice-read-x : tie.Need-shared-slice-read-x Inv-loop μ-loop
+shared-slice-read-x c = omega arith
+
+next-requires : tie.Need-next-requires Inv-loop μ-loop
+next-requires c κs =
+    let l = c .before .before in
+    small (l .before .before .before .args .word .now) (l .loop .at) (l .loop .state) (l .loop .count) (l .loop .weights) (l .loop .bytes) (l .loop .inv .1)
+
+answer-at-requires : tie.Need-answer-at-requires Inv-loop μ-loop
+answer-at-requires c κs =
+    let l = c .before .before .before .before in
+    stopped-short (l .before .before .before .args .word .now) (l .loop .at) (l .loop .state) (l .loop .count) (l .loop .weights) (l .loop .bytes) (l .loop .inv .1) (l .before .if1 .left) (c .before .before .before .loop-test .taken)
+    (refused (l .before .before .before .args .word .now) (l .loop .at) (l .loop .state) (l .loop .count) (l .loop .weights) (l .loop .bytes) (l .loop .inv .1) (c .before .next .result) (c .before .next .ensures) (c .if2 .taken))
+
+returns-2 : tie.Need-returns-2 Inv-loop μ-loop
+returns-2 c =
+    let l = c .before .before .before .before .before in
+    let a = c .before .before in
+    record {
+      answers = c .answer-at .ensures;
+      key =
+          key-short (l .before .before .before .args .word .now) (l .loop .at) (l .loop .state) (l .loop .count) (l .loop .weights) (l .loop .bytes) (l .loop .inv .1) (l .before .if1 .left) (a .before .before .loop-test .taken)
+          (refused (l .before .before .before .args .word .now) (l .loop .at) (l .loop .state) (l .loop .count) (l .loop .weights) (l .loop .bytes) (l .loop .inv .1) (a .next .result) (a .next .ensures) (c .before .if2 .taken)) (outcomeOf (c .answer-at .result));
+      size = sized (l .before .before .before .args .word .now) (l .loop .at) (l .loop .state) (l .loop .count) (l .loop .weights) (l .loop .bytes) (l .loop .inv .1);
+    }
+
+weights-after-requires : tie.Need-weights-after-requires Inv-loop μ-loop
+weights-after-requires c κs =
+    let l = c .before .before .before .before in (
+      small (l .before .before .before .args .word .now) (l .loop .at) (l .loop .state) (l .loop .count) (l .loop .weights) (l .loop .bytes) (l .loop .inv .1),
+      fits (l .before .before .before .args .word .now) (l .loop .at) (l .loop .state) (l .loop .count) (l .loop .weights) (l .loop .bytes) (l .loop .inv .1) (c .before .next .result) (c .before .next .ensures) (c .if2 .left) (c .before .before .before .loop-test .taken) (l .before .if1 .left),
+    )
+
+put-finished-requires : tie.Need-put-finished-requires Inv-loop μ-loop
+put-finished-requires c κs =
+    let l = c .before .before .before .before .before .before in
+    let b = l .loop .inv .1 .bounded in
+    let i = l .loop .inv .0 in
+    omega (arith, l .before .if1 .left)
+
+cast-count : tie.Need-cast-count Inv-loop μ-loop
+cast-count c = omega arith
+
+add-count : tie.Need-add-count Inv-loop μ-loop
+add-count c =
+    let l = c .before .before .before .before .before .before .before in
+    let b = l .loop .inv .1 .bounded in
+    let i = l .loop .inv .0 in
+    omega (arith, l .before .if1 .left)
+
+sub-count : tie.Need-sub-count Inv-loop μ-loop
+sub-count c =
+    let l = c .before .before .before .before .before .before .before in
+    let a = c .before .before .before .before in
+    some-left (l .before .before .before .args .word .now) (l .loop .at) (l .loop .state) (l .loop .count) (l .loop .weights) (l .loop .bytes) (l .loop .inv .1) (a .next .result) (a .next .ensures) (c .before .before .before .if2 .left) (a .before .before .loop-test .taken) (l .before .if1 .left)
+
+cast-state : tie.Need-cast-state Inv-loop μ-loop
+cast-state c = omega arith
+
+add-at : tie.Need-add-at Inv-loop μ-loop
+add-at c = omega arith
+
+loop-less : tie.Need-loop-less Inv-loop μ-loop
+loop-less c = omega arith
+
+loop-again : tie.Need-loop-again Inv-loop μ-loop
+loop-again c =
+    let l = c .before .before .before .before .before .before .before in
+    let a = c .before .before .before .before in (
+      omega arith,
+      next (l .before .before .before .args .word .now) (l .loop .at) (l .loop .state) (l .loop .count) (l .loop .weights) (l .loop .bytes) (l .loop .inv .1) (a .next .result) (a .next .ensures) (c .before .before .before .if2 .left) (a .before .before .loop-test .taken) (l .before .if1 .left)
+          (c .before .before .weights-after .result) (c .before .before .weights-after .ensures) (c .put-finished .last .0) (c .put-finished .ensures),
+    )
+
+put-last-requires : tie.Need-put-last-requires Inv-loop μ-loop
+put-last-requires c κs =
+    let l = c .before .before in
+    let b = l .loop .inv .1 .bounded in
+    let i = l .loop .inv .0 in
+    omega (arith, l .before .if1 .left)
+
+answer-at-requires-2 : tie.Need-answer-at-requires-2 Inv-loop μ-loop
+answer-at-requires-2 c κs =
+    let l = c .before .before .before in
+    stopped-end (l .before .before .before .args .word .now) (l .loop .at) (l .loop .state) (l .loop .count) (l .loop .weights) (l .loop .bytes) (l .loop .inv .1) (l .before .if1 .left) (l .loop .inv .0) (c .before .before .loop-test .left)
+
+returns-3 : tie.Need-returns-3 Inv-loop μ-loop
+returns-3 c =
+    let l = c .before .before .before .before in
+    record {
+      answers = c .answer-at2 .ensures;
+      key = key-whole (l .before .before .before .args .word .now) (l .loop .at) (l .loop .state) (l .loop .count) (l .loop .weights) (l .loop .bytes) (l .loop .inv .1) (l .before .if1 .left) (l .loop .inv .0) (c .before .before .before .loop-test .left) (c .before .put-last .last .0) (c .before .put-last .ensures) (outcomeOf (c .answer-at2 .result));
+      size = size-whole (l .before .before .before .args .word .now) (l .loop .at) (l .loop .state) (l .loop .count) (l .loop .weights) (l .loop .bytes) (l .loop .inv .1) (l .before .if1 .left) (l .loop .inv .0) (c .before .before .before .loop-test .left) (c .before .put-last .last .0) (c .before .put-last .ensures);
+    }
+
+pub fill-spec : {M : Type 1} → statement M
+fill-spec =
+    tie.close
+    (tie.spec
+    Inv-loop
+    μ-loop
+    returns
+    loop-holds
+    mul-x
+    shared-slice-read-x
+    next-requires
+    answer-at-requires
+    returns-2
+    weights-after-requires
+    put-finished-requires
+    cast-count
+    add-count
+    sub-count
+    cast-state
+    add-at
+    loop-less
+    loop-again
+    put-last-requires
+    answer-at-requires-2
+    returns-3)

@@ -1,0 +1,20 @@
+-- Document 01, "Weights": the key of a word as handed in, made while it is read.
+-- Assumes nothing.
+use mathlib.Core.Path.{_≡_}
+use mathlib.Core.List.{List}
+use Prim.Native.Nat.{ℕ}
+use lib.ListN.{length}
+use Rattle.formula.specs.Row.{Row, Gives}
+use Rattle.reading.specs.Answer.{Outcome, accepts, refuses, outcomeOf, Answers}
+use Rattle.reading.specs.declared.read.ReadAnswer.{ReadAnswer}
+use Rattle.weighing.specs.Keys.{keyLimit, keyBytes}
+
+-- the bytes are the key of the row that gives the word; with a refusal they are not told
+abbrev pub KeyIfRead : List ℕ → Outcome → List ℕ → Type 0
+KeyIfRead word (accepts n) bytes = (row : Row) → Gives row word → bytes ≡ keyBytes row
+KeyIfRead word (refuses number place) bytes = Unit {0}
+
+pub record FillRight (word : List ℕ) (answer : ReadAnswer) (bytes : List ℕ) : Type 0 where
+  pub answers : Answers word (outcomeOf answer)
+  pub key : KeyIfRead word (outcomeOf answer) bytes
+  pub size : length bytes ≡ keyLimit
