@@ -18,7 +18,7 @@ use Rattle.storage.proofs.Rows.{gives-stored}
 use Rattle.normaliser.specs.Normal.{StoreRefusedWith, outcome, Stores, StoreAnswers}
 use Rattle.normaliser.proofs.Storing.{reads-stores}
 use Rattle.weighing.specs.Keys.{keyLimit, usedBytes}
-use Rattle.collation.specs.StandIn.{FilledFor, FillRight}
+use Rattle.keying.specs.Filled.{KeyIfRead, FillRight}
 use Rattle.collation.specs.Keyed.{KeyFor, KeyRight, WeighedFor, WeighRight}
 
 -- the weights of a row of syllables, which is its own stored form
@@ -26,13 +26,13 @@ pub row-weighed : (word : List ℕ) (answer : ReadAnswer) (bytes : List ℕ) →
     → WeighRight word answer bytes
 row-weighed word answer bytes right n e =
     let reads = subst (λ (a : ReadAnswer). Answers word (outcomeOf a)) e (right .answers) in
-    let filled = subst (λ (a : ReadAnswer). FilledFor word (outcomeOf a) bytes) e (right .filled) in
+    let filled = subst (λ (a : ReadAnswer). KeyIfRead word (outcomeOf a) bytes) e (right .key) in
     record {
       answers = subst (λ (a : ReadAnswer). StoreAnswers word (outcomeOf a)) (sym e) (reads-stores word n reads);
       weighed =
           subst (λ (a : ReadAnswer). WeighedFor word (outcomeOf a) bytes) (sym e)
           (λ row g. filled row (subst (Gives row) (gives-stored (reads .row) word (reads .gives)) g));
-      room = right .room;
+      room = right .size;
     }
 
 -- the weights of a stored form, whose answer is the word's
@@ -42,8 +42,8 @@ form-weighed word values admissible e answer bytes right = go answer (subst (λ 
   where
     go : (a : ReadAnswer) → FillRight (storedForm word) a bytes → WeighRight word a bytes
     go (Syllables n) r =
-        record { answers = record { admissible = admissible; reads = r .answers }; weighed = r .filled; room = r .room }
-    go (Refused refusal) r = record { answers = outcome admissible (r .answers); weighed = tt; room = r .room }
+        record { answers = record { admissible = admissible; reads = r .answers }; weighed = r .key; room = r .size }
+    go (Refused refusal) r = record { answers = outcome admissible (r .answers); weighed = tt; room = r .size }
 
 -- a refusal goes with any bytes
 pub refused-weighed : (word : List ℕ) (answer : ReadAnswer) (bytes : List ℕ) → StoreAnswers word (outcomeOf answer) → (refusal : Refusal)

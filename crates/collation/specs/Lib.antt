@@ -1,3 +1,2 @@
 pub mod Keyed
 pub mod Comparison
-pub mod StandIn

@@ -1,5 +1,5 @@
 // The weights of a word that is normalised first.
-use crate::standin::fill;
+use keying::fill::fill;
 use normaliser::normal_form;
 use reading::read::ReadAnswer;
 ghost use mathlib.Core.Path.{_≡_};

@@ -43,8 +43,7 @@ pub fn normal_form(word: &[u16]) -> Normalised
     let form = storage::stored(word);
     let count = form.count;
     let values = form.values;
-    let reading = reading::read::read(&values[..count]);
-    let answer = reading.answer;
+    let answer = reading::walk::answer_of(&values[..count]);
     if let ReadAnswer::Refused(refusal) = answer {
         return refused(as_handed_in(word, refusal));
     }

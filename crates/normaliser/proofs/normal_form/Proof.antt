@@ -5,7 +5,7 @@ use mathlib.Core.List.{List}
 use Prim.Native.Nat.{ℕ}
 use borrow.Author.Needs.{needs}
 use Rattle.formula.proofs.Held.{held-front, held-fits, held-length}
-use Rattle.reading.specs.Answer.{outcomeOf, Answers, ReadRight}
+use Rattle.reading.specs.Answer.{outcomeOf, Answers}
 use Rattle.reading.specs.declared.read.ReadAnswer.{ReadAnswer}
 use Rattle.storage.specs.Stored.{storedForm}
 use Rattle.normaliser.specs.Normal.{too-long, StoreAnswers, WordFor, NormalRight}
@@ -27,12 +27,12 @@ stored-requires c κs = search needs
 array-share-prefix-values : tie.Need-array-share-prefix-values
 array-share-prefix-values c = held-fits (c .before .stored .result) (storedForm (c .before .before .before .before .args .word .now)) (c .before .stored .ensures)
 
-slice-aggregate-read : tie.Need-slice-aggregate-read
-slice-aggregate-read c =
+slice-aggregate-answer-of : tie.Need-slice-aggregate-answer-of
+slice-aggregate-answer-of c =
     held-length (c .before .before .stored .result) (storedForm (c .before .before .before .before .before .args .word .now)) (c .before .before .stored .ensures)
 
-read-requires : tie.Need-read-requires
-read-requires c κs = search needs
+answer-of-requires : tie.Need-answer-of-requires
+answer-of-requires c κs = search needs
 
 enum-known-answer : tie.Need-enum-known-answer
 enum-known-answer c = search needs
@@ -49,12 +49,12 @@ returns-2 c =
     let a = k .before .before .before in
     let s = a .before .before .before in
     let word = s .before .before .before .args .word .now in
-    let r : ReadRight (storedForm word) (a .read .result) = subst (λ (l : List ℕ). ReadRight l (a .read .result)) (held-front (s .stored .result) (storedForm word) (s .stored .ensures)) (a .read .ensures) in
+    let r = subst (λ (l : List ℕ). Answers l (outcomeOf (a .answer-of .result))) (held-front (s .stored .result) (storedForm word) (s .stored .ensures)) (a .answer-of .ensures) in
     subst (NormalRight word) (sym (c .refused2 .ensures))
     (record {
       answers =
           refused-right word (s .before .if1 .left) (k .before .answer .given .0 .0) (c .before .as-handed-in .result)
-          (subst (λ (w : ReadAnswer). Answers (storedForm word) (outcomeOf w)) (k .before .answer .given .1) (r .answers)) (c .before .as-handed-in .ensures);
+          (subst (λ (w : ReadAnswer). Answers (storedForm word) (outcomeOf w)) (k .before .answer .given .1) r) (c .before .as-handed-in .ensures);
       held = refl;
     })
 
@@ -66,9 +66,9 @@ returns-3 c =
     let a = c .before .before in
     let s = a .before .before .before in
     let word = s .before .before .before .args .word .now in
-    let r : ReadRight (storedForm word) (a .read .result) = subst (λ (l : List ℕ). ReadRight l (a .read .result)) (held-front (s .stored .result) (storedForm word) (s .stored .ensures)) (a .read .ensures) in
+    let r = subst (λ (l : List ℕ). Answers l (outcomeOf (a .answer-of .result))) (held-front (s .stored .result) (storedForm word) (s .stored .ensures)) (a .answer-of .ensures) in
     let e = c .enum-told .given .1 in
-    let q = subst (λ (w : ReadAnswer). Answers (storedForm word) (outcomeOf w)) e (r .answers) in
+    let q = subst (λ (w : ReadAnswer). Answers (storedForm word) (outcomeOf w)) e r in
     record {
       answers =
           subst (λ (w : ReadAnswer). StoreAnswers word (outcomeOf w)) (sym e)
@@ -84,8 +84,8 @@ normal-form-spec =
     returns
     stored-requires
     array-share-prefix-values
-    slice-aggregate-read
-    read-requires
+    slice-aggregate-answer-of
+    answer-of-requires
     enum-known-answer
     as-handed-in-requires
     refused-requires-2

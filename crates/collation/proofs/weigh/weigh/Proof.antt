@@ -20,7 +20,7 @@ enum-told-2 : tie.Need-enum-told-2
 enum-told-2 c = search needs
 
 weigh-stored-requires : tie.Need-weigh-stored-requires
-weigh-stored-requires c κs = c .before .before .before .fill .ensures .room
+weigh-stored-requires c κs = c .before .before .before .fill .ensures .size
 
 returns-2 : tie.Need-returns-2
 returns-2 c = search needs
