@@ -65,7 +65,7 @@ pub enum NormaliseAnswer {
 }
 
 // Writes the first values of an array to the front of a slice.
-fn copy_out(values: &[u16; Word::LIMIT], count: usize, output: &mut [u16])
+pub fn copy_out(values: &[u16; Word::LIMIT], count: usize, output: &mut [u16])
     requires { ⌜ (count ≤ length (now values)) × (count ≤ length (now output)) × (count ≤ 64) ⌝ }
     ensures { λ _. ⌜ now (output .exit) ≡ take count (now (values .entry)) ++ drop count (now (output .entry)) ⌝ }
 {
