@@ -2,12 +2,13 @@
 use crate::outputs::put_key;
 use crate::outputs::put_values;
 ghost use Rattle.reading.specs.Answer.{Answers};
+ghost use Rattle.reading.specs.Parts.{PartAnswers};
 ghost use Rattle.normaliser.specs.Normal.{NormaliseRight};
 ghost use Rattle.collation.specs.Comparison.{CompareAnswers};
 ghost use Rattle.writing.specs.Write.{WriteRight};
 ghost use Rattle.spelling.specs.Spell.{lists, SpellRight};
 ghost use Rattle.packing.specs.Packing.{Packed};
-ghost use Rattle.packing.specs.Answers.{RecordGivenRight, readNumbers, recordNumbers, writeNumbers, spellNumbers, compareNumbers};
+ghost use Rattle.packing.specs.Answers.{RecordGivenRight, readNumbers, recordNumbers, partNumbers, writeNumbers, spellNumbers, compareNumbers};
 ghost use Rattle.interface.specs.Outputs.{KeyWritten, DecodeWritten};
 
 // How many syllables a word has.
@@ -26,6 +27,14 @@ pub extern "C" fn jogcairn_record(word: &[u16], number: usize) -> u64
     ensures { λ r. ⌜ Packed (RecordGivenRight (now (word .entry)) number) recordNumbers r ⌝ }
 {
     packing::of_record(reading::records::record_at(word, number))
+}
+
+// Place and length of the part of the syllable `number`, from 0.
+#[no_mangle]
+pub extern "C" fn jogcairn_part(word: &[u16], number: usize) -> u64
+    ensures { λ r. ⌜ Packed (PartAnswers (now (word .entry)) number) partNumbers r ⌝ }
+{
+    packing::of_part(reading::parts::part_place(word, number))
 }
 
 // Writes a word's spelled syllables and where each begins.

@@ -5,6 +5,7 @@ use Prim.Native.Nat.{ℕ}
 use lib.ListN.{getD}
 use Rattle.reading.specs.Answer as reading
 use Rattle.reading.specs.Records.{RecordOutcome, found, no-syllable, refuses, RecordAnswers}
+use Rattle.reading.specs.Parts as parts
 use Rattle.writing.specs.Write as writing
 use Rattle.spelling.specs.Spell as spelling
 use Rattle.weighing.specs.declared.order.Order.{Order}
@@ -51,6 +52,12 @@ outcomeNumbers (refuses number place) bytes = refused number place
 
 abbrev pub recordNumbers : RecordGiven → Answer
 recordNumbers given = outcomeNumbers (given .outcome) (given .bytes)
+
+-- the place and the length of a part
+abbrev pub partNumbers : parts.PartOutcome → Answer
+partNumbers (parts.stands place size) = accepted place size
+partNumbers parts.no-syllable = none
+partNumbers (parts.refuses number place) = refused number place
 
 -- the number of values
 abbrev pub writeNumbers : writing.Outcome → Answer

@@ -3,6 +3,7 @@ use collation::compare::Compared;
 use keeping::plan::Found;
 use keeping::plan::Placed;
 use normaliser::NormaliseAnswer;
+use reading::parts::PartAnswer;
 use reading::read::ReadAnswer;
 use reading::records::RecordAnswer;
 use reading::records::SyllableRecord;
@@ -15,6 +16,7 @@ ghost use Prim.Native.Nat.{_<_};
 ghost use Rattle.refusals.specs.Refusal.{numberOf, placeOf};
 ghost use Rattle.reading.specs.Answer.{outcomeOf};
 ghost use Rattle.reading.specs.Records.{recordOutcomeOf};
+ghost use Rattle.reading.specs.Parts.{partOutcomeOf};
 ghost use Rattle.normaliser.specs.Normal.{normaliseOutcomeOf};
 ghost use Rattle.writing.specs.Write.{outcomeOf as writeOutcomeOf};
 ghost use Rattle.spelling.specs.Spell.{outcomeOf as spellOutcomeOf};
@@ -23,7 +25,7 @@ ghost use Rattle.entries.specs.Entries.{number};
 ghost use Rattle.keeping.specs.Outcome.{foundOutcome, placedOutcome};
 ghost use Rattle.wordbook.specs.Calls.{checkedOutcome};
 ghost use Rattle.packing.specs.Packing.{answer, pack};
-ghost use Rattle.packing.specs.Answers.{readNumbers, bytesNumbers, outcomeNumbers, writeNumbers, spellNumbers, compareNumbers, bookNumbers};
+ghost use Rattle.packing.specs.Answers.{readNumbers, bytesNumbers, outcomeNumbers, partNumbers, writeNumbers, spellNumbers, compareNumbers, bookNumbers};
 
 // The number of a tag, a second number and a first; each is cut to its 8, 24 or 32 bits.
 fn packed(tag: u64, second: u64, first: u64) -> u64
@@ -80,6 +82,16 @@ pub fn of_record(given: SyllableRecord) -> u64
         }
         RecordAnswer::NoSyllable => packed(128, 0, 0),
         RecordAnswer::Refused(refusal) => refused(refusal, 0),
+    }
+}
+
+pub fn of_part(answer: PartAnswer) -> u64
+    ensures { λ r. ⌜ r ≡ pack (partNumbers (partOutcomeOf answer)) ⌝ }
+{
+    match answer {
+        PartAnswer::At { place, size } => packed(0, size as u64, place as u64),
+        PartAnswer::NoSyllable => packed(128, 0, 0),
+        PartAnswer::Refused(refusal) => refused(refusal, 0),
     }
 }
 
