@@ -1,2 +1,4 @@
 mod Decoding
 mod Keying
+pub mod OutputFits
+pub mod Told

@@ -20,6 +20,7 @@ unpack-pack a f =
 pub pack-injective : (a b : Answer) → Fits a → Fits b → pack a ≡ pack b → a ≡ b
 pack-injective a b f g e = sym (unpack-pack a f) ∙ ap unpack e ∙ unpack-pack b g
 
--- a call's number unpacks to the numbers of the outcome, where those of every right outcome fit
-pub packed-told : {A : Type 0} (Right : A → Type 0) (numbers : A → Answer) (n : ℕ) (p : Packed Right numbers n) → Fits (numbers (p .outcome)) → unpack n ≡ numbers (p .outcome)
-packed-told Right numbers n p f = ap unpack (p .packed) ∙ unpack-pack (numbers (p .outcome)) f
+-- a call's number unpacks to the numbers of its outcome, where those of every right outcome fit
+pub packed-told : {A : Type 0} (Right : A → Type 0) (numbers : A → Answer) → ((o : A) → Right o → Fits (numbers o))
+    → (n : ℕ) (p : Packed Right numbers n) → unpack n ≡ numbers (p .outcome)
+packed-told Right numbers fits n p = ap unpack (p .packed) ∙ unpack-pack (numbers (p .outcome)) (fits (p .outcome) (p .right))
