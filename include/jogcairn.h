@@ -45,8 +45,8 @@ extern "C" {
 enum jogcairn_refusal {
     JOGCAIRN_TOO_LONG = 1,        /* more than 64 values, or a line over 192 bytes; place 64 */
     JOGCAIRN_FOREIGN = 2,         /* a foreign value; place: the first, in the word as handed in */
-    JOGCAIRN_BROKEN = 3,          /* nothing put behind it makes it a word; place: how much of it something put behind can still make one */
-    JOGCAIRN_UNFINISHED = 4,      /* no word, but something put behind it makes it one; place: its length */
+    JOGCAIRN_BROKEN = 3,          /* no continuation makes it a word; place: the length of its longest beginning that has one */
+    JOGCAIRN_UNFINISHED = 4,      /* no word, but some continuation makes it one; place: its length */
     JOGCAIRN_NO_ROOM = 5,         /* an output is too short; place: the elements needed */
     JOGCAIRN_NO_ROW = 6,          /* records that no word has, or of a word over 64 values; place 0 */
     JOGCAIRN_FAULTY_LINE = 7,     /* bytes that are no Myanmar value in UTF-8; place: the first such byte */

@@ -20,7 +20,8 @@ use Rattle.packing.proofs.WordFits.{small-fits, store-refused-small}
 use Rattle.interface.specs.Outputs as outputs
 
 pub key-fits : (word before after : List ℕ) (o : Outcome) → outputs.KeyWritten word before after o → Fits (readNumbers o)
-key-fits word before after o (outputs.writes s h e) = record { tag = omega arith; second = omega arith; first = omega (arith, count-limit (storedForm word) _ (s .reads)) }
+key-fits word before after o (outputs.writes s h e) =
+    record { tag = omega arith; second = omega arith; first = omega (arith, count-limit (storedForm word) _ (s .reads)) }
 key-fits word before after o (outputs.word-refused r e) = small-fits _ 0 _ (omega arith) (store-refused-small word _ _ r)
 key-fits word before after o (outputs.too-short s h e) = record { tag = omega arith; second = omega arith; first = omega arith }
 
@@ -36,7 +37,8 @@ faulty-by p (a ∷ []) = omega arith
 faulty-by p (a ∷ b ∷ []) = omega arith
 faulty-by p (a ∷ b ∷ c ∷ line) = go (isThree a b c) (decodeFrom (p + 3) line) (faulty-by (p + 3) line)
   where
-    go : (t : Bool) (d : Decoding) → FaultyBy (p + 3 + length line) d → FaultyBy (p + length (a ∷ b ∷ c ∷ line)) (pick t (after (valueOf b c ∷ []) d) (broken p))
+    go : (t : Bool) (d : Decoding) → FaultyBy (p + 3 + length line) d
+        → FaultyBy (p + length (a ∷ b ∷ c ∷ line)) (pick t (after (valueOf b c ∷ []) d) (broken p))
     go true (values word) h = tt
     go true (broken place) h = omega arith
     go false d h = omega arith
@@ -45,9 +47,11 @@ word-short : (line word : List ℕ) → length line ≤ lineLimit → decodeFrom
 word-short line word h d = omega (arith, length-encode word, ap length (encode-decode 0 line word d))
 
 pub decode-fits : (line before after : List ℕ) (o : writing.Outcome) → outputs.DecodeWritten line before after o → Fits (writeNumbers o)
-decode-fits line before after o (outputs.writes h d f e) = record { tag = omega arith; second = omega arith; first = omega (arith, word-short line _ h d) }
+decode-fits line before after o (outputs.writes h d f e) =
+    record { tag = omega arith; second = omega arith; first = omega (arith, word-short line _ h d) }
 decode-fits line before after o (outputs.too-long h e) = record { tag = omega arith; second = omega arith; first = omega arith }
 decode-fits line before after o (outputs.faulty h d e) =
     let near = subst (FaultyBy (0 + length line)) d (faulty-by 0 line) in
     record { tag = omega arith; second = omega arith; first = omega arith }
-decode-fits line before after o (outputs.too-short h d f e) = record { tag = omega arith; second = omega arith; first = omega (arith, word-short line _ h d) }
+decode-fits line before after o (outputs.too-short h d f e) =
+    record { tag = omega arith; second = omega arith; first = omega (arith, word-short line _ h d) }

@@ -5,17 +5,16 @@ use mathlib.Core.List.{List}
 use Prim.Native.Nat.{ℕ}
 use Rattle.reading.specs.Answer.{Answers}
 use Rattle.reading.specs.Parts.{PartAnswers}
-use Rattle.storage.specs.Stored.{storedForm}
 use Rattle.normaliser.specs.Normal.{NormaliseRight}
 use Rattle.writing.specs.Write.{WriteRight}
 use Rattle.spelling.specs.Spell.{Lists, SpellRight}
 use Rattle.collation.specs.Comparison.{CompareAnswers}
 use Rattle.entries.specs.Entries.{entries}
-use Rattle.keeping.specs.Outcome.{checkOf, findOf}
+use Rattle.keeping.specs.Outcome.{checkOf}
 use Rattle.keeping.proofs.Laws.{Bytes}
-use Rattle.wordbook.specs.Calls.{CallAnswers, AddPromise, RemovePromise}
+use Rattle.wordbook.specs.Calls.{AddPromise, RemovePromise}
 use Rattle.packing.specs.Packing.{pack, unpack, Packed}
-use Rattle.packing.specs.Answers.{RecordGivenRight, readNumbers, recordNumbers, partNumbers, writeNumbers, spellNumbers, compareNumbers, bookNumbers}
+use Rattle.packing.specs.Answers.{RecordGivenRight, readNumbers, recordNumbers, partNumbers, writeNumbers, spellNumbers, compareNumbers, bookNumbers, FindAnswers}
 use Rattle.packing.proofs.Laws.{unpack-pack, packed-told}
 use Rattle.packing.proofs.WordFits.{read-fits, record-fits, part-fits, normalise-fits, write-fits, spell-fits, compare-fits}
 use Rattle.packing.proofs.BookFits.{check-fits, find-fits, add-fits, remove-fits}
@@ -55,10 +54,11 @@ module _ (book : List ℕ) (small : Bytes book) (n : ℕ) where
   pub check-told : n ≡ pack (bookNumbers (checkOf (entries book))) → unpack n ≡ bookNumbers (checkOf (entries book))
   check-told e = ap unpack e ∙ unpack-pack (bookNumbers (checkOf (entries book))) (check-fits book small)
 
-  pub find-told : (word : List ℕ) (p : Packed (CallAnswers word (findOf (entries book) (storedForm word))) bookNumbers n) → unpack n ≡ bookNumbers (p .outcome)
-  find-told word p = packed-told (CallAnswers word (findOf (entries book) (storedForm word))) bookNumbers (find-fits book small word) n p
+  pub find-told : (word : List ℕ) (p : Packed (FindAnswers book word) bookNumbers n) → unpack n ≡ bookNumbers (p .outcome)
+  find-told word p = packed-told (FindAnswers book word) bookNumbers (find-fits book small word) n p
 
-  pub add-told : (word : List ℕ) (stock : ℕ) (after : List ℕ) (p : Packed (AddPromise word stock book after) bookNumbers n) → unpack n ≡ bookNumbers (p .outcome)
+  pub add-told : (word : List ℕ) (stock : ℕ) (after : List ℕ) (p : Packed (AddPromise word stock book after) bookNumbers n)
+      → unpack n ≡ bookNumbers (p .outcome)
   add-told word stock after p = packed-told (AddPromise word stock book after) bookNumbers (add-fits book small word stock after) n p
 
   pub remove-told : (word after : List ℕ) (p : Packed (RemovePromise word book after) bookNumbers n) → unpack n ≡ bookNumbers (p .outcome)

@@ -1,11 +1,10 @@
 // The calls on a book.
 ghost use mathlib.Core.Path.{_≡_};
-ghost use Rattle.storage.specs.Stored.{storedForm};
 ghost use Rattle.entries.specs.Entries.{entries};
-ghost use Rattle.keeping.specs.Outcome.{checkOf, findOf};
-ghost use Rattle.wordbook.specs.Calls.{CallAnswers, AddPromise, RemovePromise};
+ghost use Rattle.keeping.specs.Outcome.{checkOf};
+ghost use Rattle.wordbook.specs.Calls.{AddPromise, RemovePromise};
 ghost use Rattle.packing.specs.Packing.{pack, Packed};
-ghost use Rattle.packing.specs.Answers.{bookNumbers};
+ghost use Rattle.packing.specs.Answers.{bookNumbers, FindAnswers};
 
 // Whether the buffer is a book.
 #[no_mangle]
@@ -34,7 +33,7 @@ pub extern "C" fn jogcairn_book_remove(book: &mut [u8], word: &[u16]) -> u64
 // Stock number and start of the live record with the word.
 #[no_mangle]
 pub extern "C" fn jogcairn_book_find(book: &[u8], word: &[u16]) -> u64
-    ensures { λ r. ⌜ Packed (CallAnswers (now (word .entry)) (findOf (entries (now (book .entry))) (storedForm (now (word .entry))))) bookNumbers r ⌝ }
+    ensures { λ r. ⌜ Packed (FindAnswers (now (book .entry)) (now (word .entry))) bookNumbers r ⌝ }
 {
     packing::of_found(wordbook::find(book, word))
 }

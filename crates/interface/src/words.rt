@@ -40,7 +40,9 @@ pub extern "C" fn jogcairn_part(word: &[u16], number: usize) -> u64
 // Writes a word's spelled syllables and where each begins.
 #[no_mangle]
 pub extern "C" fn jogcairn_spell(word: &[u16], values: &mut [u16], starts: &mut [u16]) -> u64
-    ensures { λ r. ⌜ Packed (SpellRight (now (word .entry)) (lists (now (values .entry)) (now (starts .entry))) (lists (now (values .exit)) (now (starts .exit)))) spellNumbers r ⌝ }
+    ensures { λ r. ⌜ Packed
+        (SpellRight (now (word .entry)) (lists (now (values .entry)) (now (starts .entry))) (lists (now (values .exit)) (now (starts .exit))))
+        spellNumbers r ⌝ }
 {
     packing::of_spelling(spelling::spell(word, values, starts))
 }

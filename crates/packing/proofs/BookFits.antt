@@ -23,7 +23,7 @@ use Rattle.keeping.specs.Outcome.{Outcome, checkOf, findOfEntry, findOf, remove
 use Rattle.keeping.proofs.Laws.{Bytes}
 use Rattle.wordbook.specs.Calls.{WordRefused, empty, refused, CallAnswers, word-refused, word-stored, AddPromise, RemovePromise}
 use Rattle.packing.specs.Packing.{answer, Fits}
-use Rattle.packing.specs.Answers.{bookNumbers}
+use Rattle.packing.specs.Answers.{bookNumbers, FindAnswers}
 use Rattle.packing.proofs.WordFits.{small-fits, store-refused-small}
 
 -- the first wrong place is at most n
@@ -40,7 +40,8 @@ bounded-more : (n m : ℕ) (x : Entries) → n ≤ m → Bounded n x → Bounded
 bounded-more n m (book list free) h b = tt
 bounded-more n m (wrong place) h b = omega arith
 
-bounded-tail : (n : ℕ) (bytes : List ℕ) (place : ℕ) (given : Entries) → place + length bytes ≤ n → Bounded n given → Bounded n (zeroTail bytes place given)
+bounded-tail : (n : ℕ) (bytes : List ℕ) (place : ℕ) (given : Entries) → place + length bytes ≤ n → Bounded n given
+    → Bounded n (zeroTail bytes place given)
 unfolding zeroTail
 bounded-tail n [] place given h g = g
 bounded-tail n (byte ∷ bytes) place given h g =
@@ -75,7 +76,8 @@ record Placed (entry : Entry) (end : ℕ) : Type 0 where
   before : entry .start ≤ end
   stock : entry .stock < 0x100000000
 
-looked : (at : ℕ) (seen es : List Entry) (word : List ℕ) (entry : Entry) → GoodAfter at seen es → lookup es word ≡ some entry → Placed entry (endOf at es)
+looked : (at : ℕ) (seen es : List Entry) (word : List ℕ) (entry : Entry) → GoodAfter at seen es → lookup es word ≡ some entry
+    → Placed entry (endOf at es)
 unfolding lookup pick
 looked at seen [] word entry g e = let z : _≡_ {A = ℕ} 0 1 = cc in let y : ⊥ = omega arith in absurd y
 looked at seen (x ∷ es) word entry g e = go (x .live && sameList (x .word) word) (looked (at + size x) (seen ++ (x ∷ [])) es word entry (g .3)) e
@@ -94,7 +96,9 @@ live-few false n m h = omega arith
 
 live-near : (es : List Entry) → liveCount es ≤ length (records es)
 live-near [] = omega arith
-live-near (x ∷ es) = omega (arith, live-few (x .live) (liveCount es) (length (records es)) (live-near es), length-append (recordBytes x) (records es), length-record x)
+live-near (x ∷ es) =
+    let few = live-few (x .live) (liveCount es) (length (records es)) (live-near es) in
+    omega (arith, length-append (recordBytes x) (records es), length-record x)
 
 module _ (bytes word : List ℕ) where
   check-by : (e : Entries) → Bounded bookLimit e → Sound bytes e → Fits (bookNumbers (checkOf e))
@@ -158,7 +162,7 @@ module _ (bytes : List ℕ) (small : Bytes bytes) where
   pub check-fits : Fits (bookNumbers (checkOf (entries bytes)))
   check-fits = check-by bytes [] (entries bytes) (bounded bytes) (sound bytes small)
 
-  pub find-fits : (word : List ℕ) (o : Outcome) → CallAnswers word (findOf (entries bytes) (storedForm word)) o → Fits (bookNumbers o)
+  pub find-fits : (word : List ℕ) (o : Outcome) → FindAnswers bytes word o → Fits (bookNumbers o)
   find-fits word o c = call-fits word _ o (find-by bytes (storedForm word) (entries bytes) (bounded bytes) (sound bytes small)) c
 
   pub add-fits : (word : List ℕ) (stock : ℕ) (after : List ℕ) (o : Outcome) → AddPromise word stock bytes after o → Fits (bookNumbers o)

@@ -10,7 +10,9 @@ use borrow.Author.Tests.{leb-true}
 use lib.Dec.{T, leb}
 use lib.ListN.{length, getD}
 use Rattle.letters.specs.Letters.{within, isConsonant, isIndependentVowel, isDigit, isStop}
-use Rattle.letters.specs.Marks.{neither, ya, ra, MedialGroup, group, Vowel, no-vowel, vowel-aa, vowel-i, vowel-ii, vowel-u, vowel-uu, vowel-e, vowel-ai, vowel-e-aa, vowel-e-aa-killer, vowel-am, vowel-i-u, vowel-u-am, ToneMark, no-tone, dot, visarga}
+use Rattle.letters.specs.Marks.{neither, ya, ra, MedialGroup, group, ToneMark, no-tone, dot, visarga}
+use Rattle.letters.specs.Marks.{Vowel, no-vowel, vowel-aa, vowel-i, vowel-ii, vowel-u, vowel-uu, vowel-e, vowel-ai}
+use Rattle.letters.specs.Marks.{vowel-e-aa, vowel-e-aa-killer, vowel-am, vowel-i-u, vowel-u-am}
 use Rattle.letters.specs.Weights.{isHead, isFinalLetter, bitIf, medialWeight, vowelWeight, vowelTall, toneWeight}
 use Rattle.formula.specs.Limits.{limit}
 use Rattle.formula.proofs.Lists.{both-left, both-right}
@@ -35,7 +37,8 @@ use Rattle.weighing.specs.declared.order.Order.the-variants.{Less, Equal, Great
 use Rattle.collation.specs.Comparison.{CompareOutcome, ordered, first-refuses, second-refuses, CompareAnswers}
 use Rattle.entries.proofs.Tests.{is-true}
 use Rattle.packing.specs.Packing.{answer, Fits}
-use Rattle.packing.specs.Answers.{readNumbers, bytesNumbers, RecordGiven, RecordGivenRight, outcomeNumbers, recordNumbers, partNumbers, writeNumbers, spellNumbers, compareNumbers}
+use Rattle.packing.specs.Answers.{readNumbers, bytesNumbers, RecordGiven, RecordGivenRight, outcomeNumbers, recordNumbers}
+use Rattle.packing.specs.Answers.{partNumbers, writeNumbers, spellNumbers, compareNumbers}
 
 -- a refusal of a word: its number is one of document 01's, and its place at most the limit
 pub record Small (number place : ℕ) : Type 0 where
@@ -45,7 +48,8 @@ pub record Small (number place : ℕ) : Type 0 where
 pub refused-small : (word : List ℕ) (number place : ℕ) → reading.RefusedWith word number place → Small number place
 refused-small word number place (reading.too-long h) = record { few = omega arith; near = omega arith }
 refused-small word number place (reading.foreign f) = record { few = omega arith; near = let s = f .short in let w = f .within in omega arith }
-refused-small word number place (reading.no-continuation a v l) = record { few = omega arith; near = let s = a .short in let w = l .within in omega arith }
+refused-small word number place (reading.no-continuation a v l) =
+    record { few = omega arith; near = let s = a .short in let w = l .within in omega arith }
 refused-small word number place (reading.unfinished a r v) = record { few = omega arith; near = a .short }
 
 pub store-refused-small : (word : List ℕ) (number place : ℕ) → normal.StoreRefusedWith word number place → Small number place
@@ -61,9 +65,11 @@ read-fits word (reading.accepts n) r = record { tag = omega arith; second = omeg
 read-fits word (reading.refuses number place) r = small-fits number 0 place (omega arith) (refused-small word number place r)
 
 pub normalise-fits : (word before after : List ℕ) (o : reading.Outcome) → normal.NormaliseRight word before after o → Fits (readNumbers o)
-normalise-fits word before after o (normal.writes s h e) = record { tag = omega arith; second = omega arith; first = omega (arith, s .reads .admissible .short) }
+normalise-fits word before after o (normal.writes s h e) =
+    record { tag = omega arith; second = omega arith; first = omega (arith, s .reads .admissible .short) }
 normalise-fits word before after o (normal.word-refused r e) = small-fits _ 0 _ (omega arith) (store-refused-small word _ _ r)
-normalise-fits word before after o (normal.too-short s h e) = record { tag = omega arith; second = omega arith; first = omega (arith, s .reads .admissible .short) }
+normalise-fits word before after o (normal.too-short s h e) =
+    record { tag = omega arith; second = omega arith; first = omega (arith, s .reads .admissible .short) }
 
 pub part-fits : (word : List ℕ) (number : ℕ) (o : parts.PartOutcome) → parts.PartAnswers word number o → Fits (partNumbers o)
 part-fits word number (parts.stands place size) p =
@@ -92,7 +98,8 @@ spelled-count word row r =
 spelled-size : (word : List ℕ) (row : Row) → spelling.ReadAs word row → length (spelling.joined (spelled row)) ≤ 190
 spelled-size word row r = spelled-within row (r .gives .is-row) (let s = r .admissible .short in omega (arith, ap length (r .gives .joined)))
 
-pub spell-fits : (word : List ℕ) (before after : spelling.Lists) (o : spelling.Outcome) → spelling.SpellRight word before after o → Fits (spellNumbers o)
+pub spell-fits : (word : List ℕ) (before after : spelling.Lists) (o : spelling.Outcome) → spelling.SpellRight word before after o
+    → Fits (spellNumbers o)
 spell-fits word before after o (spelling.spelled-out r h i w) =
     record { tag = omega arith; second = omega (arith, spelled-count word _ r); first = omega (arith, spelled-size word _ r) }
 spell-fits word before after o (spelling.word-refused r e) = small-fits _ 0 _ (omega arith) (refused-small word _ _ r)
@@ -106,7 +113,8 @@ compare-fits one other (ordered Less) r = record { tag = omega arith; second = o
 compare-fits one other (ordered Equal) r = record { tag = omega arith; second = omega arith; first = omega arith }
 compare-fits one other (ordered Greater) r = record { tag = omega arith; second = omega arith; first = omega arith }
 compare-fits one other (first-refuses number place) r = small-fits number 1 place (omega arith) (store-refused-small one number place r)
-compare-fits one other (second-refuses number place) r = small-fits number 2 place (omega arith) (store-refused-small other number place (r .second-refused))
+compare-fits one other (second-refuses number place) r =
+    small-fits number 2 place (omega arith) (store-refused-small other number place (r .second-refused))
 
 -- the bytes of a record are bytes: each number of a syllable is small
 upto : (a b x : ℕ) → b ≤ 0x104F → T (within a b x) → x ≤ 0x104F

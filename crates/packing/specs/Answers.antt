@@ -11,8 +11,10 @@ use Rattle.spelling.specs.Spell as spelling
 use Rattle.weighing.specs.declared.order.Order.{Order}
 use Rattle.weighing.specs.declared.order.Order.the-variants.{Less, Equal, Greater}
 use Rattle.collation.specs.Comparison.{CompareOutcome, ordered, first-refuses, second-refuses}
-use Rattle.entries.specs.Entries.{number}
+use Rattle.storage.specs.Stored.{storedForm}
+use Rattle.entries.specs.Entries.{number, entries}
 use Rattle.keeping.specs.Outcome as keeping
+use Rattle.wordbook.specs.Calls.{CallAnswers}
 use Rattle.packing.specs.Packing.{Answer, answer}
 
 abbrev pub accepted : ℕ → ℕ → Answer
@@ -79,6 +81,10 @@ abbrev pub compareNumbers : CompareOutcome → Answer
 compareNumbers (ordered order) = accepted (orderNumber order) 0
 compareNumbers (first-refuses number place) = answer number 1 place
 compareNumbers (second-refuses number place) = answer number 2 place
+
+-- what find answers to a word as it is handed in
+abbrev pub FindAnswers : List ℕ → List ℕ → keeping.Outcome → Type 0
+FindAnswers book word = CallAnswers word (keeping.findOf (entries book) (storedForm word))
 
 -- the live count, the stock number with the start, or the start
 abbrev pub bookNumbers : keeping.Outcome → Answer

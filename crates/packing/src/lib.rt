@@ -25,7 +25,8 @@ ghost use Rattle.entries.specs.Entries.{number};
 ghost use Rattle.keeping.specs.Outcome.{foundOutcome, placedOutcome};
 ghost use Rattle.wordbook.specs.Calls.{checkedOutcome};
 ghost use Rattle.packing.specs.Packing.{answer, pack};
-ghost use Rattle.packing.specs.Answers.{readNumbers, bytesNumbers, outcomeNumbers, partNumbers, writeNumbers, spellNumbers, compareNumbers, bookNumbers};
+ghost use Rattle.packing.specs.Answers.{readNumbers, bytesNumbers, outcomeNumbers, partNumbers, writeNumbers};
+ghost use Rattle.packing.specs.Answers.{spellNumbers, compareNumbers, bookNumbers};
 
 // The number of a tag, a second number and a first; each is cut to its 8, 24 or 32 bits.
 fn packed(tag: u64, second: u64, first: u64) -> u64
