@@ -56,7 +56,7 @@ pub enum NormaliseAnswer {
 }
 
 // Writes values to the front of a slice.
-fn copy_out(values: &[u16], output: &mut [u16])
+pub fn copy_out(values: &[u16], output: &mut [u16])
     requires { ⌜ (length (now values) ≤ length (now output)) × (length (now values) ≤ 64) ⌝ }
     ensures { λ _. ⌜ now (output .exit) ≡ now (values .entry) ++ drop (length (now (values .entry))) (now (output .entry)) ⌝ }
 {

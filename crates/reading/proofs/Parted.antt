@@ -15,8 +15,9 @@ use Rattle.formula.specs.Syllable.{Final, no-final, finalOf, part}
 use Rattle.formula.specs.Row.{Row, joinAfter, partsAfter, parts}
 use Rattle.formula.specs.declared.Window.{Window}
 use Rattle.rows.specs.Kept.{endOf, keptJoin}
+use Rattle.rows.proofs.Viable.{only-row}
 use Rattle.reading.specs.Answer.{RefusedWith, Reads}
-use Rattle.reading.specs.Parts.{endBy, PartRight}
+use Rattle.reading.specs.Parts.{endBy, HasPart, NoPart, PartRight}
 use Rattle.reading.specs.Scanned.{keptStarts, StartsOf, Stopped}
 use Rattle.reading.proofs.Answered.{read-ends, kept-is, refused-no-row}
 
@@ -36,6 +37,7 @@ places-kept (s ∷ a) r =
 record Located (f : Final) (n : ℕ) (row : Row) (k : ℕ) : Type 0 where
   before : List ℕ
   after : List ℕ
+  front : before ≡ joinAfter f (take k row)
   split : joinAfter f row ≡ before ++ (getD (partsAfter f row) k [] ++ after)
   from : getD (placesAfter f n row) k 0 ≡ n + length before
   next : suc k < length row → getD (placesAfter f n row) (suc k) 0 ≡ n + length before + length (getD (partsAfter f row) k [])
@@ -44,11 +46,12 @@ record Located (f : Final) (n : ℕ) (row : Row) (k : ℕ) : Type 0 where
 located : (f : Final) (n : ℕ) (row : Row) (k : ℕ) → k < length row → Located f n row k
 located f n [] k h = absurd (not-suc-le-zero h)
 located f n (s ∷ []) zero h =
-    record { before = []; after = []; split = refl; from = omega arith; next = λ i. let z : ⊥ = omega arith in absurd z; last = λ _. refl }
+    record { before = []; after = []; front = refl; split = refl; from = omega arith; next = λ i. let z : ⊥ = omega arith in absurd z; last = λ _. refl }
 located f n (s ∷ t ∷ row) zero h =
     record {
       before = [];
       after = joinAfter (finalOf s) (t ∷ row);
+      front = refl;
       split = refl;
       from = omega arith;
       next = λ i. omega arith;
@@ -59,6 +62,7 @@ located f n (s ∷ row) (suc k) h =
     record {
       before = part f s ++ l .before;
       after = l .after;
+      front = ap (λ (w : List ℕ). part f s ++ w) (l .front);
       split =
           ap (λ (w : List ℕ). part f s ++ w) (l .split)
           ∙ sym (append-assoc (part f s) (l .before) (getD (partsAfter (finalOf s) row) k [] ++ l .after));
@@ -125,22 +129,37 @@ module _ (word : List ℕ) (at : ℕ) (window : Window) (s : Stopped word at win
         ∙ ap (take (to - from)) (drop-at (place .before) (getD (parts (r .row)) k [] ++ place .after) from (sym (e ∙ from-is)))
         ∙ take-at (getD (parts (r .row)) k []) (place .after) (to - from) (omega (arith, e, d, from-is, end-is))
 
-    pub part-right : PartRight word k (take (to - from) (drop from word))
-    part-right =
+    pub part-placed : HasPart word k from (to - from)
+    part-placed =
         record {
-          has = λ _ row g. cut ∙ ap (λ (w : Row). getD (parts w) k []) (sym (r .only row g));
-          refused = λ no. absurd (no (r .admissible) (r .row) (r .gives));
+          admissible = r .admissible;
+          row = r .row;
+          gives = r .gives;
+          below = let c = r .count in omega arith;
+          begins = e ∙ from-is ∙ ap length (place .front);
+          ends = omega (arith, e, d, from-is, end-is);
+          within = omega (arith, from-to, to-end);
+          is = cut;
         }
 
 parts-length : (f : Final) (row : Row) → length (partsAfter f row) ≡ length row
 parts-length f [] = refl
 parts-length f (s ∷ row) = ap suc (parts-length (finalOf s) row)
 
--- a word with no such syllable, and refused words
-pub part-beyond : (word : List ℕ) (n k : ℕ) → Reads word n → n ≤ k → PartRight word k []
-part-beyond word n k r h =
+-- the part at its place, a word with no such syllable, and refused words
+pub part-right : (word : List ℕ) (k place size : ℕ) → HasPart word k place size → PartRight word k (take size (drop place word))
+part-right word k place size p =
     record {
-      has = λ _ row g. sym (List·getD-eq-default (parts row) [] (let c = ap length (r .only row g) ∙ r .count in omega (arith, parts-length no-final row)));
+      has = λ _ row g. p .is ∙ ap (λ (w : Row). getD (parts w) k []) (only-row (p .row) row word (p .gives) g);
+      refused = λ no. absurd (no (p .admissible) (p .row) (p .gives));
+    }
+
+pub part-beyond : (word : List ℕ) (k : ℕ) → NoPart word k → PartRight word k []
+part-beyond word k p =
+    record {
+      has =
+          λ _ row g. let b = p .beyond in
+          sym (List·getD-eq-default (parts row) [] (omega (arith, ap length (only-row (p .row) row word (p .gives) g), parts-length no-final row)));
       refused = λ _. refl;
     }
 

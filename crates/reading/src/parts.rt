@@ -3,9 +3,10 @@ use crate::read::ReadAnswer;
 use crate::read::conclude;
 use crate::scan::scan_word;
 use formula::Word;
+use refusals::Refusal;
 ghost use mathlib.Core.Path.{_≡_};
 ghost use Prim.Native.Nat.{_<_, _≤_};
-ghost use Rattle.reading.specs.Parts.{endBy, PartRight};
+ghost use Rattle.reading.specs.Parts.{endBy, PartAnswers, partOutcomeOf, PartRight};
 
 fn wide(x: u8) -> usize
     ensures { λ r. ⌜ r ≡ x ⌝ }
@@ -25,23 +26,48 @@ fn end_of(starts: &[u8; Word::LIMIT], count: usize, number: usize, end: usize) -
     end
 }
 
-// The part of the syllable `number`, from 0; empty where the word is refused or has no such syllable.
-pub fn part_at(word: &[u16], number: usize) -> &[u16]
-    ensures { λ r. ⌜ PartRight (now (word .entry)) number (now r) ⌝ }
+// Where the part of a syllable stands in the word.
+pub enum PartAnswer {
+    At { place: usize, size: usize },
+    NoSyllable,
+    Refused(Refusal),
+}
+
+// The place and the length of the part of the syllable `number`, from 0.
+pub fn part_place(word: &[u16], number: usize) -> PartAnswer
+    ensures { λ r. ⌜ PartAnswers (now (word .entry)) number (partOutcomeOf r) ⌝ }
 {
     if Word::LIMIT < word.len() {
-        return &word[..0];
+        return PartAnswer::Refused(Refusal::TooLong);
     }
     let scan = scan_word(word);
     let answer = conclude(word, scan.at, scan.window);
-    let ReadAnswer::Syllables(count) = answer else {
-        return &word[..0];
+    let count = match answer {
+        ReadAnswer::Refused(refusal) => return PartAnswer::Refused(refusal),
+        ReadAnswer::Syllables(count) => count,
     };
     if count <= number {
-        return &word[..0];
+        return PartAnswer::NoSyllable;
     }
     let starts = scan.starts;
     let from = wide(starts[number]);
     let to = end_of(&starts, count, number, word.len());
-    &word[from..to]
+    PartAnswer::At {
+        place: from,
+        size: to - from,
+    }
+}
+
+// The part of the syllable `number`, from 0; empty where the word is refused or has no such syllable.
+pub fn part_at(word: &[u16], number: usize) -> &[u16]
+    ensures { λ r. ⌜ PartRight (now (word .entry)) number (now r) ⌝ }
+{
+    match part_place(word, number) {
+        PartAnswer::Refused(_) => &word[..0],
+        PartAnswer::NoSyllable => &word[..0],
+        PartAnswer::At { place, size } => {
+            let end = place + size;
+            &word[place..end]
+        }
+    }
 }

@@ -1,0 +1,4 @@
+mod Decoding
+mod Keying
+pub mod OutputFits
+pub mod Told

@@ -1,0 +1,65 @@
+-- Every call's number tells all of its outcome: unpacked, it is the outcome's numbers, of which none is cut. By the promises alone.
+-- Assumes nothing.
+use mathlib.Core.Path.{_≡_, ap, _∙_}
+use mathlib.Core.List.{List}
+use Prim.Native.Nat.{ℕ}
+use Rattle.reading.specs.Answer.{Answers}
+use Rattle.reading.specs.Parts.{PartAnswers}
+use Rattle.normaliser.specs.Normal.{NormaliseRight}
+use Rattle.writing.specs.Write.{WriteRight}
+use Rattle.spelling.specs.Spell.{Lists, SpellRight}
+use Rattle.collation.specs.Comparison.{CompareAnswers}
+use Rattle.entries.specs.Entries.{entries}
+use Rattle.keeping.specs.Outcome.{checkOf}
+use Rattle.keeping.proofs.Laws.{Bytes}
+use Rattle.wordbook.specs.Calls.{AddPromise, RemovePromise}
+use Rattle.packing.specs.Packing.{pack, unpack, Packed}
+use Rattle.packing.specs.Answers.{RecordGivenRight, readNumbers, recordNumbers, partNumbers, writeNumbers, spellNumbers, compareNumbers, bookNumbers, FindAnswers}
+use Rattle.packing.proofs.Laws.{unpack-pack, packed-told}
+use Rattle.packing.proofs.WordFits.{read-fits, record-fits, part-fits, normalise-fits, write-fits, spell-fits, compare-fits}
+use Rattle.packing.proofs.BookFits.{check-fits, find-fits, add-fits, remove-fits}
+use Rattle.interface.specs.Outputs.{KeyWritten, DecodeWritten}
+use Rattle.interface.proofs.OutputFits.{key-fits, decode-fits}
+
+module _ (word : List ℕ) (n : ℕ) where
+  pub read-told : (p : Packed (Answers word) readNumbers n) → unpack n ≡ readNumbers (p .outcome)
+  read-told p = packed-told (Answers word) readNumbers (read-fits word) n p
+
+  pub record-told : (number : ℕ) (p : Packed (RecordGivenRight word number) recordNumbers n) → unpack n ≡ recordNumbers (p .outcome)
+  record-told number p = packed-told (RecordGivenRight word number) recordNumbers (record-fits word number) n p
+
+  pub part-told : (number : ℕ) (p : Packed (PartAnswers word number) partNumbers n) → unpack n ≡ partNumbers (p .outcome)
+  part-told number p = packed-told (PartAnswers word number) partNumbers (part-fits word number) n p
+
+  pub spell-told : (before after : Lists) (p : Packed (SpellRight word before after) spellNumbers n) → unpack n ≡ spellNumbers (p .outcome)
+  spell-told before after p = packed-told (SpellRight word before after) spellNumbers (spell-fits word before after) n p
+
+  pub normalise-told : (before after : List ℕ) (p : Packed (NormaliseRight word before after) readNumbers n) → unpack n ≡ readNumbers (p .outcome)
+  normalise-told before after p = packed-told (NormaliseRight word before after) readNumbers (normalise-fits word before after) n p
+
+  pub key-told : (before after : List ℕ) (p : Packed (KeyWritten word before after) readNumbers n) → unpack n ≡ readNumbers (p .outcome)
+  key-told before after p = packed-told (KeyWritten word before after) readNumbers (key-fits word before after) n p
+
+  pub compare-told : (other : List ℕ) (p : Packed (CompareAnswers word other) compareNumbers n) → unpack n ≡ compareNumbers (p .outcome)
+  compare-told other p = packed-told (CompareAnswers word other) compareNumbers (compare-fits word other) n p
+
+module _ (bytes before after : List ℕ) (n : ℕ) where
+  pub write-told : (p : Packed (WriteRight bytes before after) writeNumbers n) → unpack n ≡ writeNumbers (p .outcome)
+  write-told p = packed-told (WriteRight bytes before after) writeNumbers (write-fits bytes before after) n p
+
+  pub decode-told : (p : Packed (DecodeWritten bytes before after) writeNumbers n) → unpack n ≡ writeNumbers (p .outcome)
+  decode-told p = packed-told (DecodeWritten bytes before after) writeNumbers (decode-fits bytes before after) n p
+
+module _ (book : List ℕ) (small : Bytes book) (n : ℕ) where
+  pub check-told : n ≡ pack (bookNumbers (checkOf (entries book))) → unpack n ≡ bookNumbers (checkOf (entries book))
+  check-told e = ap unpack e ∙ unpack-pack (bookNumbers (checkOf (entries book))) (check-fits book small)
+
+  pub find-told : (word : List ℕ) (p : Packed (FindAnswers book word) bookNumbers n) → unpack n ≡ bookNumbers (p .outcome)
+  find-told word p = packed-told (FindAnswers book word) bookNumbers (find-fits book small word) n p
+
+  pub add-told : (word : List ℕ) (stock : ℕ) (after : List ℕ) (p : Packed (AddPromise word stock book after) bookNumbers n)
+      → unpack n ≡ bookNumbers (p .outcome)
+  add-told word stock after p = packed-told (AddPromise word stock book after) bookNumbers (add-fits book small word stock after) n p
+
+  pub remove-told : (word after : List ℕ) (p : Packed (RemovePromise word book after) bookNumbers n) → unpack n ≡ bookNumbers (p .outcome)
+  remove-told word after p = packed-told (RemovePromise word book after) bookNumbers (remove-fits book small word after) n p

@@ -1,0 +1,39 @@
+// The calls on a book.
+ghost use mathlib.Core.Path.{_≡_};
+ghost use Rattle.entries.specs.Entries.{entries};
+ghost use Rattle.keeping.specs.Outcome.{checkOf};
+ghost use Rattle.wordbook.specs.Calls.{AddPromise, RemovePromise};
+ghost use Rattle.packing.specs.Packing.{pack, Packed};
+ghost use Rattle.packing.specs.Answers.{bookNumbers, FindAnswers};
+
+// Whether the buffer is a book.
+#[no_mangle]
+pub extern "C" fn jogcairn_book_check(book: &[u8]) -> u64
+    ensures { λ r. ⌜ r ≡ pack (bookNumbers (checkOf (entries (now (book .entry))))) ⌝ }
+{
+    packing::of_check(wordbook::check(book))
+}
+
+// Puts a live record with the word just after the last record.
+#[no_mangle]
+pub extern "C" fn jogcairn_book_add(book: &mut [u8], word: &[u16], stock: u32) -> u64
+    ensures { λ r. ⌜ Packed (AddPromise (now (word .entry)) stock (now (book .entry)) (now (book .exit))) bookNumbers r ⌝ }
+{
+    packing::of_placed(wordbook::add(book, word, stock))
+}
+
+// Marks the live record with the word as removed.
+#[no_mangle]
+pub extern "C" fn jogcairn_book_remove(book: &mut [u8], word: &[u16]) -> u64
+    ensures { λ r. ⌜ Packed (RemovePromise (now (word .entry)) (now (book .entry)) (now (book .exit))) bookNumbers r ⌝ }
+{
+    packing::of_placed(wordbook::remove(book, word))
+}
+
+// Stock number and start of the live record with the word.
+#[no_mangle]
+pub extern "C" fn jogcairn_book_find(book: &[u8], word: &[u16]) -> u64
+    ensures { λ r. ⌜ Packed (FindAnswers (now (book .entry)) (now (word .entry))) bookNumbers r ⌝ }
+{
+    packing::of_found(wordbook::find(book, word))
+}

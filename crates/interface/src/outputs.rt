@@ -1,0 +1,69 @@
+// A key and a decoded line, written to lent output.
+use collation::key::key_of;
+use lines::LineAnswer;
+use lines::decode;
+use normaliser::copy_out;
+use reading::read::ReadAnswer;
+use refusals::Refusal;
+use writing::WriteAnswer;
+ghost use mathlib.Core.Path.{_≡_};
+ghost use mathlib.Core.List.{_++_};
+ghost use Prim.Native.Nat.{_≤_};
+ghost use lib.ListN.{length, take, drop};
+ghost use Rattle.reading.specs.Answer.{outcomeOf};
+ghost use Rattle.weighing.specs.Keys.{keyLimit};
+ghost use Rattle.writing.specs.Write.{outcomeOf as writeOutcomeOf};
+ghost use Rattle.interface.specs.Outputs.{KeyWritten, DecodeWritten};
+
+// How many bytes a key is held in.
+const KEY_SIZE: usize = 320;
+
+// Writes a key to the front of the output.
+fn copy_key(bytes: &[u8; KEY_SIZE], output: &mut [u8])
+    requires { ⌜ (keyLimit ≤ length (now bytes)) × (keyLimit ≤ length (now output)) ⌝ }
+    ensures { λ _. ⌜ now (output .exit) ≡ take keyLimit (now (bytes .entry)) ++ drop keyLimit (now (output .entry)) ⌝ }
+{
+    let mut at = 0;
+    while at < KEY_SIZE {
+        output[at] = bytes[at];
+        at += 1;
+    }
+}
+
+// Writes the key of a word to the front of the output.
+pub(crate) fn put_key(word: &[u16], output: &mut [u8]) -> ReadAnswer
+    ensures { λ r. ⌜ KeyWritten (now (word .entry)) (now (output .entry)) (now (output .exit)) (outcomeOf r) ⌝ }
+{
+    let key = key_of(word);
+    let answer = key.answer;
+    match answer {
+        ReadAnswer::Refused(refusal) => ReadAnswer::Refused(refusal),
+        ReadAnswer::Syllables(count) => {
+            if output.len() < KEY_SIZE {
+                return ReadAnswer::Refused(Refusal::OutputTooShort(KEY_SIZE));
+            }
+            let bytes = key.bytes;
+            copy_key(&bytes, output);
+            ReadAnswer::Syllables(count)
+        }
+    }
+}
+
+// Writes the values of a line to the front of the output.
+pub(crate) fn put_values(line: &[u8], output: &mut [u16]) -> WriteAnswer
+    ensures { λ r. ⌜ DecodeWritten (now (line .entry)) (now (output .entry)) (now (output .exit)) (writeOutcomeOf r) ⌝ }
+{
+    let decoded = decode(line);
+    let answer = decoded.answer;
+    if let LineAnswer::Refused(refusal) = answer {
+        return WriteAnswer::Refused(refusal);
+    }
+    let word = decoded.word;
+    let count = word.count;
+    if output.len() < count {
+        return WriteAnswer::Refused(Refusal::OutputTooShort(count));
+    }
+    let values = word.values;
+    copy_out(&values, count, output);
+    WriteAnswer::Written(count)
+}

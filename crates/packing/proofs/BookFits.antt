@@ -1,0 +1,174 @@
+-- The numbers of every right answer on a book fit their bits: a place is at most the book's limit, and a record's start lies before its end.
+-- Assumes nothing.
+use mathlib.Core.Path.{_≡_, refl, sym, ap, subst}
+use mathlib.Core.Bool.{Bool, true, false, _&&_}
+use mathlib.Core.List.{List, [], _∷_, _++_}
+use mathlib.Core.Option.{Option, none, some}
+use Prim.Native.Nat.{ℕ, zero, suc, _+_, _≤_, _<_}
+use native.Mathlib.Omega.{arith}
+use borrow.Author.Tests.{leb-true}
+use lib.Dec.{T, eqb, leb}
+use lib.ListN.{length, getD, drop, length-append, length-drop}
+use Rattle.letters.specs.Choice.{pick}
+use Rattle.formula.proofs.Lists.{sameList, both-left}
+use Rattle.storage.specs.Stored.{storedForm}
+use Rattle.entries.specs.Limits.{bookLimit}
+use Rattle.entries.specs.Entries.{Entry, entryAt, isFramed, mayFollow, Entries, book, wrong, zeroTail, entriesFrom, entries}
+use Rattle.entries.specs.Book.{zeros, recordBytes, records, size, endOf, GoodAfter, IsBook}
+use Rattle.entries.specs.Map.{lookup, counted, liveCount}
+use Rattle.entries.proofs.Tests.{is-true}
+use Rattle.entries.proofs.Records.{framed-true, length-record, end-length}
+use Rattle.entries.proofs.Agree.{Sound, sound}
+use Rattle.keeping.specs.Outcome.{Outcome, checkOf, findOfEntry, findOf, removeOfEntry, removeOf, addOfEntry, addOf, places, refuses}
+use Rattle.keeping.proofs.Laws.{Bytes}
+use Rattle.wordbook.specs.Calls.{WordRefused, empty, refused, CallAnswers, word-refused, word-stored, AddPromise, RemovePromise}
+use Rattle.packing.specs.Packing.{answer, Fits}
+use Rattle.packing.specs.Answers.{bookNumbers, FindAnswers}
+use Rattle.packing.proofs.WordFits.{small-fits, store-refused-small}
+
+-- the first wrong place is at most n
+abbrev Bounded : ℕ → Entries → Type 0
+Bounded n (book list free) = Unit {0}
+Bounded n (wrong place) = place ≤ n
+
+bounded-pick : (n : ℕ) (t : Bool) (x y : Entries) → (T t → Bounded n x) → Bounded n y → Bounded n (pick t x y)
+unfolding pick
+bounded-pick n true x y f g = f tt
+bounded-pick n false x y f g = g
+
+bounded-more : (n m : ℕ) (x : Entries) → n ≤ m → Bounded n x → Bounded m x
+bounded-more n m (book list free) h b = tt
+bounded-more n m (wrong place) h b = omega arith
+
+bounded-tail : (n : ℕ) (bytes : List ℕ) (place : ℕ) (given : Entries) → place + length bytes ≤ n → Bounded n given
+    → Bounded n (zeroTail bytes place given)
+unfolding zeroTail
+bounded-tail n [] place given h g = g
+bounded-tail n (byte ∷ bytes) place given h g =
+    bounded-pick n (eqb byte 0) _ _ (λ _. bounded-tail n bytes (suc place) given (omega arith) g) (omega arith)
+
+bounded-from : (fuel : ℕ) (bytes : List ℕ) (at : ℕ) (seen : List Entry) → at ≤ length bytes → Bounded (length bytes) (entriesFrom fuel bytes at seen)
+unfolding entriesFrom
+bounded-from zero bytes at seen h = h
+bounded-from (suc fuel) bytes at seen h =
+    bounded-pick (length bytes) (eqb (getD bytes at 0) 0) _ _
+    (λ _. bounded-tail (length bytes) (drop at bytes) at (book seen at) (omega (arith, length-drop at bytes)) tt)
+    (bounded-pick (length bytes) (isFramed bytes at && mayFollow seen (entryAt bytes at)) _ _
+    (λ t. bounded-from fuel bytes (at + 7 + getD bytes (at + 2) 0) (seen ++ (entryAt bytes at ∷ [])) (framed-true bytes at (both-left (isFramed bytes at) _ t) .room))
+    h)
+
+pub bounded : (bytes : List ℕ) → Bounded bookLimit (entries bytes)
+unfolding entries
+bounded bytes =
+    bounded-pick bookLimit (leb (length bytes) bookLimit) _ _
+    (λ t. bounded-more (length bytes) bookLimit (entriesFrom (suc (length bytes)) bytes 0 []) (leb-true (length bytes) bookLimit (is-true (leb (length bytes) bookLimit) t))
+    (bounded-from (suc (length bytes)) bytes 0 [] (omega arith)))
+    (omega arith)
+
+-- the records of a book end within it
+book-end : (bytes : List ℕ) (es : List Entry) → IsBook bytes es → endOf 0 es ≤ bookLimit
+book-end bytes es is =
+    let s = is .short in
+    omega (arith, end-length 0 es, ap length (is .written), length-append (records es) (zeros (is .pad)))
+
+-- a record starts before the end, and its stock number has four bytes
+record Placed (entry : Entry) (end : ℕ) : Type 0 where
+  before : entry .start ≤ end
+  stock : entry .stock < 0x100000000
+
+looked : (at : ℕ) (seen es : List Entry) (word : List ℕ) (entry : Entry) → GoodAfter at seen es → lookup es word ≡ some entry
+    → Placed entry (endOf at es)
+unfolding lookup pick
+looked at seen [] word entry g e = let z : _≡_ {A = ℕ} 0 1 = cc in let y : ⊥ = omega arith in absurd y
+looked at seen (x ∷ es) word entry g e = go (x .live && sameList (x .word) word) (looked (at + size x) (seen ++ (x ∷ [])) es word entry (g .3)) e
+  where
+    go : (t : Bool) → (lookup es word ≡ some entry → Placed entry (endOf (at + size x) es)) → pick t (some x) (lookup es word) ≡ some entry
+        → Placed entry (endOf (at + size x) es)
+    go true later f =
+        let same : x ≡ entry = cc in
+        subst (λ (y : Entry). Placed y (endOf (at + size x) es)) same
+        (record { before = omega (arith, g .0, end-length (at + size x) es); stock = g .1 .stock })
+    go false later f = later f
+
+live-few : (live : Bool) (n m : ℕ) → n ≤ m → counted live n ≤ suc m
+live-few true n m h = omega arith
+live-few false n m h = omega arith
+
+live-near : (es : List Entry) → liveCount es ≤ length (records es)
+live-near [] = omega arith
+live-near (x ∷ es) =
+    let few = live-few (x .live) (liveCount es) (length (records es)) (live-near es) in
+    omega (arith, length-append (recordBytes x) (records es), length-record x)
+
+module _ (bytes word : List ℕ) where
+  check-by : (e : Entries) → Bounded bookLimit e → Sound bytes e → Fits (bookNumbers (checkOf e))
+  check-by (book es free) b s =
+      record { tag = omega arith; second = omega arith; first = omega (arith, live-near es, book-end bytes es (s .0), end-length 0 es) }
+  check-by (wrong place) b s = record { tag = omega arith; second = omega arith; first = omega arith }
+
+  wrong-fits : (place : ℕ) → place ≤ bookLimit → Fits (bookNumbers (refuses 11 place))
+  wrong-fits place h = record { tag = omega arith; second = omega arith; first = omega arith }
+
+  find-entry : (es : List Entry) → IsBook bytes es → (o : Option Entry) → lookup es word ≡ o → Fits (bookNumbers (findOfEntry o))
+  find-entry es is none e = record { tag = omega arith; second = omega arith; first = omega arith }
+  find-entry es is (some entry) e =
+      let p = looked 0 [] es word entry (is .good) e in
+      let h = p .before in
+      record { tag = omega arith; second = omega (arith, book-end bytes es is); first = p .stock }
+
+  find-by : (e : Entries) → Bounded bookLimit e → Sound bytes e → Fits (bookNumbers (findOf e word))
+  find-by (book es free) b s = find-entry es (s .0) (lookup es word) refl
+  find-by (wrong place) b s = wrong-fits place b
+
+  remove-entry : (es : List Entry) → IsBook bytes es → (o : Option Entry) → lookup es word ≡ o → Fits (bookNumbers (removeOfEntry o))
+  remove-entry es is none e = record { tag = omega arith; second = omega arith; first = omega arith }
+  remove-entry es is (some entry) e =
+      let h = looked 0 [] es word entry (is .good) e .before in
+      record { tag = omega arith; second = omega arith; first = omega (arith, book-end bytes es is) }
+
+  remove-by : (e : Entries) → Bounded bookLimit e → Sound bytes e → Fits (bookNumbers (removeOf e word))
+  remove-by (book es free) b s = remove-entry es (s .0) (lookup es word) refl
+  remove-by (wrong place) b s = wrong-fits place b
+
+  pick-fits : (t : Bool) (x y : Outcome) → Fits (bookNumbers x) → Fits (bookNumbers y) → Fits (bookNumbers (pick t x y))
+  unfolding pick
+  pick-fits true x y f g = f
+  pick-fits false x y f g = g
+
+  add-entry : (es : List Entry) (free room : ℕ) → IsBook bytes es → free ≡ endOf 0 es → (o : Option Entry) → lookup es word ≡ o
+      → Fits (bookNumbers (addOfEntry o free room word))
+  add-entry es free room is end (some entry) e =
+      let h = looked 0 [] es word entry (is .good) e .before in
+      record { tag = omega arith; second = omega arith; first = omega (arith, book-end bytes es is) }
+  add-entry es free room is end none e =
+      let h = book-end bytes es is in
+      pick-fits _ (places free) (refuses 14 free)
+      (record { tag = omega arith; second = omega arith; first = omega arith })
+      (record { tag = omega arith; second = omega arith; first = omega arith })
+
+  add-by : (room : ℕ) (e : Entries) → Bounded bookLimit e → Sound bytes e → Fits (bookNumbers (addOf e room word))
+  add-by room (book es free) b s = add-entry es free room (s .0) (s .1) (lookup es word) refl
+  add-by room (wrong place) b s = wrong-fits place b
+
+word-fits : (word : List ℕ) (number place : ℕ) → WordRefused word number place → Fits (bookNumbers (refuses number place))
+word-fits word number place (empty e) = record { tag = omega arith; second = omega arith; first = omega arith }
+word-fits word number place (refused h r) = small-fits number 0 place (omega arith) (store-refused-small word number place r)
+
+call-fits : (word : List ℕ) (right o : Outcome) → Fits (bookNumbers right) → CallAnswers word right o → Fits (bookNumbers o)
+call-fits word right o f (word-refused r) = word-fits word _ _ r
+call-fits word right o f (word-stored s) = f
+
+module _ (bytes : List ℕ) (small : Bytes bytes) where
+  pub check-fits : Fits (bookNumbers (checkOf (entries bytes)))
+  check-fits = check-by bytes [] (entries bytes) (bounded bytes) (sound bytes small)
+
+  pub find-fits : (word : List ℕ) (o : Outcome) → FindAnswers bytes word o → Fits (bookNumbers o)
+  find-fits word o c = call-fits word _ o (find-by bytes (storedForm word) (entries bytes) (bounded bytes) (sound bytes small)) c
+
+  pub add-fits : (word : List ℕ) (stock : ℕ) (after : List ℕ) (o : Outcome) → AddPromise word stock bytes after o → Fits (bookNumbers o)
+  add-fits word stock after o p =
+      call-fits word _ o (add-by bytes (storedForm word) (length bytes) (entries bytes) (bounded bytes) (sound bytes small)) (p .answers)
+
+  pub remove-fits : (word after : List ℕ) (o : Outcome) → RemovePromise word bytes after o → Fits (bookNumbers o)
+  remove-fits word after o p =
+      call-fits word _ o (remove-by bytes (storedForm word) (entries bytes) (bounded bytes) (sound bytes small)) (p .answers)

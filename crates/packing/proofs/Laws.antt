@@ -1,0 +1,26 @@
+-- Unpacking undoes packing, where each number fits its bits; so two answers that fit and have the same number are one.
+-- Assumes nothing.
+use mathlib.Core.Path.{_≡_, refl, sym, ap, _∙_}
+use Prim.Native.Nat.{ℕ, _+_, _*_, _/_, _%_}
+use native.Mathlib.Omega.{arith}
+use Rattle.packing.specs.Packing.{Answer, answer, pack, unpack, Fits, Packed}
+
+pub unpack-pack : (a : Answer) → Fits a → unpack (pack a) ≡ a
+unfolding pack unpack
+unpack-pack a f =
+    let tag : (a .tag % 0x100 * 0x100000000000000 + a .second % 0x1000000 * 0x100000000 + a .first % 0x100000000) / 0x100000000000000 ≡ a .tag =
+    (let t = f .tag in let s = f .second in let r = f .first in omega arith) in
+    let second : (a .tag % 0x100 * 0x100000000000000 + a .second % 0x1000000 * 0x100000000 + a .first % 0x100000000) / 0x100000000 % 0x1000000 ≡ a .second =
+    (let t = f .tag in let s = f .second in let r = f .first in omega arith) in
+    let first : (a .tag % 0x100 * 0x100000000000000 + a .second % 0x1000000 * 0x100000000 + a .first % 0x100000000) % 0x100000000 ≡ a .first =
+    (let t = f .tag in let s = f .second in let r = f .first in omega arith) in
+    rw (tag, second, first)
+
+-- answers that fit are told apart by their numbers
+pub pack-injective : (a b : Answer) → Fits a → Fits b → pack a ≡ pack b → a ≡ b
+pack-injective a b f g e = sym (unpack-pack a f) ∙ ap unpack e ∙ unpack-pack b g
+
+-- a call's number unpacks to the numbers of its outcome, where those of every right outcome fit
+pub packed-told : {A : Type 0} (Right : A → Type 0) (numbers : A → Answer) → ((o : A) → Right o → Fits (numbers o))
+    → (n : ℕ) (p : Packed Right numbers n) → unpack n ≡ numbers (p .outcome)
+packed-told Right numbers fits n p = ap unpack (p .packed) ∙ unpack-pack (numbers (p .outcome)) (fits (p .outcome) (p .right))

@@ -1,0 +1,204 @@
+-- The numbers of every right answer on words fit their bits: places and counts are at most a word's limit, or that of what is written.
+-- Assumes nothing.
+use mathlib.Core.Path.{_≡_, refl, sym, ap, subst}
+use mathlib.Core.Bool.{Bool, true, false, _||_}
+use mathlib.Core.List.{List, [], _∷_}
+use Prim.Native.Nat.{ℕ, zero, suc, _≤_, _<_}
+use native.Mathlib.Nat.{le-of-suc-le-suc, not-suc-le-zero}
+use native.Mathlib.Omega.{arith}
+use borrow.Author.Tests.{leb-true}
+use lib.Dec.{T, leb}
+use lib.ListN.{length, getD}
+use Rattle.letters.specs.Letters.{within, isConsonant, isIndependentVowel, isDigit, isStop}
+use Rattle.letters.specs.Marks.{neither, ya, ra, MedialGroup, group, ToneMark, no-tone, dot, visarga}
+use Rattle.letters.specs.Marks.{Vowel, no-vowel, vowel-aa, vowel-i, vowel-ii, vowel-u, vowel-uu, vowel-e, vowel-ai}
+use Rattle.letters.specs.Marks.{vowel-e-aa, vowel-e-aa-killer, vowel-am, vowel-i-u, vowel-u-am}
+use Rattle.letters.specs.Weights.{isHead, isFinalLetter, bitIf, medialWeight, vowelWeight, vowelTall, toneWeight}
+use Rattle.formula.specs.Limits.{limit}
+use Rattle.formula.proofs.Lists.{both-left, both-right}
+use Rattle.formula.specs.Syllable.{Final, no-final, plain, stacked, kinzi, great-sa, Syllable, syllable, bare, finalOf, isFinal, isSyllable}
+use Rattle.formula.specs.Row.{Row, isRowAfter}
+use Rattle.formula.specs.Record.{finalNumberOf, linkOf, recordOf}
+use Rattle.formula.specs.Spelled.{spelled}
+use Rattle.rows.proofs.Sound.{apart}
+use Rattle.rows.proofs.Complete.{first}
+use Rattle.rows.proofs.Viable.{only-row}
+use Rattle.reading.specs.Answer as reading
+use Rattle.reading.specs.Records.{RecordOutcome, found, no-syllable, refuses, RecordAnswers}
+use Rattle.reading.specs.Parts as parts
+use Rattle.reading.proofs.Recorded.{count-limit}
+use Rattle.storage.specs.Stored.{storedForm}
+use Rattle.normaliser.specs.Normal as normal
+use Rattle.writing.specs.Write as writing
+use Rattle.spelling.specs.Spell as spelling
+use Rattle.spelling.proofs.Longest.{spelled-within}
+use Rattle.weighing.specs.declared.order.Order.{Order}
+use Rattle.weighing.specs.declared.order.Order.the-variants.{Less, Equal, Greater}
+use Rattle.collation.specs.Comparison.{CompareOutcome, ordered, first-refuses, second-refuses, CompareAnswers}
+use Rattle.entries.proofs.Tests.{is-true}
+use Rattle.packing.specs.Packing.{answer, Fits}
+use Rattle.packing.specs.Answers.{readNumbers, bytesNumbers, RecordGiven, RecordGivenRight, outcomeNumbers, recordNumbers}
+use Rattle.packing.specs.Answers.{partNumbers, writeNumbers, spellNumbers, compareNumbers}
+
+-- a refusal of a word: its number is one of document 01's, and its place at most the limit
+pub record Small (number place : ℕ) : Type 0 where
+  pub few : number ≤ 15
+  pub near : place ≤ limit
+
+pub refused-small : (word : List ℕ) (number place : ℕ) → reading.RefusedWith word number place → Small number place
+refused-small word number place (reading.too-long h) = record { few = omega arith; near = omega arith }
+refused-small word number place (reading.foreign f) = record { few = omega arith; near = let s = f .short in let w = f .within in omega arith }
+refused-small word number place (reading.no-continuation a v l) =
+    record { few = omega arith; near = let s = a .short in let w = l .within in omega arith }
+refused-small word number place (reading.unfinished a r v) = record { few = omega arith; near = a .short }
+
+pub store-refused-small : (word : List ℕ) (number place : ℕ) → normal.StoreRefusedWith word number place → Small number place
+store-refused-small word number place (normal.too-long h) = record { few = omega arith; near = omega arith }
+store-refused-small word number place (normal.foreign f) = record { few = omega arith; near = let s = f .short in let w = f .within in omega arith }
+store-refused-small word number place (normal.outcome a r) = refused-small (storedForm word) number place r
+
+pub small-fits : (number second place : ℕ) → second < 0x1000000 → Small number place → Fits (answer number second place)
+small-fits number second place h s = record { tag = omega arith; second = h; first = omega arith }
+
+pub read-fits : (word : List ℕ) (o : reading.Outcome) → reading.Answers word o → Fits (readNumbers o)
+read-fits word (reading.accepts n) r = record { tag = omega arith; second = omega arith; first = omega (arith, count-limit word n r) }
+read-fits word (reading.refuses number place) r = small-fits number 0 place (omega arith) (refused-small word number place r)
+
+pub normalise-fits : (word before after : List ℕ) (o : reading.Outcome) → normal.NormaliseRight word before after o → Fits (readNumbers o)
+normalise-fits word before after o (normal.writes s h e) =
+    record { tag = omega arith; second = omega arith; first = omega (arith, s .reads .admissible .short) }
+normalise-fits word before after o (normal.word-refused r e) = small-fits _ 0 _ (omega arith) (store-refused-small word _ _ r)
+normalise-fits word before after o (normal.too-short s h e) =
+    record { tag = omega arith; second = omega arith; first = omega (arith, s .reads .admissible .short) }
+
+pub part-fits : (word : List ℕ) (number : ℕ) (o : parts.PartOutcome) → parts.PartAnswers word number o → Fits (partNumbers o)
+part-fits word number (parts.stands place size) p =
+    let w = p .within in
+    let s = p .admissible .short in
+    record { tag = omega arith; second = omega arith; first = omega arith }
+part-fits word number parts.no-syllable p = record { tag = omega arith; second = omega arith; first = omega arith }
+part-fits word number (parts.refuses refusal place) p = small-fits refusal 0 place (omega arith) (refused-small word refusal place p)
+
+pub write-fits : (bytes before after : List ℕ) (o : writing.Outcome) → writing.WriteRight bytes before after o → Fits (writeNumbers o)
+write-fits bytes before after o (writing.writes r h e) = record { tag = omega arith; second = omega arith; first = omega (arith, r .short) }
+write-fits bytes before after o (writing.no-such-row n e) = record { tag = omega arith; second = omega arith; first = omega arith }
+write-fits bytes before after o (writing.too-short r h e) = record { tag = omega arith; second = omega arith; first = omega (arith, r .short) }
+
+-- one spelled syllable for each of the row
+spelled-length : (row : Row) → length (spelled row) ≡ length row
+spelled-length [] = refl
+spelled-length (s ∷ row) = ap suc (spelled-length row)
+
+spelled-count : (word : List ℕ) (row : Row) → spelling.ReadAs word row → length (spelled row) ≤ limit
+spelled-count word row r =
+    let reads : reading.Reads word (length row) =
+    record { admissible = r .admissible; row = row; gives = r .gives; only = λ other g. only-row other row word g (r .gives); count = refl } in
+    omega (arith, spelled-length row, count-limit word (length row) reads)
+
+spelled-size : (word : List ℕ) (row : Row) → spelling.ReadAs word row → length (spelling.joined (spelled row)) ≤ 190
+spelled-size word row r = spelled-within row (r .gives .is-row) (let s = r .admissible .short in omega (arith, ap length (r .gives .joined)))
+
+pub spell-fits : (word : List ℕ) (before after : spelling.Lists) (o : spelling.Outcome) → spelling.SpellRight word before after o
+    → Fits (spellNumbers o)
+spell-fits word before after o (spelling.spelled-out r h i w) =
+    record { tag = omega arith; second = omega (arith, spelled-count word _ r); first = omega (arith, spelled-size word _ r) }
+spell-fits word before after o (spelling.word-refused r e) = small-fits _ 0 _ (omega arith) (refused-small word _ _ r)
+spell-fits word before after o (spelling.values-too-short r h e) =
+    record { tag = omega arith; second = omega arith; first = omega (arith, spelled-size word _ r) }
+spell-fits word before after o (spelling.starts-too-short r h i e) =
+    record { tag = omega arith; second = omega arith; first = omega (arith, spelled-count word _ r) }
+
+pub compare-fits : (one other : List ℕ) (o : CompareOutcome) → CompareAnswers one other o → Fits (compareNumbers o)
+compare-fits one other (ordered Less) r = record { tag = omega arith; second = omega arith; first = omega arith }
+compare-fits one other (ordered Equal) r = record { tag = omega arith; second = omega arith; first = omega arith }
+compare-fits one other (ordered Greater) r = record { tag = omega arith; second = omega arith; first = omega arith }
+compare-fits one other (first-refuses number place) r = small-fits number 1 place (omega arith) (store-refused-small one number place r)
+compare-fits one other (second-refuses number place) r =
+    small-fits number 2 place (omega arith) (store-refused-small other number place (r .second-refused))
+
+-- the bytes of a record are bytes: each number of a syllable is small
+upto : (a b x : ℕ) → b ≤ 0x104F → T (within a b x) → x ≤ 0x104F
+upto a b x h t = let m : x ≤ b = leb-true x b (is-true (leb x b) (both-right (leb a x) (leb x b) t)) in omega arith
+
+most-or : (a b : Bool) (x : ℕ) → (T a → x ≤ 0x104F) → (T b → x ≤ 0x104F) → T (a || b) → x ≤ 0x104F
+most-or true b x f g t = f tt
+most-or false b x f g t = g t
+
+head-most : (h : ℕ) → T (isHead h) → h ≤ 0x104F
+head-most h =
+    most-or (isConsonant h) _ h (upto 0x1000 0x1021 h (omega arith))
+    (most-or (isIndependentVowel h) _ h (most-or (within 0x1023 0x1027 h) _ h (upto 0x1023 0x1027 h (omega arith)) (upto 0x1029 0x102A h (omega arith)))
+    (most-or (isDigit h) _ h (upto 0x1040 0x1049 h (omega arith))
+    (most-or (isStop h) _ h (upto 0x104A 0x104B h (omega arith)) (upto 0x104C 0x104F h (omega arith)))))
+
+medial-small : (m : MedialGroup) → medialWeight m < 256
+medial-small (group neither false false) = omega arith
+medial-small (group ya false false) = omega arith
+medial-small (group ra false false) = omega arith
+medial-small (group neither true false) = omega arith
+medial-small (group neither false true) = omega arith
+medial-small (group ya true false) = omega arith
+medial-small (group ra true false) = omega arith
+medial-small (group ya false true) = omega arith
+medial-small (group ra false true) = omega arith
+medial-small (group neither true true) = omega arith
+medial-small (group ya true true) = omega arith
+medial-small (group ra true true) = omega arith
+
+bit-small : (t : Bool) → bitIf t 1 < 256
+bit-small true = omega arith
+bit-small false = omega arith
+
+vowel-small : (v : Vowel) → (vowelWeight v < 256) × (vowelTall v < 256)
+vowel-small no-vowel = (omega arith, omega arith)
+vowel-small (vowel-aa tall) = (omega arith, bit-small tall)
+vowel-small vowel-i = (omega arith, omega arith)
+vowel-small vowel-ii = (omega arith, omega arith)
+vowel-small vowel-u = (omega arith, omega arith)
+vowel-small vowel-uu = (omega arith, omega arith)
+vowel-small vowel-e = (omega arith, omega arith)
+vowel-small vowel-ai = (omega arith, omega arith)
+vowel-small (vowel-e-aa tall) = (omega arith, bit-small tall)
+vowel-small (vowel-e-aa-killer tall) = (omega arith, bit-small tall)
+vowel-small vowel-am = (omega arith, omega arith)
+vowel-small vowel-i-u = (omega arith, omega arith)
+vowel-small vowel-u-am = (omega arith, omega arith)
+
+final-small : (f : Final) → T (isFinal f) → (finalNumberOf f < 256) × (linkOf f < 256)
+final-small no-final t = (omega arith, omega arith)
+final-small (plain c) t = let m = upto 0x1000 0x1020 c (omega arith) t in (omega arith, omega arith)
+final-small (stacked c) t = let m = upto 0x1000 0x1020 c (omega arith) (both-left (isFinalLetter c) _ t) in (omega arith, omega arith)
+final-small kinzi t = (omega arith, omega arith)
+final-small great-sa t = (omega arith, omega arith)
+
+tone-small : (t : ToneMark) → toneWeight t < 256
+tone-small no-tone = omega arith
+tone-small dot = omega arith
+tone-small visarga = omega arith
+
+bytes-fit : (s : Syllable) → T (isSyllable s) → Fits (bytesNumbers (recordOf s))
+unfolding recordOf
+bytes-fit (syllable h m v f t) is =
+    let p = apart h m v f t is in
+    let v = vowel-small v in
+    let g = final-small f (p .final) in
+    record {
+      tag = omega arith;
+      second = omega (arith, g .0, g .1, tone-small t);
+      first = omega (arith, head-most h (p .head), medial-small m, v .0, v .1);
+    }
+
+row-at : (f : Final) (row : Row) (k : ℕ) (d : Syllable) → T (isRowAfter f row) → k < length row → T (isSyllable (getD row k d))
+row-at f [] k d t h = absurd (not-suc-le-zero h)
+row-at f (s ∷ row) zero d t h = first f s row t .is
+row-at f (s ∷ row) (suc k) d t h = row-at (finalOf s) row k d (first f s row t .rest) (le-of-suc-le-suc h)
+
+pub record-fits : (word : List ℕ) (number : ℕ) (given : RecordGiven) → RecordGivenRight word number given → Fits (recordNumbers given)
+record-fits word number given r = go (given .outcome) r
+  where
+    go : (o : RecordOutcome) → RecordAnswers word number o (given .bytes) → Fits (outcomeNumbers o (given .bytes))
+    go found r =
+        subst (λ (l : List ℕ). Fits (bytesNumbers l)) (sym (r .is))
+        (bytes-fit (getD (r .row) number (bare 0x1000)) (row-at no-final (r .row) number (bare 0x1000) (r .gives .is-row) (r .below)))
+    go no-syllable r = record { tag = omega arith; second = omega arith; first = omega arith }
+    go (refuses refusal place) r = small-fits refusal 0 place (omega arith) (refused-small word refusal place (r .refused))

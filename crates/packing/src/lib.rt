@@ -1,0 +1,163 @@
+// Answers as one number of 64 bits each, for callers in other languages.
+use collation::compare::Compared;
+use keeping::plan::Found;
+use keeping::plan::Placed;
+use normaliser::NormaliseAnswer;
+use reading::parts::PartAnswer;
+use reading::read::ReadAnswer;
+use reading::records::RecordAnswer;
+use reading::records::SyllableRecord;
+use refusals::Refusal;
+use spelling::SpellAnswer;
+use wordbook::Checked;
+use writing::WriteAnswer;
+ghost use mathlib.Core.Path.{_≡_};
+ghost use Prim.Native.Nat.{_<_};
+ghost use Rattle.refusals.specs.Refusal.{numberOf, placeOf};
+ghost use Rattle.reading.specs.Answer.{outcomeOf};
+ghost use Rattle.reading.specs.Records.{recordOutcomeOf};
+ghost use Rattle.reading.specs.Parts.{partOutcomeOf};
+ghost use Rattle.normaliser.specs.Normal.{normaliseOutcomeOf};
+ghost use Rattle.writing.specs.Write.{outcomeOf as writeOutcomeOf};
+ghost use Rattle.spelling.specs.Spell.{outcomeOf as spellOutcomeOf};
+ghost use Rattle.collation.specs.Comparison.{compareOutcomeOf};
+ghost use Rattle.entries.specs.Entries.{number};
+ghost use Rattle.keeping.specs.Outcome.{foundOutcome, placedOutcome};
+ghost use Rattle.wordbook.specs.Calls.{checkedOutcome};
+ghost use Rattle.packing.specs.Packing.{answer, pack};
+ghost use Rattle.packing.specs.Answers.{readNumbers, bytesNumbers, outcomeNumbers, partNumbers, writeNumbers};
+ghost use Rattle.packing.specs.Answers.{spellNumbers, compareNumbers, bookNumbers};
+
+// The number of a tag, a second number and a first; each is cut to its 8, 24 or 32 bits.
+fn packed(tag: u64, second: u64, first: u64) -> u64
+    ensures { λ r. ⌜ r ≡ pack (answer tag second first) ⌝ }
+{
+    tag % 0x100 * 0x100_0000_0000_0000 + second % 0x100_0000 * 0x1_0000_0000 + first % 0x1_0000_0000
+}
+
+// A refusal, with a second number.
+fn refused(refusal: Refusal, second: u64) -> u64
+    ensures { λ r. ⌜ r ≡ pack (answer (numberOf refusal) second (placeOf refusal)) ⌝ }
+{
+    packed(refusal.number() as u64, second, refusal.place() as u64)
+}
+
+fn wide(x: u8) -> u64
+    ensures { λ r. ⌜ (r ≡ x) × (r < 256) ⌝ }
+{
+    x as u64
+}
+
+// The number of four bytes, the first of them lowest.
+fn joined(low: u8, second: u8, third: u8, high: u8) -> u64
+    ensures { λ r. ⌜ r ≡ number low second third high ⌝ }
+{
+    wide(low) + 256 * (wide(second) + 256 * (wide(third) + 256 * wide(high)))
+}
+
+fn of_bytes(bytes: [u8; 7]) -> u64
+    ensures { λ r. ⌜ r ≡ pack (bytesNumbers bytes) ⌝ }
+{
+    let first = joined(bytes[0], bytes[1], bytes[2], bytes[3]);
+    let second = joined(bytes[4], bytes[5], bytes[6], 0);
+    packed(0, second, first)
+}
+
+pub fn of_reading(answer: ReadAnswer) -> u64
+    ensures { λ r. ⌜ r ≡ pack (readNumbers (outcomeOf answer)) ⌝ }
+{
+    match answer {
+        ReadAnswer::Syllables(count) => packed(0, 0, count as u64),
+        ReadAnswer::Refused(refusal) => refused(refusal, 0),
+    }
+}
+
+pub fn of_record(given: SyllableRecord) -> u64
+    ensures { λ r. ⌜ r ≡ pack (outcomeNumbers (recordOutcomeOf (given .answer)) (given .bytes)) ⌝ }
+{
+    let answer = given.answer;
+    match answer {
+        RecordAnswer::Found => {
+            let bytes = given.bytes;
+            of_bytes(bytes)
+        }
+        RecordAnswer::NoSyllable => packed(128, 0, 0),
+        RecordAnswer::Refused(refusal) => refused(refusal, 0),
+    }
+}
+
+pub fn of_part(answer: PartAnswer) -> u64
+    ensures { λ r. ⌜ r ≡ pack (partNumbers (partOutcomeOf answer)) ⌝ }
+{
+    match answer {
+        PartAnswer::At { place, size } => packed(0, size as u64, place as u64),
+        PartAnswer::NoSyllable => packed(128, 0, 0),
+        PartAnswer::Refused(refusal) => refused(refusal, 0),
+    }
+}
+
+pub fn of_normalising(answer: NormaliseAnswer) -> u64
+    ensures { λ r. ⌜ r ≡ pack (readNumbers (normaliseOutcomeOf answer)) ⌝ }
+{
+    match answer {
+        NormaliseAnswer::Stored(count) => packed(0, 0, count as u64),
+        NormaliseAnswer::Refused(refusal) => refused(refusal, 0),
+    }
+}
+
+pub fn of_writing(answer: WriteAnswer) -> u64
+    ensures { λ r. ⌜ r ≡ pack (writeNumbers (writeOutcomeOf answer)) ⌝ }
+{
+    match answer {
+        WriteAnswer::Written(count) => packed(0, 0, count as u64),
+        WriteAnswer::Refused(refusal) => refused(refusal, 0),
+    }
+}
+
+pub fn of_spelling(answer: SpellAnswer) -> u64
+    ensures { λ r. ⌜ r ≡ pack (spellNumbers (spellOutcomeOf answer)) ⌝ }
+{
+    match answer {
+        SpellAnswer::Spelled { values, starts } => packed(0, starts as u64, values as u64),
+        SpellAnswer::Refused(refusal) => refused(refusal, 0),
+    }
+}
+
+pub fn of_comparison(answer: Compared) -> u64
+    ensures { λ r. ⌜ r ≡ pack (compareNumbers (compareOutcomeOf answer)) ⌝ }
+{
+    match answer {
+        Compared::Less => packed(0, 0, 0),
+        Compared::Equal => packed(0, 0, 1),
+        Compared::Greater => packed(0, 0, 2),
+        Compared::FirstRefused(refusal) => refused(refusal, 1),
+        Compared::SecondRefused(refusal) => refused(refusal, 2),
+    }
+}
+
+pub fn of_check(answer: Checked) -> u64
+    ensures { λ r. ⌜ r ≡ pack (bookNumbers (checkedOutcome answer)) ⌝ }
+{
+    match answer {
+        Checked::Live(count) => packed(0, 0, count as u64),
+        Checked::Refused(refusal) => refused(refusal, 0),
+    }
+}
+
+pub fn of_found(answer: Found) -> u64
+    ensures { λ r. ⌜ r ≡ pack (bookNumbers (foundOutcome answer)) ⌝ }
+{
+    match answer {
+        Found::Entry { start, stock } => packed(0, start as u64, stock as u64),
+        Found::Refused(refusal) => refused(refusal, 0),
+    }
+}
+
+pub fn of_placed(answer: Placed) -> u64
+    ensures { λ r. ⌜ r ≡ pack (bookNumbers (placedOutcome answer)) ⌝ }
+{
+    match answer {
+        Placed::At(start) => packed(0, 0, start as u64),
+        Placed::Refused(refusal) => refused(refusal, 0),
+    }
+}

@@ -1,0 +1,156 @@
+/*
+ * Jogcairn: Myanmar (Burmese) words, their syllables, their dictionary order, and a word book in a buffer that the caller lends.
+ *
+ * Link with the archive that `rt staticlib interface` writes, target/staticlib/libinterface.a (x86-64 Linux).
+ *
+ * A word is a list of 16-bit code values. Any list of any length may be handed in: what is no word is refused. A list goes in as a
+ * pointer and the number of its elements, never of its bytes. Nothing is kept between calls, nothing is allocated, and calls from several
+ * threads do not touch each other, unless they share a book.
+ *
+ * The caller owes what C cannot say: a pointer is not null, also where the count is 0; it points to that many elements; and an output
+ * shares no byte with any other argument of the call.
+ *
+ * Every answer is one number:
+ *
+ *     bits 56 to 63: the tag        bits 32 to 55: the second number        bits 0 to 31: the first number
+ *
+ *     accepted: tag 0, and the two numbers as each function says; the second is 0 where nothing is said of it
+ *     refused: the tag is the refusal, 1 to 15, the first number is its place, and the second is 0
+ *         (in jogcairn_compare 1 or 2: the word that is refused)
+ *     tag JOGCAIRN_NONE: there is no such syllable (jogcairn_record and jogcairn_part)
+ *
+ * A refusal writes nothing. What is accepted is written to the front of an output, and the rest of the output is left as it was.
+ */
+#ifndef JOGCAIRN_H
+#define JOGCAIRN_H
+
+#include <stddef.h>
+#include <stdint.h>
+
+#ifdef __cplusplus
+extern "C" {
+#endif
+
+#define JOGCAIRN_WORD_LIMIT 64      /* the most values of a word: room for any normalised, written or decoded word */
+#define JOGCAIRN_LINE_LIMIT 192     /* the most bytes of a line */
+#define JOGCAIRN_SPELLED_LIMIT 190  /* the most values of a spelled word; it has at most JOGCAIRN_WORD_LIMIT syllables */
+#define JOGCAIRN_RECORD_SIZE 7      /* the bytes of a syllable's record */
+#define JOGCAIRN_KEY_SIZE 320       /* the bytes of a key, of which five a syllable are used */
+#define JOGCAIRN_BOOK_LIMIT 16384   /* the most bytes of a book */
+
+/* The tag where there is no such syllable. */
+#define JOGCAIRN_NONE 128
+
+/* The refusals. Each has a place, which is the first number of the answer. */
+enum jogcairn_refusal {
+    JOGCAIRN_TOO_LONG = 1,        /* more than 64 values, or a line over 192 bytes; place 64 */
+    JOGCAIRN_FOREIGN = 2,         /* a foreign value; place: the first, in the word as handed in */
+    JOGCAIRN_BROKEN = 3,          /* no continuation makes it a word; place: the length of its longest beginning that has one */
+    JOGCAIRN_UNFINISHED = 4,      /* no word, but some continuation makes it one; place: its length */
+    JOGCAIRN_NO_ROOM = 5,         /* an output is too short; place: the elements needed */
+    JOGCAIRN_NO_ROW = 6,          /* records that no word has, or of a word over 64 values; place 0 */
+    JOGCAIRN_FAULTY_LINE = 7,     /* bytes that are no Myanmar value in UTF-8; place: the first such byte */
+    JOGCAIRN_EMPTY = 8,           /* the empty word, in calls on a book; place 0 */
+    JOGCAIRN_NOT_A_BOOK = 11,     /* place: the first byte where the buffer stops being a book; 16384 where it is too long */
+    JOGCAIRN_ALREADY_LIVE = 12,   /* add: the word is there already; place: the start of its record */
+    JOGCAIRN_NOT_LIVE = 13,       /* find, remove: the word is not there; place 0 */
+    JOGCAIRN_BOOK_FULL = 14,      /* add: the record does not fit behind the others; place: the first free byte */
+    JOGCAIRN_RANK_TOO_HIGH = 15   /* rank: so many live records there are not; place: how many there are */
+};
+
+static inline unsigned jogcairn_tag(uint64_t answer)
+{
+    return (unsigned)(answer >> 56);
+}
+
+static inline uint32_t jogcairn_second(uint64_t answer)
+{
+    return (uint32_t)(answer >> 32) & 0xFFFFFFu;
+}
+
+static inline uint32_t jogcairn_first(uint64_t answer)
+{
+    return (uint32_t)answer;
+}
+
+static inline int jogcairn_accepted(uint64_t answer)
+{
+    return jogcairn_tag(answer) == 0;
+}
+
+/* A byte of the record that jogcairn_record answers, 0 to 6: head, medial, vowel, tall, final, link, tone. */
+static inline uint8_t jogcairn_record_byte(uint64_t answer, unsigned byte)
+{
+    return (uint8_t)(answer >> (8 * byte));
+}
+
+/* Words. The refusals that a call can give stand in brackets. */
+
+/* Reads a word as it is handed in. First: its syllables. [1 to 4] */
+uint64_t jogcairn_read(const uint16_t *word, size_t count);
+
+/* The record of the syllable `number`, from 0: the low 56 bits of the answer are its seven bytes, the head lowest. [1 to 4, none] */
+uint64_t jogcairn_record(const uint16_t *word, size_t count, size_t number);
+
+/* The part of the word that the syllable `number` is, from 0. First: the place of its first value; second: how many values it has.
+   [1 to 4, none] */
+uint64_t jogcairn_part(const uint16_t *word, size_t count, size_t number);
+
+/* Spells a word out: each syllable by itself, its final as a letter and 103A. Writes the values, and to `starts` the place among them where
+   each syllable begins. First: the values; second: the syllables. Of two outputs too short, `values` is told first. [1 to 5] */
+uint64_t jogcairn_spell(const uint16_t *word, size_t count, uint16_t *values, size_t room, uint16_t *starts, size_t starts_room);
+
+/* Writes the word of records, seven bytes a syllable. First: its values. [5, 6] */
+uint64_t jogcairn_write(const uint8_t *records, size_t bytes, uint16_t *word, size_t room);
+
+/* Writes the one spelling that a word is stored in: its marks in order. First: its values. Places of 3 and 4 are places in the stored
+   spelling, for the calls below too. [1 to 5] */
+uint64_t jogcairn_normalise(const uint16_t *word, size_t count, uint16_t *output, size_t room);
+
+/* Writes the collation key of a word, normalised, always JOGCAIRN_KEY_SIZE bytes: five a syllable, then zeros. memcmp orders keys as the
+   dictionary files words; words that weigh the same have the same key, and jogcairn_compare tells them apart. First: the syllables.
+   [1 to 5] */
+uint64_t jogcairn_key(const uint16_t *word, size_t count, uint8_t *key, size_t room);
+
+/* Compares two words, normalised. First: 0 where the first comes before the second, 1 where they are one word, 2 where it comes after.
+   [1 to 4; second: 1 or 2, the word that is refused] */
+uint64_t jogcairn_compare(const uint16_t *first, size_t first_count, const uint16_t *second, size_t second_count);
+
+/* Writes the values of a line of UTF-8, without the byte that ends it. First: the values. [1, 5, 7] */
+uint64_t jogcairn_decode(const uint8_t *line, size_t bytes, uint16_t *word, size_t room);
+
+/* A book: a buffer of at most JOGCAIRN_BOOK_LIMIT bytes. One of zeros is an empty book. Each call tests the whole buffer, and normalises
+   the word. */
+
+/* Whether the buffer is a book. First: its live records. [11] */
+uint64_t jogcairn_book_check(const uint8_t *book, size_t bytes);
+
+/* Adds a word with its stock number behind the last record. First: the start of the new record. [1 to 4, 8, 11, 12, 14] */
+uint64_t jogcairn_book_add(uint8_t *book, size_t bytes, const uint16_t *word, size_t count, uint32_t stock);
+
+/* Marks the record of a word as removed; its room is not used again. First: its start. [1 to 4, 8, 11, 13] */
+uint64_t jogcairn_book_remove(uint8_t *book, size_t bytes, const uint16_t *word, size_t count);
+
+/* Finds a word. First: its stock number; second: the start of its record. [1 to 4, 8, 11, 13] */
+uint64_t jogcairn_book_find(const uint8_t *book, size_t bytes, const uint16_t *word, size_t count);
+
+/* The live record with exactly `rank` live records before it in word order. First: its stock number; second: its start. [11, 15] */
+uint64_t jogcairn_book_rank(const uint8_t *book, size_t bytes, size_t rank);
+
+/*
+ * Example: file a part under the name that a line holds.
+ *
+ *     uint8_t book[4096] = {0};
+ *     uint16_t word[JOGCAIRN_WORD_LIMIT];
+ *     uint64_t answer = jogcairn_decode(line, bytes, word, JOGCAIRN_WORD_LIMIT);
+ *     if (jogcairn_accepted(answer))
+ *         answer = jogcairn_book_add(book, sizeof book, word, jogcairn_first(answer), 4711);
+ *     if (!jogcairn_accepted(answer))
+ *         printf("refusal %u at %" PRIu32 "\n", jogcairn_tag(answer), jogcairn_first(answer));
+ */
+
+#ifdef __cplusplus
+}
+#endif
+
+#endif
