@@ -23,10 +23,12 @@ pub fn all() -> Session {
     session.scene("exact fits", fillings::exact_fits);
     session.scene("filled", fillings::filled);
     session.scene("filled to the limit", fillings::filled_to_the_limit);
+    session.scene("many records", fillings::many_records);
     session.scene("refused words", refusals::refused_words);
     session.scene("order of tests", refusals::order_of_tests);
     session.scene("turns", turns::turns);
     session.scene("spellings", turns::spellings);
+    session.scene("mark orders", turns::mark_orders);
     session.scene("stock numbers", turns::stock_numbers);
     session.scene("damaged bytes", damages::damaged_bytes);
     session.scene("made by hand", damages::made_by_hand);

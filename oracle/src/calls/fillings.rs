@@ -66,6 +66,41 @@ pub fn filled_to_the_limit(session: &mut Session, random: &mut Random) {
     fill(session, random, BOOK_LIMIT, |random| of_length(random, WORD_LIMIT));
 }
 
+/// A book of several hundred records, so that chains of a hash meet; words that come
+/// and go in it, and records that are made live again beside a live one.
+pub fn many_records(session: &mut Session, random: &mut Random) {
+    session.new_book(4500);
+    let mut words: Vec<Vec<u16>> = Vec::new();
+    let mut starts: Vec<usize> = Vec::new();
+    while words.len() < 420 {
+        let length = random.between(1, 3);
+        let word = of_length(random, length);
+        if let Ok((start, _)) = session.add(&word, stock(random)) {
+            words.push(word);
+            starts.push(start);
+        }
+    }
+    for round in 0..60 {
+        let chosen = random.below(words.len());
+        let word = words[chosen].clone();
+        let _ = session.find(&word);
+        if session.remove(&word).is_err() || session.add(&word, stock(random)).is_err() {
+            continue;
+        }
+        let _ = session.find(&word);
+        let removed = starts[chosen];
+        if round % 6 == 0 && session.byte(removed + 1) == 0x2D {
+            session.poke(removed + 1, 0x57);
+            ask_all(session, &word);
+            session.poke(removed + 1, 0x2D);
+        }
+    }
+    for rank in (0..420).step_by(60) {
+        let _ = session.rank(rank);
+    }
+    let _ = session.check();
+}
+
 /// Adds words until one has no room, and then a word that ends at the last byte.
 fn fill(
     session: &mut Session,

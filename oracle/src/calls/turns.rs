@@ -49,6 +49,21 @@ pub fn spellings(session: &mut Session, random: &mut Random) {
     }
 }
 
+/// A word with its four marks in each of their 24 orders.
+pub fn mark_orders(session: &mut Session, random: &mut Random) {
+    session.new_book(40);
+    let _ = session.add(&[0x1000, 0x102C, 0x1031, 0x103D, 0x103B], stock(random));
+    let marks = [0x103B, 0x103D, 0x1031, 0x102C];
+    for order in 0..24 {
+        let mut left = marks.to_vec();
+        let mut word = vec![0x1000];
+        for place in [order / 6, order / 2 % 3, order % 2, 0] {
+            word.push(left.remove(place));
+        }
+        let _ = session.find(&word);
+    }
+}
+
 /// Stock numbers at their limits, written and found again.
 pub fn stock_numbers(session: &mut Session, _: &mut Random) {
     session.new_book(BOOKED);
