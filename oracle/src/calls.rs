@@ -34,5 +34,6 @@ pub fn all() -> Session {
     session.scene("made by hand", damages::made_by_hand);
     session.scene("any damage", damages::any_damage);
     session.scene("ranks", ranks::ranks);
+    session.scene("deep ranks", ranks::deep_ranks);
     session
 }

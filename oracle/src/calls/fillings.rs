@@ -64,6 +64,9 @@ pub fn filled(session: &mut Session, random: &mut Random) {
 pub fn filled_to_the_limit(session: &mut Session, random: &mut Random) {
     session.new_book(BOOK_LIMIT);
     fill(session, random, BOOK_LIMIT, |random| of_length(random, WORD_LIMIT));
+    for rank in [1, 2, 100, 225, 226, 227, 228, 229, 230] {
+        let _ = session.rank(rank);
+    }
 }
 
 /// A book of several hundred records, so that chains of a hash meet; words that come
@@ -95,7 +98,7 @@ pub fn many_records(session: &mut Session, random: &mut Random) {
             session.poke(removed + 1, 0x2D);
         }
     }
-    for rank in (0..420).step_by(60) {
+    for rank in (0..=420).step_by(20) {
         let _ = session.rank(rank);
     }
     let _ = session.check();

@@ -56,3 +56,19 @@ pub fn ranks(session: &mut Session, random: &mut Random) {
         let _ = session.check();
     }
 }
+
+/// Long words that differ only at their ends, or in their length.
+pub fn deep_ranks(session: &mut Session, random: &mut Random) {
+    let ends = CLOSE.iter().filter(|end| end.len() <= 2 && end[0] != 0x1000);
+    let mut words: Vec<Vec<u16>> = ends.map(|end| [&[0x1000; 62], *end].concat()).collect();
+    words.extend([0x102B, 0x102C].map(|mark| [&[0x1000; 62][..], &[mark]].concat()));
+    words.extend((60..=64).map(|length| vec![0x1000; length]));
+    random.shuffle(&mut words);
+    session.new_book(71 * words.len());
+    for word in &words {
+        let _ = session.add(word, stock(random));
+    }
+    for rank in 0..=words.len() {
+        let _ = session.rank(rank as u32);
+    }
+}
