@@ -27,6 +27,7 @@ fn every_answer_occurs() {
     numbers("add", &[1, 8, 2, 3, 4, 11, 12, 14]);
     numbers("remove", &[1, 8, 2, 3, 4, 11, 13]);
     numbers("find", &[1, 8, 2, 3, 4, 11, 13]);
+    numbers("rank", &[11, 15]);
 }
 
 /// 2 · 16,777,619 + 3, and that times 16,777,619 without what passes 32 bits.

@@ -73,6 +73,9 @@ fn ask(letter: u8, book: &mut [u8], word: &[u16], number: u32) -> Told {
     if letter == b'f' {
         return of_found(wordbook::find(book, word));
     }
+    if letter == b'k' {
+        return of_found(wordbook::rank(book, number as usize));
+    }
     of_checked(wordbook::check(book))
 }
 

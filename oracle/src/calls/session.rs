@@ -9,9 +9,6 @@ use std::fmt::Write;
 /// The bytes of the array whose front is the book.
 pub const ARRAY_SIZE: usize = 16_400;
 
-/// Whether ranks are among the calls that are noted.
-const RANKS_ARE_NOTED: bool = false;
-
 /// A call on a book, or a change of the array around it.
 #[derive(Clone, Debug)]
 pub enum Call {
@@ -122,11 +119,8 @@ impl Session {
 
     /// Plays a call on the book.
     pub fn rank(&mut self, rank: u32) -> Answer {
-        let entry = book::rank(&self.array[..self.length], rank as usize).map(pair);
-        if !RANKS_ARE_NOTED {
-            return entry;
-        }
-        self.told(Call::Rank(rank), entry)
+        let entry = book::rank(&self.array[..self.length], rank as usize);
+        self.told(Call::Rank(rank), entry.map(pair))
     }
 
     fn told(&mut self, call: Call, answer: Answer) -> Answer {
