@@ -9,6 +9,8 @@
 #![forbid(unsafe_code)]
 #![warn(missing_docs)]
 
+pub mod book;
+pub mod calls;
 pub mod collation;
 pub mod formula;
 pub mod letters;

@@ -1,4 +1,5 @@
-//! Document 01, "Refused because of what is handed in".
+//! Document 01, "Refused because of what is handed in" and "Refused because of
+//! what the book holds".
 
 use crate::word::WORD_LIMIT;
 
@@ -44,5 +45,33 @@ impl Refusal {
     /// faulty three begins".
     pub const fn faulty_three(byte_place: usize) -> Refusal {
         Refusal { number: 7, place: byte_place }
+    }
+
+    /// 8: "empty word, book calls only"; place 0.
+    pub const EMPTY_WORD: Refusal = Refusal { number: 8, place: 0 };
+
+    /// 13: "find, remove: not live"; place 0.
+    pub const NOT_LIVE: Refusal = Refusal { number: 13, place: 0 };
+
+    /// 11: "not a book"; place "start of the first wrong record or first stray
+    /// byte; for an overlong buffer 16,384; of two equal words, the later".
+    pub const fn not_a_book(place: usize) -> Refusal {
+        Refusal { number: 11, place }
+    }
+
+    /// 12: "add: word is live already"; place "its start".
+    pub const fn already_live(start: usize) -> Refusal {
+        Refusal { number: 12, place: start }
+    }
+
+    /// 14: "add: first free byte plus 7 plus n passes the buffer's end"; place
+    /// "first free byte".
+    pub const fn book_full(first_free: usize) -> Refusal {
+        Refusal { number: 14, place: first_free }
+    }
+
+    /// 15: "rank not below the live count"; place "live count".
+    pub const fn rank_too_high(live_count: usize) -> Refusal {
+        Refusal { number: 15, place: live_count }
     }
 }

@@ -1,0 +1,161 @@
+//! Document 01, "The word book".
+//!
+//! Every call takes the whole buffer apart into records, and answers from their
+//! list.
+
+use crate::collation::compare;
+use crate::refusal::Refusal;
+use crate::storage::store;
+use crate::word::{Word, WORD_LIMIT};
+use std::collections::BTreeMap;
+
+/// "A book is a lent buffer of at most 16,384 bytes".
+pub const BOOK_LIMIT: usize = 16_384;
+
+/// "Each record starts with the two bytes 4D 57 (hexadecimal)".
+const LIVE: [u8; 2] = [0x4D, 0x57];
+
+/// "a removed one starts with 4D 2D".
+const REMOVED: [u8; 2] = [0x4D, 0x2D];
+
+/// "Find gives start and stock number."
+#[derive(Clone, Copy, Debug, PartialEq, Eq)]
+pub struct Entry {
+    /// Where its record starts.
+    pub start: usize,
+    /// Its stock number.
+    pub stock: u32,
+}
+
+/// A record of a book.
+struct Record {
+    entry: Entry,
+    live: bool,
+    word: Vec<u16>,
+}
+
+/// A buffer that is a book.
+struct Book {
+    records: Vec<Record>,
+    /// "just after the last record".
+    first_free: usize,
+}
+
+/// The number of live records of a book.
+pub fn check(buffer: &[u8]) -> Result<usize, Refusal> {
+    Ok(Book::of(buffer)?.live().count())
+}
+
+/// The live record with the word.
+pub fn find(buffer: &[u8], word: &[u16]) -> Result<Entry, Refusal> {
+    let word = entered(word)?;
+    Book::of(buffer)?.entry_of(&word).ok_or(Refusal::NOT_LIVE)
+}
+
+/// "Rank r gives start and stock number of the live record with exactly r live
+/// records before it in word order."
+pub fn rank(buffer: &[u8], rank: usize) -> Result<Entry, Refusal> {
+    let book = Book::of(buffer)?;
+    let mut live: Vec<&Record> = book.live().collect();
+    live.sort_by(|first, second| {
+        compare(&first.word, &second.word).expect("the words of a book are readable")
+    });
+    match live.get(rank) {
+        Some(record) => Ok(record.entry),
+        None => Err(Refusal::rank_too_high(live.len())),
+    }
+}
+
+/// "Add puts a record with the normalised word just after the last record and
+/// gives its start."
+pub fn add(buffer: &mut [u8], word: &[u16], stock: u32) -> Result<usize, Refusal> {
+    let word = entered(word)?;
+    let book = Book::of(buffer)?;
+    if let Some(entry) = book.entry_of(&word) {
+        return Err(Refusal::already_live(entry.start));
+    }
+    let mut record = Vec::from(LIVE);
+    record.push(word.len() as u8);
+    record.extend(stock.to_le_bytes());
+    record.extend(word.iter().map(|value| (value - 0x1000) as u8));
+    let start = book.first_free;
+    let room = buffer[start..].get_mut(..record.len()).ok_or(Refusal::book_full(start))?;
+    room.copy_from_slice(&record);
+    Ok(start)
+}
+
+/// "Remove changes the record's 57 to 2D, no other byte, and gives its start."
+pub fn remove(buffer: &mut [u8], word: &[u16]) -> Result<usize, Refusal> {
+    let start = find(buffer, word)?.start;
+    buffer[start..start + 2].copy_from_slice(&REMOVED);
+    Ok(start)
+}
+
+/// The word that goes to the book: "Keys, comparison and the book normalise
+/// first." Its tests come in the order 1, 8, 2, 3 or 4.
+fn entered(word: &[u16]) -> Result<Word, Refusal> {
+    if word.is_empty() {
+        return Err(Refusal::EMPTY_WORD);
+    }
+    Ok(store(word)?.word)
+}
+
+impl Book {
+    /// Takes the buffer apart, or answers the first place at which it is no book.
+    fn of(buffer: &[u8]) -> Result<Book, Refusal> {
+        if buffer.len() > BOOK_LIMIT {
+            return Err(Refusal::not_a_book(BOOK_LIMIT));
+        }
+        let mut records = Vec::new();
+        let mut starts_of_live_words = BTreeMap::new();
+        let mut rest = buffer;
+        // "The records end at the first zero byte that stands where a record would
+        // begin, or at the buffer's end".
+        while !matches!(rest, [] | [0, ..]) {
+            let start = buffer.len() - rest.len();
+            let (record, after) = cut(rest, start).ok_or(Refusal::not_a_book(start))?;
+            // "no two live records have the same word": "of two equal words, the later"
+            // is wrong.
+            if record.live && starts_of_live_words.insert(record.word.clone(), start).is_some() {
+                return Err(Refusal::not_a_book(start));
+            }
+            records.push(record);
+            rest = after;
+        }
+        let first_free = buffer.len() - rest.len();
+        match rest.iter().position(|&byte| byte != 0) {
+            Some(stray) => Err(Refusal::not_a_book(first_free + stray)),
+            None => Ok(Book { records, first_free }),
+        }
+    }
+
+    fn live(&self) -> impl Iterator<Item = &Record> {
+        self.records.iter().filter(|record| record.live)
+    }
+
+    fn entry_of(&self, word: &[u16]) -> Option<Entry> {
+        self.live().find(|record| record.word == word).map(|record| record.entry)
+    }
+}
+
+/// Cuts the record at the front off, if one stands there.
+fn cut(bytes: &[u8], start: usize) -> Option<(Record, &[u8])> {
+    let (&[first, second, count, ref stock @ ..], rest) = bytes.split_first_chunk::<7>()?;
+    let live = match [first, second] {
+        LIVE => true,
+        REMOVED => false,
+        _ => return None,
+    };
+    let count = usize::from(count);
+    if !(1..=WORD_LIMIT).contains(&count) {
+        return None;
+    }
+    let (word, rest) = rest.split_at_checked(count)?;
+    let word: Vec<u16> = word.iter().map(|&byte| 0x1000 + u16::from(byte)).collect();
+    // "Every record's word, removed ones included, is in storage order and readable".
+    if *store(&word).ok()?.word != *word {
+        return None;
+    }
+    let entry = Entry { start, stock: u32::from_le_bytes(*stock) };
+    Some((Record { entry, live, word }, rest))
+}

@@ -1,0 +1,74 @@
+//! Ranks of every number and beyond, among words that are hard to tell apart.
+
+use super::session::Session;
+use super::words::{short, stock};
+use crate::random::Random;
+
+/// Words in word order, of which neighbours have the same weights, begin with one
+/// another, or differ in the last weight alone.
+const CLOSE: [&[u16]; 22] = [
+    &[0x104A],
+    &[0x1040],
+    &[0x1000],
+    &[0x1000, 0x1000],
+    &[0x1000, 0x1037],
+    &[0x1000, 0x102B],
+    &[0x1000, 0x102C],
+    &[0x1000, 0x102C, 0x1038],
+    &[0x1000, 0x102C, 0x1000],
+    &[0x1000, 0x1000, 0x1039, 0x1000],
+    &[0x1000, 0x1000, 0x103A, 0x1000],
+    &[0x1000, 0x1004, 0x103A, 0x1000],
+    &[0x1000, 0x1004, 0x103A, 0x1039, 0x1000],
+    &[0x1000, 0x101E, 0x103A, 0x101E],
+    &[0x1000, 0x103F],
+    &[0x1000, 0x103B],
+    &[0x101E],
+    &[0x1021],
+    &[0x1021, 0x102D],
+    &[0x1023],
+    &[0x1026],
+    &[0x104F],
+];
+
+/// Books of close words and of any words, some of them removed.
+pub fn ranks(session: &mut Session, random: &mut Random) {
+    for round in 0..16 {
+        session.new_book(600);
+        let mut words: Vec<Vec<u16>> = if round % 2 == 0 {
+            CLOSE.map(<[u16]>::to_vec).to_vec()
+        } else {
+            (0..random.between(1, 20)).map(|_| short(random)).collect()
+        };
+        random.shuffle(&mut words);
+        for word in &words {
+            let _ = session.add(word, stock(random));
+        }
+        for word in &words {
+            if random.chance(round * 4) {
+                let _ = session.remove(word);
+            }
+        }
+        for rank in 0..words.len() + 2 {
+            let _ = session.rank(rank as u32);
+        }
+        let _ = session.rank(u32::MAX);
+        let _ = session.check();
+    }
+}
+
+/// Long words that differ only at their ends, or in their length.
+pub fn deep_ranks(session: &mut Session, random: &mut Random) {
+    let ends = CLOSE.iter().filter(|end| end.len() <= 2 && end[0] != 0x1000);
+    let mut words: Vec<Vec<u16>> = ends.map(|end| [&[0x1000; 62], *end].concat()).collect();
+    words.extend([0x102B, 0x102C].map(|mark| [&[0x1000; 62][..], &[mark]].concat()));
+    words.extend((60..=64).map(|length| vec![0x1000; length]));
+    random.shuffle(&mut words);
+    session.new_book(71 * words.len());
+    for word in &words {
+        let _ = session.add(word, stock(random));
+    }
+    for rank in 0..=words.len() {
+        let _ = session.rank(rank as u32);
+    }
+}

@@ -1,0 +1,187 @@
+//! Calls played one after the other, each noted with what must be printed for it.
+
+use crate::book::{self, Entry};
+use crate::random::Random;
+use crate::refusal::Refusal;
+use std::collections::BTreeMap;
+use std::fmt::Write;
+
+/// The bytes of the array whose front is the book.
+pub const ARRAY_SIZE: usize = 16_400;
+
+/// A call on a book, or a change of the array around it.
+#[derive(Clone, Debug)]
+pub enum Call {
+    /// Only zeros in the array, of which the first so many bytes are lent.
+    New(usize),
+    /// One byte of the array.
+    Poke(usize, u8),
+    /// Whether the lent bytes are a book.
+    Check,
+    /// A word and its stock number.
+    Add(Vec<u16>, u32),
+    /// A word.
+    Remove(Vec<u16>),
+    /// A word.
+    Find(Vec<u16>),
+    /// A number of live records.
+    Rank(u32),
+}
+
+/// Two numbers, the second 0 where a call gives only one; or a refusal.
+pub type Answer = Result<(usize, u32), Refusal>;
+
+/// The calls so far, what must be printed for them, and the array as they left it.
+pub struct Session {
+    /// The calls as text.
+    pub input: String,
+    /// What must be printed.
+    pub expected: String,
+    /// How many answers of each kind came from each scene.
+    pub counts: BTreeMap<(&'static str, String), usize>,
+    scene: &'static str,
+    array: Vec<u8>,
+    length: usize,
+}
+
+impl Session {
+    /// Nothing played yet.
+    pub fn new() -> Session {
+        Session {
+            input: String::new(),
+            expected: String::new(),
+            counts: BTreeMap::new(),
+            scene: "",
+            array: vec![0; ARRAY_SIZE],
+            length: 0,
+        }
+    }
+
+    /// Plays a scene, with random numbers of its own.
+    pub fn scene(&mut self, name: &'static str, play: fn(&mut Session, &mut Random)) {
+        self.scene = name;
+        play(self, &mut Random::of(name));
+    }
+
+    /// A book of zeros; the bytes behind it are not.
+    pub fn new_book(&mut self, length: usize) {
+        self.note(&Call::New(length));
+        self.array.fill(0);
+        self.length = length;
+        for (place, byte) in [(length, 0x4D), (length + 1, 0x57), (ARRAY_SIZE - 1, 0xA5)] {
+            if (length..ARRAY_SIZE).contains(&place) {
+                self.poke(place, byte);
+            }
+        }
+    }
+
+    /// Changes a byte.
+    pub fn poke(&mut self, place: usize, byte: u8) {
+        self.note(&Call::Poke(place, byte));
+        self.array[place] = byte;
+    }
+
+    /// Changes bytes from a place on.
+    pub fn poke_all(&mut self, place: usize, bytes: &[u8]) {
+        for (next, &byte) in bytes.iter().enumerate() {
+            self.poke(place + next, byte);
+        }
+    }
+
+    /// A byte as it is.
+    pub fn byte(&self, place: usize) -> u8 {
+        self.array[place]
+    }
+
+    /// Plays a call on the book.
+    pub fn check(&mut self) -> Answer {
+        let answer = book::check(&self.array[..self.length]).map(|live| (live, 0));
+        self.told(Call::Check, answer)
+    }
+
+    /// Plays a call on the book.
+    pub fn add(&mut self, word: &[u16], stock: u32) -> Answer {
+        let start = book::add(&mut self.array[..self.length], word, stock);
+        self.told(Call::Add(word.to_vec(), stock), start.map(|start| (start, 0)))
+    }
+
+    /// Plays a call on the book.
+    pub fn remove(&mut self, word: &[u16]) -> Answer {
+        let start = book::remove(&mut self.array[..self.length], word);
+        self.told(Call::Remove(word.to_vec()), start.map(|start| (start, 0)))
+    }
+
+    /// Plays a call on the book.
+    pub fn find(&mut self, word: &[u16]) -> Answer {
+        let entry = book::find(&self.array[..self.length], word);
+        self.told(Call::Find(word.to_vec()), entry.map(pair))
+    }
+
+    /// Plays a call on the book.
+    pub fn rank(&mut self, rank: u32) -> Answer {
+        let entry = book::rank(&self.array[..self.length], rank as usize);
+        self.told(Call::Rank(rank), entry.map(pair))
+    }
+
+    fn told(&mut self, call: Call, answer: Answer) -> Answer {
+        self.note(&call);
+        let (is_accepted, first, second) = match answer {
+            Ok((first, second)) => ("OK", first, u64::from(second)),
+            Err(refusal) => ("NO", usize::from(refusal.number), refusal.place as u64),
+        };
+        let sum = checksum(&self.array);
+        writeln!(self.expected, "{is_accepted} {first} {second} {sum}").expect("memory");
+        let kind = match answer {
+            Ok(_) => format!("{} OK", name(&call)),
+            Err(refusal) => format!("{} NO {}", name(&call), refusal.number),
+        };
+        *self.counts.entry((self.scene, kind)).or_default() += 1;
+        answer
+    }
+
+    fn note(&mut self, call: &Call) {
+        let line = match call {
+            Call::New(length) => format!("{length:X}n"),
+            Call::Poke(place, byte) => format!("{place:X} {byte:X}p"),
+            Call::Check => String::from("c"),
+            Call::Add(word, stock) => format!("{}{stock:X}a", values(word)),
+            Call::Remove(word) => format!("{}r", values(word)),
+            Call::Find(word) => format!("{}f", values(word)),
+            Call::Rank(rank) => format!("{rank:X}k"),
+        };
+        self.input.push_str(&line);
+        self.input.push('\n');
+    }
+}
+
+impl Default for Session {
+    fn default() -> Session {
+        Session::new()
+    }
+}
+
+fn pair(entry: Entry) -> (usize, u32) {
+    (entry.start, entry.stock)
+}
+
+fn name(call: &Call) -> &'static str {
+    match call {
+        Call::New(_) => "new",
+        Call::Poke(..) => "poke",
+        Call::Check => "check",
+        Call::Add(..) => "add",
+        Call::Remove(_) => "remove",
+        Call::Find(_) => "find",
+        Call::Rank(_) => "rank",
+    }
+}
+
+fn values(word: &[u16]) -> String {
+    word.iter().map(|value| format!("{value:X} ")).collect()
+}
+
+/// The bytes as digits of a number to the base 16,777,619, whose last 32 bits are
+/// the checksum. The base is odd, so a change of one byte always shows.
+pub fn checksum(bytes: &[u8]) -> u32 {
+    bytes.iter().fold(0, |sum: u32, &byte| sum.wrapping_mul(16_777_619).wrapping_add(byte.into()))
+}

@@ -1,0 +1,39 @@
+//! The calls hold what their names say, and are small enough.
+
+use oracle::calls::{all, checksum, Session};
+use std::collections::BTreeSet;
+use std::sync::LazyLock;
+
+static CALLS: LazyLock<Session> = LazyLock::new(all);
+
+#[test]
+fn the_calls_are_of_the_right_size() {
+    let lines = CALLS.expected.lines().count();
+    assert!((5_000..=10_000).contains(&lines), "{lines} lines");
+    assert!(CALLS.input.len() <= 400_000, "{} bytes of input", CALLS.input.len());
+    assert!(CALLS.expected.len() <= 200_000, "{} bytes of output", CALLS.expected.len());
+}
+
+#[test]
+fn every_answer_occurs() {
+    let seen: BTreeSet<&str> = CALLS.counts.keys().map(|(_, kind)| kind.as_str()).collect();
+    let numbers = |call: &str, numbers: &[u8]| {
+        for number in numbers {
+            assert!(seen.contains(format!("{call} NO {number}").as_str()), "{call} {number}");
+        }
+        assert!(seen.contains(format!("{call} OK").as_str()), "{call}");
+    };
+    numbers("check", &[11]);
+    numbers("add", &[1, 8, 2, 3, 4, 11, 12, 14]);
+    numbers("remove", &[1, 8, 2, 3, 4, 11, 13]);
+    numbers("find", &[1, 8, 2, 3, 4, 11, 13]);
+    numbers("rank", &[11, 15]);
+}
+
+/// 2 · 16,777,619 + 3, and that times 16,777,619 without what passes 32 bits.
+#[test]
+fn the_checksum_is_a_number_to_its_base() {
+    assert_eq!(checksum(&[]), 0);
+    assert_eq!(checksum(&[2, 3]), 33_555_241);
+    assert_eq!(checksum(&[2, 3, 0]), 1_325_726_091);
+}
