@@ -3,16 +3,16 @@
 use mathlib.Core.Path.{_≡_, refl, ap, sym, subst, _∙_}
 use mathlib.Core.Bool.{Bool, true, false}
 use mathlib.Core.List.{List, _++_}
-use Prim.Native.Nat.{ℕ, _-_, _≤_, _<_}
+use Prim.Native.Nat.{ℕ, _≤_, _<_}
 use native.Mathlib.Omega.{arith}
 use borrow.Author.Tests.{leb-true, leb-false}
 use lib.Dec.{leb}
-use lib.ListN.{length, take, drop, replicate, length-append}
-use lib.Seq.{take-at}
+use lib.ListN.{length, take, drop}
 use Rattle.letters.specs.Choice.{pick}
 use Rattle.formula.specs.Limits.{limit, lineLimit}
 use Rattle.formula.specs.Held.{wordOf}
 use Rattle.formula.specs.declared.Word.{Word}
+use Rattle.formula.proofs.Held.{held-front, held-fits, held-length}
 use Rattle.refusals.specs.Refusal.{numberOf, placeOf}
 use Rattle.refusals.specs.declared.Refusal.the-variants.{TooLong}
 use Rattle.lines.specs.Line.{Decoding, values, faulty as broken, decodeFrom, refusedLine, answerOf, decodedOf}
@@ -57,18 +57,20 @@ module _ (line : List ℕ) (held : Word) (h : Holds line held) where
   held-limit = let s = h .short in omega (arith, count-is, length-encode (h .word), ap length (encode-decode 0 line (h .word) (h .decodes)))
 
   pub held-room : held .count ≤ length (held .values)
-  held-room =
-      omega (arith, count-is, ap (λ (w : Word). length (w .values)) (h .is), length-append (h .word) (replicate (limit - length (h .word)) 0))
+  held-room = held-fits held (h .word) (h .is)
+
+  pub held-count : held .count ≡ length (take (held .count) (held .values))
+  held-count = held-length held (h .word) (h .is)
 
   pub short-right : (before after : List ℕ) → length before < held .count → after ≡ before → DecodeWritten line before after (refuses 5 (held .count))
   short-right before after less same =
       subst (λ (k : ℕ). DecodeWritten line before after (refuses 5 k)) (sym count-is)
       (too-short (h .short) (h .decodes) (omega (arith, count-is)) same)
 
-  pub written-right : (before after : List ℕ) → held .count ≤ length before → after ≡ take (held .count) (held .values) ++ drop (held .count) before
+  pub written-right : (before after : List ℕ) → held .count ≤ length before
+      → after ≡ take (held .count) (held .values) ++ drop (length (take (held .count) (held .values))) before
       → DecodeWritten line before after (written (held .count))
   written-right before after fits is =
       subst (λ (k : ℕ). DecodeWritten line before after (written k)) (sym count-is)
       (writes (h .short) (h .decodes) (omega (arith, count-is))
-      (is ∙ ap (λ (w : Word). take (w .count) (w .values) ++ drop (w .count) before) (h .is)
-      ∙ ap (λ (l : List ℕ). l ++ drop (length (h .word)) before) (take-at (h .word) (replicate (limit - length (h .word)) 0) (length (h .word)) refl)))
+      (is ∙ ap (λ (l : List ℕ). l ++ drop (length l) before) (held-front held (h .word) (h .is))))

@@ -64,6 +64,6 @@ pub(crate) fn put_values(line: &[u8], output: &mut [u16]) -> WriteAnswer
         return WriteAnswer::Refused(Refusal::OutputTooShort(count));
     }
     let values = word.values;
-    copy_out(&values, count, output);
+    copy_out(&values[..count], output);
     WriteAnswer::Written(count)
 }

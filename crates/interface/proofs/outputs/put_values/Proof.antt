@@ -2,7 +2,8 @@
 -- Assumes nothing.
 use borrow.Author.Needs.{needs}
 use mathlib.Core.Path.{refl, subst}
-use Rattle.interface.proofs.Decoding.{Holds, Tells, tells, held-limit, held-room, short-right, written-right}
+use native.Mathlib.Omega.{arith}
+use Rattle.interface.proofs.Decoding.{Holds, Tells, tells, held-limit, held-room, held-count, short-right, written-right}
 use Rattle.interface.proofs.outputs.put_values.Statement.{statement}
 use Rattle.interface.proofs.outputs.put_values.Tie as tie
 
@@ -32,10 +33,19 @@ returns-2 : tie.Need-returns-2
 returns-2 c =
     short-right _ _ (holds (c .before .before)) _ _ (c .if1 .taken) refl
 
+array-share-prefix-values : tie.Need-array-share-prefix-values
+array-share-prefix-values c = held-room _ _ (holds (c .before .before .before))
+
+slice-aggregate-copy-out : tie.Need-slice-aggregate-copy-out
+slice-aggregate-copy-out c = held-count _ _ (holds (c .before .before .before .before))
+
 copy-out-requires : tie.Need-copy-out-requires
 copy-out-requires c κs =
     let h = holds (c .before .before .before .before .before) in
-    (held-room _ _ h, c .before .before .before .if1 .left, held-limit _ _ h)
+    let n = held-count _ _ h in
+    let l = held-limit _ _ h in
+    let r = c .before .before .before .before .if1 .left in
+    (omega (arith, n), omega (arith, n))
 
 same-length : tie.Need-same-length
 same-length c = search needs
@@ -53,6 +63,8 @@ put-values-spec =
     returns
     enum-told
     returns-2
+    array-share-prefix-values
+    slice-aggregate-copy-out
     copy-out-requires
     same-length
     returns-3)
