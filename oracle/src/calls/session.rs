@@ -125,12 +125,12 @@ impl Session {
 
     fn told(&mut self, call: Call, answer: Answer) -> Answer {
         self.note(&call);
-        let (is_accepted, first, second) = match answer {
+        let (verdict, first, second) = match answer {
             Ok((first, second)) => ("OK", first, u64::from(second)),
             Err(refusal) => ("NO", usize::from(refusal.number), refusal.place as u64),
         };
         let sum = checksum(&self.array);
-        writeln!(self.expected, "{is_accepted} {first} {second} {sum}").expect("memory");
+        writeln!(self.expected, "{verdict} {first} {second} {sum}").expect("memory");
         let kind = match answer {
             Ok(_) => format!("{} OK", name(&call)),
             Err(refusal) => format!("{} NO {}", name(&call), refusal.number),

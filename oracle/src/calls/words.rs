@@ -29,7 +29,7 @@ pub fn respelled(random: &mut Random, word: &[u16]) -> Vec<u16> {
     respelled
 }
 
-/// "0, 1, 2^32-1, each byte different", or any other number.
+/// A stock number at a limit, a small one, or any.
 pub fn stock(random: &mut Random) -> u32 {
     match random.below(4) {
         0 => random.pick(&STOCKS),
