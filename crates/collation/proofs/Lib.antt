@@ -2,4 +2,5 @@ pub mod Weighing
 pub mod Comparing
 pub mod Determined
 pub mod Laws
+pub mod Apart
 pub mod Words

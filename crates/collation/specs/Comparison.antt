@@ -1,13 +1,15 @@
 -- Document 01, "Weights": the comparison of two words; "of two words, the first is tested whole, and the answer says which".
 -- Assumes nothing.
 use mathlib.Core.Path.{_≡_}
-use mathlib.Core.List.{List}
+use mathlib.Core.List.{List, [], _∷_}
 use Prim.Native.Nat.{ℕ}
+use Rattle.letters.specs.Weights.{headWeighed}
 use Rattle.formula.specs.Row.{Row, Gives}
 use Rattle.refusals.specs.Refusal.{numberOf, placeOf}
 use Rattle.storage.specs.Stored.{storedForm}
 use Rattle.normaliser.specs.Normal.{StoreRefusedWith, Stores}
 use Rattle.weighing.specs.Order.{filed, order}
+use Rattle.weighing.specs.Weighed.{weightOr}
 use Rattle.weighing.specs.declared.order.Order.{Order}
 use Rattle.weighing.specs.declared.order.Order.the-variants.{Less as Before, Equal as Alike, Greater as Behind}
 use Rattle.collation.specs.declared.compare.Compared.{Compared}
@@ -50,8 +52,19 @@ CompareAnswers first second (second-refuses number place) = OnlyFirst first seco
 abbrev pub CompareRight : List ℕ → List ℕ → Compared → Type 0
 CompareRight first second answer = CompareAnswers first second (compareOutcomeOf answer)
 
--- an inner contract cites the answer that says the order
+-- inner contracts cite what follows: the answer that says the order,
 abbrev pub comparedAs : Order → Compared
 comparedAs Before = Less
 comparedAs Alike = Equal
 comparedAs Behind = Greater
+
+-- the weight of the first value as a head; 0 where it is none, and for no values,
+abbrev pub firstHead : List ℕ → ℕ
+firstHead [] = 0
+firstHead (x ∷ word) = weightOr (headWeighed x) 0
+
+-- and the order that the first heads tell; that they are equal tells nothing
+abbrev pub HeadsTell : List ℕ → List ℕ → Order → Type 0
+HeadsTell first second Before = Ordered first second Before
+HeadsTell first second Alike = Unit {0}
+HeadsTell first second Behind = Ordered first second Behind

@@ -1,4 +1,5 @@
 // The comparison of two words.
+use crate::heads::order_heads;
 use crate::weigh::weigh;
 use reading::read::ReadAnswer;
 use refusals::Refusal;
@@ -46,8 +47,8 @@ fn order_forms(first: &[u16], second: &[u16]) -> Order
     order_values(&one_values[..one_count], &other_values[..other_count])
 }
 
-// Compares two words of any values and any length.
-pub fn compare(first: &[u16], second: &[u16]) -> Compared
+// Compares two words by their weights, whatever their first heads are.
+fn compare_keys(first: &[u16], second: &[u16]) -> Compared
     ensures { λ r. ⌜ CompareRight (now (first .entry)) (now (second .entry)) r ⌝ }
 {
     let mut one = [0; 320];
@@ -69,4 +70,15 @@ pub fn compare(first: &[u16], second: &[u16]) -> Compared
         return answer_of(order);
     };
     answer_of(order_forms(first, second))
+}
+
+// Compares two words of any values and any length.
+pub fn compare(first: &[u16], second: &[u16]) -> Compared
+    ensures { λ r. ⌜ CompareRight (now (first .entry)) (now (second .entry)) r ⌝ }
+{
+    let order = order_heads(first, second);
+    if let Order::Equal = order {
+        return compare_keys(first, second);
+    }
+    answer_of(order)
 }
