@@ -19,8 +19,8 @@ use Rattle.opening.specs.declared.open.Opening.the-variants.{Book}
 use Rattle.keeping.specs.Outcome.{finds, refuses}
 use Rattle.filing.specs.Filing.{AllKeyed, mostLive, FiledRight}
 use Rattle.filing.proofs.Live.{keyed-at}
-use Rattle.ranking.specs.Sorting.{inOrder, goesBefore, frontInOrder, SortedRight}
-use Rattle.ranking.specs.Rank.{rankOfEntry, rankOf}
+use Rattle.ranking.specs.Sorting.{inOrder, goesBefore, frontInOrder}
+use Rattle.ranking.specs.Rank.{rankOfEntry, rankOf, SortedRight}
 use Rattle.ranking.proofs.Merges.{length-in-order}
 use Rattle.ranking.proofs.Keyed.{keyed-in-order}
 use Rattle.ranking.proofs.InOrder.{starts-in-order, entry-there, none-there}

@@ -1,19 +1,15 @@
--- Starts in the order of their records, by insertion, and the merging of two lists of starts; `proofs/Merges.antt` shows that merging two
--- parts in order gives the whole in order. Of these the public promise, `SortedRight`, cites none. Assumes nothing.
+-- Starts in the order of their records, by insertion, and the merging of two lists of starts. Inner contracts cite it; `proofs/Merges.antt`
+-- shows that merging two parts in order gives the whole in order. Assumes nothing.
 use mathlib.Core.Path.{_≡_}
 use mathlib.Core.Bool.{Bool, true, false}
-use mathlib.Core.List.{List, [], _∷_, _++_, map}
-use Prim.Native.Nat.{ℕ, _≤_, _<_}
-use lib.Dec.{T}
-use lib.ListN.{length, getD, take, drop}
+use mathlib.Core.List.{List, [], _∷_, _++_}
+use Prim.Native.Nat.{ℕ, _≤_}
+use lib.ListN.{length, take, drop}
 use lib.Seq.{slice}
 use Rattle.letters.specs.Choice.{pick}
 use Rattle.entries.specs.Limits.{bookLimit}
-use Rattle.entries.specs.Entries.{Entry, entryAt, isFramed}
-use Rattle.entries.specs.Book.{IsBook}
-use Rattle.entries.specs.Map.{liveCount}
-use Rattle.entries.specs.Rank.{sorted}
-use Rattle.filing.specs.Filing.{before, AllKeyed, startOf, keyRoom, mostLive}
+use Rattle.entries.specs.Entries.{entryAt}
+use Rattle.filing.specs.Filing.{before, AllKeyed, keyRoom}
 
 module _ (less : ℕ → ℕ → Bool) where
   -- a start among others that are in order, behind those that it does not go before
@@ -78,12 +74,3 @@ pub record MergeReady (bytes keys starts : List ℕ) (first middle second : ℕ)
   pub in-first : first ≤ middle
   pub in-second : middle ≤ second
   pub within : second ≤ length starts
-
--- the promise of `sort_records`: the starts of the live records in word order, at the front; all behind them stays
-pub record SortedRight (bytes starts-before starts : List ℕ) (count : ℕ) : Type 0 where
-  pub live : (list : List Entry) → IsBook bytes list → count ≡ liveCount list
-  pub ordered : (list : List Entry) → IsBook bytes list → take count starts ≡ map startOf (sorted before list)
-  pub framed : (place : ℕ) → place < count → T (isFramed bytes (getD starts place 0))
-  pub few : count ≤ mostLive
-  pub start-room : length starts ≡ mostLive
-  pub other-starts : drop count starts ≡ drop count starts-before

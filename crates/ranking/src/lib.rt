@@ -13,8 +13,7 @@ ghost use Rattle.entries.specs.Entries.{entries};
 ghost use Rattle.entries.specs.Book.{Opened};
 ghost use Rattle.keeping.specs.Outcome.{foundOutcome};
 ghost use Rattle.filing.specs.Filing.{mostLive};
-ghost use Rattle.ranking.specs.Sorting.{SortedRight};
-ghost use Rattle.ranking.specs.Rank.{rankOf};
+ghost use Rattle.ranking.specs.Rank.{rankOf, SortedRight};
 
 mod merging; // merging.rt: a merge sort of starts
 

@@ -32,12 +32,9 @@ fn is_second_next(
     if second == starts.len() {
         return false;
     }
-    is_before(
-        book,
-        keys,
-        place_of(starts[second]),
-        place_of(starts[first]),
-    )
+    let later = place_of(starts[second]);
+    let earlier = place_of(starts[first]);
+    is_before(book, keys, later, earlier)
 }
 
 // Merges the parts before and from `middle` into `room`.
@@ -65,10 +62,10 @@ fn copy_back(starts: &mut [u16], room: &[u16])
     requires { ⌜ length (now starts) ≤ length (now room) ⌝ }
     ensures { λ _. ⌜ now (starts .exit) ≡ take (length (now (starts .entry))) (now (room .entry)) ⌝ }
 {
-    let mut next = 0;
-    while next < starts.len() {
-        starts[next] = room[next];
-        next += 1;
+    let mut at = 0;
+    while at < starts.len() {
+        starts[at] = room[at];
+        at += 1;
     }
 }
 

@@ -3,7 +3,7 @@
 use borrow.Author.Needs.{needs}
 use mathlib.Core.Path.{_≡_, ap, _∙_}
 use mathlib.Core.List.{List, _++_, append-nil}
-use Prim.Native.Nat.{ℕ, _+_, _-_, _≤_}
+use Prim.Native.Nat.{ℕ, _-_, _≤_}
 use native.Mathlib.Omega.{arith}
 use lib.ListN.{length, getD, take, drop, set, length-set}
 use lib.Seq.{drop-length}
@@ -13,10 +13,10 @@ use Rattle.ranking.proofs.merging.copy_back.Statement.{statement}
 use Rattle.ranking.proofs.merging.copy_back.Tie as tie
 
 abbrev Inv-loop : tie.InvT-loop
-Inv-loop starts₀ room next₀ starts next = (next ≤ length starts₀) × (starts ≡ take next room ++ drop next starts₀) × (length starts ≡ length starts₀)
+Inv-loop starts₀ room at₀ starts at = (at ≤ length starts₀) × (starts ≡ take at room ++ drop at starts₀) × (length starts ≡ length starts₀)
 
 abbrev μ-loop : tie.MeasureT-loop
-μ-loop starts₀ room next₀ starts next = length starts₀ - next
+μ-loop starts₀ room at₀ starts at = length starts₀ - at
 
 loop-holds : tie.Need-loop-holds Inv-loop μ-loop
 loop-holds c = search needs
@@ -33,8 +33,8 @@ mul-starts-2 c = search needs
 slice-write-starts : tie.Need-slice-write-starts Inv-loop μ-loop
 slice-write-starts c = search needs
 
-add-next : tie.Need-add-next Inv-loop μ-loop
-add-next c = search needs
+add-at : tie.Need-add-at Inv-loop μ-loop
+add-at c = search needs
 
 loop-less : tie.Need-loop-less Inv-loop μ-loop
 loop-less c = search needs
@@ -46,8 +46,8 @@ loop-again c =
     let d = now (s .args .starts) in
     let r = now (s .args .room) in (
       omega arith,
-      ap (λ (x : List ℕ). set x (l .next) (getD r (l .next) 0)) (l .inv .1) ∙ copy-one d r (l .next) (omega arith) (omega (arith, s .pre)),
-      length-set (l .starts) (l .next) (getD r (l .next) 0) ∙ l .inv .2,
+      ap (λ (x : List ℕ). set x (l .at) (getD r (l .at) 0)) (l .inv .1) ∙ copy-one d r (l .at) (omega arith) (omega (arith, s .pre)),
+      length-set (l .starts) (l .at) (getD r (l .at) 0) ∙ l .inv .2,
     )
 
 same-length : tie.Need-same-length Inv-loop μ-loop
@@ -59,7 +59,7 @@ returns c =
     let s = c .before .before .args in
     let d = now (s .starts) in
     let r = now (s .room) in
-    let e : l .next ≡ length d = omega arith in
+    let e : l .at ≡ length d = omega arith in
     l .inv .1 ∙ ap (λ (n : ℕ). take n r ++ drop n d) e ∙ ap (λ (x : List ℕ). take (length d) r ++ x) (drop-length d) ∙ append-nil (take (length d) r)
 
 pub copy-back-spec : {M : Type 1} → statement M
@@ -73,7 +73,7 @@ copy-back-spec =
     shared-slice-read-starts
     mul-starts-2
     slice-write-starts
-    add-next
+    add-at
     loop-less
     loop-again
     same-length
