@@ -1,6 +1,6 @@
 // The reading of a word and its key in one pass. The weights of the last two syllables are kept packed, a byte for each weight.
 use crate::gain::gain;
-use crate::gain::head_weights;
+use crate::gain::weighing;
 use formula::Word;
 use reading::read::ReadAnswer;
 use reading::walk::answer_at;
@@ -48,17 +48,6 @@ fn put_last(bytes: &mut [u8; 320], count: usize, packed: u64)
     put_weights(bytes, 5 * (count - 1), packed);
 }
 
-// A syllable is put when the next one begins.
-fn put_finished(bytes: &mut [u8; 320], change: u8, count: usize, packed: u64)
-    requires { ⌜ count ≤ 64 ⌝ }
-    ensures { λ _. ⌜ now (bytes .exit) ≡ bytesAfter change count packed (now (bytes .entry)) ⌝ }
-{
-    if change != 2 {
-        return;
-    }
-    put_last(bytes, count, packed);
-}
-
 // A syllable that the value x ends: great sa is its final.
 fn closed_by(x: u16, last: u64) -> u64
     requires { ⌜ last < 0x300000000 ⌝ }
@@ -70,23 +59,34 @@ fn closed_by(x: u16, last: u64) -> u64
     last
 }
 
-// The weights after the value x: as many syllables, which gain; one more; or one fewer, where the last head is the final of the one before.
-fn weights_after(weights: Weights, change: u8, state: usize, x: u16) -> Weights
-    requires { ⌜ (state < 16) × Fit change weights ⌝ }
-    ensures { λ r. ⌜ r ≡ weightsAfter change state x weights ⌝ }
+// The weights after the value x: one syllable more, and the one before it is put; as many, where the last gains; or one fewer, where the last
+// head is the final of the one before.
+fn weights_after(
+    bytes: &mut [u8; 320],
+    count: usize,
+    weights: Weights,
+    change: u8,
+    state: usize,
+    x: u16,
+) -> Weights
+    requires { ⌜ (count ≤ 64) × (state < 16) × Fit change weights ⌝ }
+    ensures { λ r. ⌜ (r ≡ weightsAfter change state x weights) × (now (bytes .exit) ≡ bytesAfter change count (r .before) (now (bytes .entry))) ⌝ }
 {
+    let weighs = weighing(x);
     let last = weights.last;
     let before = weights.before;
-    if change == 1 {
+    if change == 2 {
+        let closed = closed_by(x, last);
+        put_last(bytes, count, closed);
         return Weights {
-            last: last + gain(state, x),
-            before,
+            last: weighs,
+            before: closed,
         };
     }
-    if change == 2 {
+    if change == 1 {
         return Weights {
-            last: head_weights(x),
-            before: closed_by(x, last),
+            last: last + gain(state, weighs),
+            before,
         };
     }
     Weights {
@@ -114,8 +114,7 @@ pub fn fill(word: &[u16], bytes: &mut [u8; 320]) -> ReadAnswer
             return answer_at(word, at, state, count);
         }
         let change = entry / 16;
-        weights = weights_after(weights, change, state, x);
-        put_finished(bytes, change, count, weights.before);
+        weights = weights_after(bytes, count, weights, change, state, x);
         count = count + change as usize - 1;
         state = (entry % 16) as usize;
         at += 1;
