@@ -1,20 +1,15 @@
 -- A key is filled syllable by syllable: five bytes more of the zeros become the weights of the next one, and at the row's end they are
 -- the row's. Assumes nothing.
 use mathlib.Core.Path.{_≡_, refl, ap, sym, subst, _∙_}
-use mathlib.Core.List.{List, [], _∷_, _++_, map, append-assoc, append-nil}
+use mathlib.Core.List.{List, _++_}
 use Prim.Native.Nat.{ℕ, zero, suc, _+_, _*_, _-_, _<_, _≤_}
 use native.Mathlib.Nat.{zero-add, suc-add}
-use native.Mathlib.Numerals.{add-one}
 use native.Mathlib.Omega.{arith}
-use lib.Dec.{T}
-use lib.ListN.{length, take, drop, getD, set, length-append, length-take, length-replicate}
-use lib.Seq.{take-at, drop-append-add, take-suc, sets, sets-eq}
+use lib.ListN.{length, take, drop, getD, length-append, length-take, length-replicate}
+use lib.Seq.{take-at, drop-append-add, sets, sets-eq}
 use Rattle.formula.specs.Limits.{limit}
-use Rattle.formula.specs.Syllable.{Final, no-final, finalOf}
-use Rattle.formula.specs.Row.{Row, isRowAfter}
-use Rattle.formula.specs.Numbers.{numbersOf}
+use Rattle.formula.specs.Syllable.{no-final}
 use Rattle.formula.specs.declared.Syllable.{Syllable as Numbers}
-use Rattle.rows.proofs.Complete.{first}
 use Rattle.refusals.specs.declared.Refusal.{Refusal}
 use Rattle.reading.specs.Answer.{outcomeOf}
 use Rattle.reading.specs.declared.read.ReadAnswer.{ReadAnswer}
@@ -22,15 +17,10 @@ use Rattle.reading.specs.declared.read.ReadAnswer.the-variants.{Syllables, Refu
 use Rattle.normaliser.specs.Normal.{NormalRight}
 use Rattle.normaliser.specs.declared.Normalised.{Normalised}
 use Rattle.weighing.specs.Weighed.{weightsBy}
-use Rattle.weighing.specs.Keys.{keyLimit, usedBytes, zeros, keyOf}
-use Rattle.weighing.proofs.Weighted.{weights-numbers}
+use Rattle.weighing.specs.Keys.{keyLimit, usedBytes, zeros, keyOf, keyBy}
+use Rattle.weighing.proofs.Joined.{five, key-length, key-next, key-of-row}
 use Rattle.collation.specs.Keyed.{KeyFor, KeyRight}
 use Rattle.collation.proofs.Stored.{stores, row-length, front}
-
--- the weights of syllables by numbers, joined
-abbrev pub keyBy : List Numbers → List ℕ
-keyBy [] = []
-keyBy (s ∷ list) = weightsBy s ++ keyBy list
 
 -- the first `at` of `count` syllables are in the key
 pub record Filling (count : ℕ) (syllables : List Numbers) (bytes : List ℕ) (at : ℕ) : Type 0 where
@@ -38,18 +28,6 @@ pub record Filling (count : ℕ) (syllables : List Numbers) (bytes : List ℕ) (
   pub fits : count ≤ limit
   pub room : length syllables ≡ limit
   pub filled : bytes ≡ keyBy (take at syllables) ++ zeros (keyLimit - usedBytes at)
-
-pub five : (s : Numbers) → length (weightsBy s) ≡ 5
-unfolding weightsBy
-five s = refl
-
-key-append : (a b : List Numbers) → keyBy (a ++ b) ≡ keyBy a ++ keyBy b
-key-append [] b = refl
-key-append (s ∷ a) b = rw (key-append a b) (sym (append-assoc (weightsBy s) (keyBy a) (keyBy b)))
-
-key-length : (list : List Numbers) → length (keyBy list) ≡ 5 * length list
-key-length [] = refl
-key-length (s ∷ list) = length-append (weightsBy s) (keyBy list) ∙ omega (arith, five s, key-length list)
 
 drop-zeros : (n m : ℕ) → drop n (zeros (n + m)) ≡ zeros m
 drop-zeros zero m = ap zeros (zero-add m)
@@ -102,8 +80,7 @@ module _ (count : ℕ) (syllables : List Numbers) (bytes : List ℕ) (at : ℕ) 
   unfolding before next
   longer =
       let l = f .fits in
-      ap (λ (k : ℕ). keyBy (take k syllables)) (add-one at) ∙ ap keyBy (take-suc syllables at d (omega (arith, f .room)))
-      ∙ key-append (take at syllables) (getD syllables at d ∷ []) ∙ ap (λ (k : List ℕ). keyBy (take at syllables) ++ k) (append-nil (weightsBy (getD syllables at d)))
+      key-next syllables at d (omega (arith, f .room))
 
   put : sets bytes (5 * at) next ≡ keyBy (take (at + 1) syllables) ++ zeros rest
   unfolding next
@@ -117,25 +94,6 @@ module _ (count : ℕ) (syllables : List Numbers) (bytes : List ℕ) (at : ℕ) 
   pub fill-next : (after : List ℕ) → after ≡ sets bytes (5 * at) (weightsBy (getD syllables at d)) → Filling count syllables after (at + 1)
   unfolding next rest
   fill-next after e = record { within = omega arith; fits = f .fits; room = f .room; filled = e ∙ put }
-
--- the weights of a row's numbers, joined, are the row's
-pub key-of-row : (f : Final) (row : Row) → T (isRowAfter f row) → keyBy (map numbersOf row) ≡ keyOf row
-key-of-row f [] t = refl
-key-of-row f (s ∷ row) t =
-    let q = first f s row t in
-    rw (weights-numbers s (q .is), key-of-row (finalOf s) row (q .rest))
-
--- five stores one after the other
-pub stores-five : (l : List ℕ) (at : ℕ) (s : Numbers) (w : List ℕ) → w ≡ weightsBy s
-    → set (set (set (set (set l at (getD w 0 0)) (at + 1) (getD w 1 0)) (at + 2) (getD w 2 0)) (at + 3) (getD w 3 0)) (at + 4) (getD w 4 0)
-    ≡ sets l at (weightsBy s)
-unfolding weightsBy
-stores-five l at s w e =
-    let one : at + 1 ≡ suc at = omega arith in
-    let two : at + 2 ≡ suc (suc at) = omega arith in
-    let three : at + 3 ≡ suc (suc (suc at)) = omega arith in
-    let four : at + 4 ≡ suc (suc (suc (suc at))) = omega arith in
-    rw (e, one, two, three, four)
 
 -- the key is right where every syllable is in it
 pub key-right : (word : List ℕ) (r : Normalised) → NormalRight word r → (n : ℕ) → r .answer ≡ Syllables n → (bytes : List ℕ) (at : ℕ)

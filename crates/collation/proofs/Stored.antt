@@ -4,18 +4,18 @@ use mathlib.Core.Path.{_≡_, refl, ap, subst, _∙_}
 use mathlib.Core.List.{List, _++_, map}
 use Prim.Native.Nat.{ℕ, _-_, _≤_}
 use native.Mathlib.Omega.{arith}
-use lib.ListN.{length, take, replicate, length-append, length-map, length-replicate}
+use lib.ListN.{length, take, replicate, length-append, length-replicate}
 use lib.Seq.{take-at}
 use Rattle.formula.specs.Limits.{limit}
 use Rattle.formula.specs.Syllable.{no-final}
 use Rattle.formula.specs.Row.{Row, Gives}
-use Rattle.formula.specs.Numbers.{numbersOf, nothing}
+use Rattle.formula.specs.Numbers.{numbersOf}
 use Rattle.formula.specs.Weighing.{weights}
 use Rattle.formula.specs.declared.Word.{Word}
 use Rattle.reading.specs.Answer.{outcomeOf, nothings, SyllablesFor}
 use Rattle.reading.specs.declared.read.ReadAnswer.{ReadAnswer}
 use Rattle.reading.specs.declared.read.ReadAnswer.the-variants.{Syllables}
-use Rattle.reading.proofs.Recorded.{count-limit}
+use Rattle.reading.proofs.Recorded.{count-limit, count-of-row, front-of-row, places-of-row}
 use Rattle.storage.specs.Stored.{storedForm}
 use Rattle.normaliser.specs.Normal.{Stores, StoreAnswers, NormalRight}
 use Rattle.normaliser.specs.declared.Normalised.{Normalised}
@@ -34,18 +34,14 @@ module _ (word : List ℕ) (r : Normalised) (right : NormalRight word r) (n : �
   syllables = subst (λ (a : ReadAnswer). SyllablesFor (storedForm word) (outcomeOf a) (r .syllables)) e (right .syllables)
 
   pub row-length : (row : Row) → Gives row (storedForm word) → length row ≡ n
-  row-length row g = ap length (stores .reads .only row g) ∙ stores .reads .count
+  row-length = count-of-row (storedForm word) n (stores .reads) (r .syllables) syllables
 
   -- the first n of the syllables are those of the row
   pub front : (row : Row) → Gives row (storedForm word) → take n (r .syllables) ≡ map numbersOf row
-  front row g =
-      ap (take n) (syllables row g) ∙ take-at (map numbersOf row) (nothings (limit - n)) n (length-map row numbersOf ∙ row-length row g)
+  front = front-of-row (storedForm word) n (stores .reads) (r .syllables) syllables
 
   pub room : length (r .syllables) ≡ limit
-  room =
-      let s = stores .reads in
-      ap length (syllables (s .row) (s .gives)) ∙ length-append (map numbersOf (s .row)) (nothings (limit - n))
-      ∙ omega (arith, length-map (s .row) numbersOf, s .count, at-most, length-replicate (limit - n) nothing)
+  room = places-of-row (storedForm word) n (stores .reads) (r .syllables) syllables
 
   pub front-weights : (row : Row) → Gives row (storedForm word) → map weightsBy (take n (r .syllables)) ≡ weights row
   front-weights row g = ap (map weightsBy) (front row g) ∙ weights-of-row no-final row (g .is-row)

@@ -60,7 +60,7 @@ fn stock_part(byte: u8) -> u32
 }
 
 // The stock number of the record at a place, low byte first.
-fn stock_at(book: &[u8], at: usize) -> u32
+pub fn stock_at(book: &[u8], at: usize) -> u32
     requires { ⌜ (length (now book) ≤ bookLimit) × (at + 7 ≤ length (now book)) ⌝ }
     ensures { λ r. ⌜ r ≡ entryAt (now (book .entry)) at .stock ⌝ }
 {

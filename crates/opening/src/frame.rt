@@ -61,7 +61,7 @@ fn is_framed(book: &[u8], at: usize) -> bool
 }
 
 // The values of some bytes.
-fn values_of(book: &[u8], from: usize, count: usize) -> [u16; Word::LIMIT]
+pub fn values_of(book: &[u8], from: usize, count: usize) -> [u16; Word::LIMIT]
     requires { ⌜ (count ≤ limit) × (from + count ≤ length (now book)) ⌝ }
     ensures { λ r. ⌜ (take count r ≡ map valueOf (take count (drop from (now (book .entry))))) × (length r ≡ limit) ⌝ }
 {

@@ -5,15 +5,16 @@ use mathlib.Core.List.{List, [], _∷_, _++_, map}
 use Prim.Native.Nat.{ℕ, zero, suc, _-_, _≤_, _<_}
 use native.Mathlib.Nat.{le-of-suc-le-suc, not-suc-le-zero}
 use native.Mathlib.Omega.{arith}
-use lib.ListN.{length, getD, length-append}
+use lib.ListN.{length, getD, take, length-append, length-map, length-replicate}
+use lib.Seq.{take-at}
 use Rattle.letters.proofs.Written.{medial-written}
 use Rattle.formula.specs.Limits.{limit}
 use Rattle.formula.specs.Syllable.{Final, no-final, Syllable, syllable, bare, finalOf, part}
 use Rattle.formula.specs.Row.{Row, joinAfter, Gives}
 use Rattle.formula.specs.Record.{recordOf}
-use Rattle.formula.specs.Numbers.{numbersOf}
+use Rattle.formula.specs.Numbers.{numbersOf, nothing}
 use Rattle.formula.specs.declared.Syllable.{Syllable as Numbers}
-use Rattle.reading.specs.Answer.{Reads, outcomeOf, Answers, nothings, SyllablesFor, ReadRight}
+use Rattle.reading.specs.Answer.{Reads, accepts, outcomeOf, Answers, nothings, SyllablesFor, ReadRight}
 use Rattle.reading.specs.Records.{medialWeightBy, bytesBy, HasRecord}
 use Rattle.reading.specs.declared.read.ReadAnswer.{ReadAnswer}
 use Rattle.reading.specs.declared.read.ReadAnswer.the-variants.{Syllables}
@@ -23,7 +24,7 @@ use Rattle.reading.specs.declared.read.Reading.{Reading}
 part-length : (f : Final) (s : Syllable) → 1 ≤ length (part f s)
 part-length f (syllable h m v g t) = omega arith
 
-row-bound : (f : Final) (row : Row) → length row ≤ length (joinAfter f row)
+pub row-bound : (f : Final) (row : Row) → length row ≤ length (joinAfter f row)
 row-bound f [] = omega arith
 row-bound f (s ∷ row) =
     let p = part-length f s in
@@ -35,6 +36,19 @@ count-limit word n r =
     let c = r .count in
     let s = r .admissible .short in
     omega (arith, row-bound no-final (r .row), ap length (r .gives .joined))
+
+-- the syllables of a word that has n: its row's first, in as many places as a word may have
+module _ (word : List ℕ) (n : ℕ) (reads : Reads word n) (list : List Numbers) (is : SyllablesFor word (accepts n) list) where
+  pub count-of-row : (row : Row) → Gives row word → length row ≡ n
+  count-of-row row g = ap length (reads .only row g) ∙ reads .count
+
+  pub front-of-row : (row : Row) → Gives row word → take n list ≡ map numbersOf row
+  front-of-row row g = ap (take n) (is row g) ∙ take-at (map numbersOf row) (nothings (limit - n)) n (length-map row numbersOf ∙ count-of-row row g)
+
+  pub places-of-row : length list ≡ limit
+  places-of-row =
+      ap length (is (reads .row) (reads .gives)) ∙ length-append (map numbersOf (reads .row)) (nothings (limit - n))
+      ∙ omega (arith, length-map (reads .row) numbersOf, reads .count, count-limit word n reads, length-replicate (limit - n) nothing)
 
 pub bytes-numbers : (s : Syllable) → bytesBy (numbersOf s) ≡ recordOf s
 unfolding recordOf medialWeightBy
@@ -51,7 +65,7 @@ module _ (word : List ℕ) (reading : Reading) (right : ReadRight word reading) 
   pub reads : Reads word n
   reads = subst (λ (a : ReadAnswer). Answers word (outcomeOf a)) e (right .answers)
 
-  syllables : (row : Row) → Gives row word → reading .syllables ≡ map numbersOf row ++ nothings (limit - n)
+  pub syllables : (row : Row) → Gives row word → reading .syllables ≡ map numbersOf row ++ nothings (limit - n)
   syllables = subst (λ (a : ReadAnswer). SyllablesFor word (outcomeOf a) (reading .syllables)) e (right .syllables)
 
   pub has-record : (k : ℕ) → k < n → (d : Numbers) (bytes : List ℕ) → bytes ≡ bytesBy (getD (reading .syllables) k d) → HasRecord word k bytes

@@ -2,6 +2,9 @@
 use formula::Syllable;
 use letters::weight::Weighed;
 ghost use mathlib.Core.Path.{_≡_};
+ghost use Prim.Native.Nat.{_+_, _≤_};
+ghost use lib.ListN.{length};
+ghost use lib.Seq.{sets};
 ghost use Rattle.weighing.specs.Weighed.{weightOr, weightsBy};
 
 // The weight, or what stands for it where there is none.
@@ -25,4 +28,17 @@ pub fn weights_of(s: Syllable) -> [u8; 5]
     let by_final = weight_or(letters::weight::final_weight(letter), 0);
     let by_vowel = weight_or(letters::weight::independent_vowel_weight(head), s.vowel);
     [by_head, by_medials, by_final, by_vowel, s.tone]
+}
+
+// Puts the weights of a syllable at a place of a key.
+pub fn put_weights(bytes: &mut [u8], at: usize, s: Syllable)
+    requires { ⌜ at + 5 ≤ length (now bytes) ⌝ }
+    ensures { λ _. ⌜ now (bytes .exit) ≡ sets (now (bytes .entry)) at (weightsBy s) ⌝ }
+{
+    let weights = weights_of(s);
+    bytes[at] = weights[0];
+    bytes[at + 1] = weights[1];
+    bytes[at + 2] = weights[2];
+    bytes[at + 3] = weights[3];
+    bytes[at + 4] = weights[4];
 }

@@ -8,6 +8,7 @@ ghost use mathlib.Core.Path.{_≡_};
 ghost use Rattle.storage.specs.Stored.{storedForm};
 ghost use Rattle.entries.specs.Entries.{entries};
 ghost use Rattle.keeping.specs.Outcome.{foundOutcome, placedOutcome, checkOf, findOf};
+ghost use Rattle.ranking.specs.Rank.{rankOf};
 ghost use Rattle.wordbook.specs.Calls.{checkedOutcome, CallAnswers, AddPromise, RemovePromise};
 
 pub mod enter; // enter.rt: the word that is handed in with a book
@@ -74,4 +75,11 @@ pub fn remove(book: &mut [u8], word: &[u16]) -> Placed
     let count = form.count;
     let values = form.values;
     keeping::change::remove(book, &values[..count])
+}
+
+// Start and stock number of the live record with `number` live records before it in word order.
+pub fn rank(book: &[u8], number: usize) -> Found
+    ensures { λ r. ⌜ foundOutcome r ≡ rankOf (entries (now (book .entry))) number ⌝ }
+{
+    ranking::rank(book, number)
 }

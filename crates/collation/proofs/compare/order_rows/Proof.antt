@@ -9,7 +9,7 @@ use borrow.Author.Tests.{ltb-true, ltb-false}
 use lib.ListN.{length}
 use Rattle.weighing.specs.Order.{orderValues}
 use Rattle.weighing.proofs.Passing.{AlikeTo, start}
-use Rattle.collation.proofs.Keying.{five}
+use Rattle.weighing.proofs.Joined.{five}
 use Rattle.collation.proofs.Fronts.{frontWeights, rows-next, rows-differ, rows-end}
 use Rattle.collation.proofs.compare.order_rows.Statement.{statement}
 use Rattle.collation.proofs.compare.order_rows.Tie as tie

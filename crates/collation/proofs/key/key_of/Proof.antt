@@ -1,9 +1,10 @@
 -- `collation::key::key_of` meets its contract: the first syllables are in the key and the rest is zero, and with the last one it is the row's.
 -- The measure is what is left of the syllables. Assumes nothing.
+use mathlib.Core.Path.{sym}
 use Prim.Native.Nat.{_-_}
 use native.Mathlib.Omega.{arith}
 use borrow.Author.Needs.{needs}
-use Rattle.collation.proofs.Keying.{Filling, fill-start, fill-next, key-right, key-refused}
+use Rattle.collation.proofs.Keying.{Filling, fill-start, fill-length, fill-next, key-right, key-refused}
 use Rattle.collation.proofs.Stored.{at-most, room}
 use Rattle.collation.proofs.key.key_of.Statement.{statement}
 use Rattle.collation.proofs.key.key_of.Tie as tie
@@ -37,6 +38,9 @@ loop-holds c =
     (at-most word (a .normal-form .result) (a .normal-form .ensures) count (c .before .before .answer .given .1))
     (room word (a .normal-form .result) (a .normal-form .ensures) count (c .before .before .answer .given .1))
 
+slice-aggregate-put-weights : tie.Need-slice-aggregate-put-weights Inv-loop μ-loop
+slice-aggregate-put-weights c = let l = c .before .before .loop in sym (fill-length _ _ (l .bytes) (l .at) (l .inv))
+
 mul-put-weights : tie.Need-mul-put-weights Inv-loop μ-loop
 mul-put-weights c = search needs
 
@@ -47,7 +51,10 @@ array-copy-out-put-weights : tie.Need-array-copy-out-put-weights Inv-loop μ-loo
 array-copy-out-put-weights c = search needs
 
 put-weights-requires : tie.Need-put-weights-requires Inv-loop μ-loop
-put-weights-requires c κs = let l = c .before .before .before .loop .inv .fits in omega arith
+put-weights-requires c κs =
+    let l = c .before .before .before .loop in
+    let f = l .inv .fits in
+    omega (arith, fill-length _ _ (l .bytes) (l .at) (l .inv))
 
 add-at : tie.Need-add-at Inv-loop μ-loop
 add-at c = search needs
@@ -57,9 +64,9 @@ loop-less c = search needs
 
 loop-again : tie.Need-loop-again Inv-loop μ-loop
 loop-again c =
-    let l = c .before .before .before .before in
+    let l = c .before .before .before .before .before in
     fill-next (l .before .before .before .answer .given .0 .0) (l .before .before .before .before .before .normal-form .result .syllables) (l .loop .bytes)
-    (l .loop .at) (l .loop .inv) (omega arith) _ (c .put-weights .last .0) (c .put-weights .ensures)
+    (l .loop .at) (l .loop .inv) (omega arith) _ (c .before .put-weights .last .0) (c .before .put-weights .ensures)
 
 returns-2 : tie.Need-returns-2 Inv-loop μ-loop
 returns-2 c =
@@ -80,6 +87,7 @@ key-of-spec =
     enum-told
     returns
     loop-holds
+    slice-aggregate-put-weights
     mul-put-weights
     mul-put-weights-2
     array-copy-out-put-weights

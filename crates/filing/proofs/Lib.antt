@@ -1,0 +1,8 @@
+pub mod Stores
+pub mod Rows
+pub mod Putting
+pub mod Words
+pub mod Live
+pub mod Collecting
+pub mod Laws
+pub mod Comparing

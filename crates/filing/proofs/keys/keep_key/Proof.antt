@@ -1,0 +1,127 @@
+-- `filing::keys::keep_key` meets its contract: the word is readable, so it is read as its row, whose key is put.
+-- Assumes nothing.
+use borrow.Author.Needs.{needs}
+use mathlib.Core.Path.{_≡_, sym, ap, subst, _∙_}
+use mathlib.Core.List.{List, map}
+use Prim.Native.Nat.{ℕ, _+_, _*_}
+use native.Mathlib.Omega.{arith}
+use lib.ListN.{take, drop}
+use lib.Seq.{sets, length-take-le}
+use denote.Ref.{now}
+use Rattle.reading.specs.Answer.{ReadRight}
+use Rattle.entries.specs.Entries.{valueOf, wordAt}
+use Rattle.entries.proofs.Records.{Framed, framed-true}
+use Rattle.filing.specs.Filing.{rowOf}
+use Rattle.filing.proofs.Rows.{kept-length, key-within}
+use Rattle.filing.proofs.Words.{not-refused, read-few, read-places, read-count, read-key}
+use Rattle.filing.proofs.keys.keep_key.Statement.{statement}
+use Rattle.filing.proofs.keys.keep_key.Tie as tie
+
+-- the record and its word
+frame : (s : tie.Start) → Framed (now (s .args .book)) (s .args .at)
+frame s = framed-true _ _ (s .pre .2)
+
+abbrev word : tie.Start → List ℕ
+word s = wordAt (now (s .args .book)) (s .args .at)
+
+abbrev start-of : tie.After-read → tie.Start
+start-of c = c .before .before .before .before .before .before .before
+
+-- the word is read
+read-word : (c : tie.After-read) → ReadRight (word (start-of c)) (c .read .result)
+read-word c =
+    let s = start-of c in
+    let w = c .before .before .before in
+    let v = c .before .before in
+    let e : take (w .wide .result) (v .values-of .result) ≡ word s =
+    v .values-of .ensures .0 ∙ ap (λ (n : ℕ). map valueOf (take n (drop (s .args .at + 7) (now (s .args .book))))) (w .wide .ensures .0) in
+    subst (λ (l : List ℕ). ReadRight l (c .read .result)) e (c .read .ensures)
+
+add-wide : tie.Need-add-wide
+add-wide c = let s = c .before .before in let f = frame s in omega (arith, f .room, s .pre .0)
+
+shared-slice-read-wide : tie.Need-shared-slice-read-wide
+shared-slice-read-wide c = let s = c .before .before .before in let f = frame s in omega (arith, f .room, s .pre .0)
+
+wide-requires : tie.Need-wide-requires
+wide-requires c κs = search needs
+
+add-values-of : tie.Need-add-values-of
+add-values-of c = let s = c .before .before .before .before in let f = frame s in omega (arith, f .room, s .pre .0)
+
+values-of-requires : tie.Need-values-of-requires
+values-of-requires c κs =
+    let f = frame (c .before .before .before .before) in
+    (omega (arith, f .short, c .wide .ensures .0), omega (arith, f .room, c .wide .ensures .0))
+
+array-share-prefix-values : tie.Need-array-share-prefix-values
+array-share-prefix-values c =
+    let f = frame (c .before .before .before .before .before) in omega (arith, f .short, c .before .wide .ensures .0, c .values-of .ensures .1)
+
+slice-aggregate-read : tie.Need-slice-aggregate-read
+slice-aggregate-read c =
+    let f = frame (c .before .before .before .before .before .before) in
+    sym
+    (length-take-le (c .before .before .wide .result) (c .before .values-of .result)
+    (omega (arith, f .short, c .before .before .wide .ensures .0, c .before .values-of .ensures .1)))
+
+read-requires : tie.Need-read-requires
+read-requires c κs = search needs
+
+enum-known-answer : tie.Need-enum-known-answer
+enum-known-answer c = search needs
+
+mul-put-key : tie.Need-mul-put-key
+mul-put-key c = let s = start-of (c .before .before .before .before .before) in let f = frame s in omega (arith, f .room, s .pre .0)
+
+put-key-requires : tie.Need-put-key-requires
+put-key-requires c κs =
+    let r = c .before .before .before .before .before in
+    let s = start-of r in
+    let a = c .before .before .answer .given in
+    let k = key-within (now (s .args .book)) (s .args .at) (s .pre .0) (frame s) (s .pre .3) .1 in (
+      read-few (word s) (s .pre .3) (r .read .result) (read-word r) (a .0 .0) (a .1),
+      read-places (word s) (s .pre .3) (r .read .result) (read-word r) (a .0 .0) (a .1),
+      omega (arith, s .pre .1, kept-length (rowOf (word s)), read-count (word s) (s .pre .3) (r .read .result) (read-word r) (a .0 .0) (a .1)),
+      s .pre .1,
+    )
+
+enum-told : tie.Need-enum-told
+enum-told c = search needs
+
+same-length : tie.Need-same-length
+same-length c = search needs
+
+returns : tie.Need-returns
+returns c =
+    let r = c .before .before .before .before .before .before .before .before in
+    let s = start-of r in
+    let a = c .before .before .before .before .before .answer .given in
+    c .before .before .put-key .ensures
+    ∙ ap (sets (now (s .args .keys)) (5 * s .args .at)) (read-key (word s) (s .pre .3) (r .read .result) (read-word r) (a .0 .0) (a .1))
+
+returns-2 : tie.Need-returns-2
+returns-2 c =
+    let r = c .before .before .before in
+    let s = start-of r in
+    absurd (not-refused (word s) (s .pre .3) (r .read .result) (read-word r) (c .enum-told .given .0 .0) (c .enum-told .given .1))
+
+pub keep-key-spec : {M : Type 1} → statement M
+keep-key-spec =
+    tie.close
+    (tie.spec
+    add-wide
+    shared-slice-read-wide
+    wide-requires
+    add-values-of
+    values-of-requires
+    array-share-prefix-values
+    slice-aggregate-read
+    read-requires
+    enum-known-answer
+    mul-put-key
+    put-key-requires
+    enum-told
+    same-length
+    returns
+    returns-2)

@@ -1,0 +1,95 @@
+// The live records of a book, each with its key: the number of its syllables and their weights.
+use formula::Syllable;
+use formula::Word;
+use opening::frame::has_mark;
+use opening::frame::values_of;
+use opening::frame::wide;
+use reading::read::ReadAnswer;
+use reading::read::read;
+use weighing::weigh::put_weights;
+ghost use mathlib.Core.Path.{_≡_};
+ghost use mathlib.Core.List.{_∷_};
+ghost use Prim.Native.Nat.{_+_, _*_, _≤_, _<_};
+ghost use lib.Dec.{T};
+ghost use lib.ListN.{length, take};
+ghost use lib.Seq.{sets};
+ghost use Rattle.formula.specs.Limits.{limit};
+ghost use Rattle.reading.specs.Answer.{Readable};
+ghost use Rattle.weighing.specs.Keys.{keyBy};
+ghost use Rattle.entries.specs.Limits.{bookLimit};
+ghost use Rattle.entries.specs.Entries.{wordAt, isFramed};
+ghost use Rattle.entries.specs.Book.{Opened};
+ghost use Rattle.filing.specs.Filing.{rowOf, keptKey, keyRoom, mostLive, FiledRight};
+
+// The bytes for the keys of a book: those of the record at a start stand from 5 times the start on.
+pub const KEY_ROOM: usize = 81920;
+
+// The most live records of a book.
+pub const MOST_LIVE: usize = 2048;
+
+// A number of syllables as a byte.
+fn count_byte(count: usize) -> u8
+    requires { ⌜ count ≤ limit ⌝ }
+    ensures { λ r. ⌜ r ≡ count ⌝ }
+{
+    count as u8
+}
+
+// A start as it is kept.
+fn start_of(at: usize) -> u16
+    requires { ⌜ at < bookLimit ⌝ }
+    ensures { λ r. ⌜ r ≡ at ⌝ }
+{
+    at as u16
+}
+
+// Puts the number of syllables and their weights at a place.
+fn put_key(keys: &mut [u8], from: usize, syllables: [Syllable; Word::LIMIT], count: usize)
+    requires { ⌜ (count ≤ limit) × (length syllables ≡ limit) × (from + (1 + 5 * count) ≤ length (now keys)) × (length (now keys) ≡ keyRoom) ⌝ }
+    ensures { λ _. ⌜ now (keys .exit) ≡ sets (now (keys .entry)) from (count ∷ keyBy (take count syllables)) ⌝ }
+{
+    keys[from] = count_byte(count);
+    let mut next = 0;
+    while next < count {
+        put_weights(keys, from + 1 + 5 * next, syllables[next]);
+        next += 1;
+    }
+}
+
+// Keeps the key of the record at a place, whose word is readable.
+fn keep_key(book: &[u8], at: usize, keys: &mut [u8])
+    requires { ⌜ (length (now book) ≤ bookLimit) × (length (now keys) ≡ keyRoom) × T (isFramed (now book) at) × Readable (wordAt (now book) at) ⌝ }
+    ensures { λ _. ⌜ now (keys .exit) ≡ sets (now (keys .entry)) (5 * at) (keptKey (rowOf (wordAt (now (book .entry)) at))) ⌝ }
+{
+    let count = wide(book[at + 2]);
+    let values = values_of(book, at + 7, count);
+    let reading = read(&values[..count]);
+    let answer = reading.answer;
+    let syllables = reading.syllables;
+    if let ReadAnswer::Syllables(number) = answer {
+        put_key(keys, 5 * at, syllables, number);
+    }
+}
+
+// Collects the starts of the live records, in their order, and keeps the key of each. Gives how many there are.
+pub fn file_records(
+    book: &[u8],
+    free: usize,
+    keys: &mut [u8; KEY_ROOM],
+    starts: &mut [u16; MOST_LIVE],
+) -> usize
+    requires { ⌜ Opened (now book) free × (length (now keys) ≡ keyRoom) × (length (now starts) ≡ mostLive) ⌝ }
+    ensures { λ r. ⌜ FiledRight (now (book .entry)) (now (keys .entry)) (now (starts .entry)) (now (keys .exit)) (now (starts .exit)) r ⌝ }
+{
+    let mut live = 0;
+    let mut at = 0;
+    while at < free {
+        if has_mark(book, at, b"MW") {
+            keep_key(book, at, keys);
+            starts[live] = start_of(at);
+            live += 1;
+        }
+        at += 7 + wide(book[at + 2]);
+    }
+    live
+}

@@ -1,0 +1,8 @@
+pub mod Ordered
+pub mod Merges
+pub mod Keyed
+pub mod Turns
+pub mod Halves
+pub mod InOrder
+pub mod Answers
+pub mod Laws

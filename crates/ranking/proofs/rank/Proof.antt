@@ -1,0 +1,98 @@
+-- `ranking::rank` meets its contract: the record at `number` of those in word order, or the live count where there is none.
+-- Assumes nothing.
+use mathlib.Core.Path.{_≡_, refl, sym, ap, subst, _∙_}
+use Prim.Native.Nat.{ℕ, _<_}
+use native.Mathlib.Omega.{arith}
+use denote.Ref.{now}
+use Rattle.entries.specs.Entries.{Entries, entryAt, entries}
+use Rattle.opening.specs.Opening.{openingOf, Told}
+use Rattle.opening.specs.declared.open.Opening.{Opening}
+use Rattle.keeping.specs.Outcome.{finds}
+use Rattle.ranking.specs.Rank.{rankOf}
+use Rattle.ranking.proofs.Answers.{too-high, counted-below, found-there, start-within}
+use borrow.Author.Needs.{needs}
+use Rattle.ranking.proofs.rank.Statement.{statement}
+use Rattle.ranking.proofs.rank.Tie as tie
+
+open-book-requires : tie.Need-open-book-requires
+open-book-requires c κs = search needs
+
+enum-known-place : tie.Need-enum-known-place
+enum-known-place c = search needs
+
+enum-known-live : tie.Need-enum-known-live
+enum-known-live c = search needs
+
+-- what opening the buffer told
+told : (c : tie.After-open-book) (opening : Opening) → c .open-book .result ≡ opening → Told (now (c .before .before .args .book)) opening
+told c opening e = subst (Told (now (c .before .before .args .book))) e (c .open-book .ensures .told)
+
+-- and that it is the definition's answer
+answered : (c : tie.After-open-book) (opening : Opening) → c .open-book .result ≡ opening
+    → opening ≡ openingOf (entries (now (c .before .before .args .book)))
+answered c opening e = sym e ∙ c .open-book .ensures .answer
+
+returns : tie.Need-returns
+returns c =
+    let o = c .before .before .before .before in
+    let g = c .before .before .live .given .1 in
+    too-high (told o _ g) (answered o _ g) (o .before .before .args .number) (c .if1 .taken)
+
+sort-records-requires : tie.Need-sort-records-requires
+sort-records-requires c κs = (told (c .before .before .before .before .before) _ (c .before .before .before .live .given .1), refl)
+
+-- the number is below the live count
+within : (c : tie.After-sort-records) → c .before .before .before .before .before .before .before .before .args .number < c .sort-records .result
+within c =
+    let o = c .before .before .before .before .before .before in
+    let g = c .before .before .before .before .live .given .1 in
+    counted-below (told o _ g) (answered o _ g) (c .sort-records .ensures) (o .before .before .args .number) (c .before .before .if1 .left)
+
+mul-place-of : tie.Need-mul-place-of
+mul-place-of c = omega (arith, within c, c .sort-records .ensures .few)
+
+array-read-place-of : tie.Need-array-read-place-of
+array-read-place-of c = omega (arith, within c, c .sort-records .ensures .few)
+
+place-of-requires : tie.Need-place-of-requires
+place-of-requires c κs = search needs
+
+stock-at-requires : tie.Need-stock-at-requires
+stock-at-requires c κs =
+    let o = c .before .before .before .before .before .before .before in
+    let g = c .before .before .before .before .before .live .given .1 in
+    let t = told o _ g in
+    let s = c .before .sort-records .ensures in
+    let h = c .before .before .before .if1 .left in
+    (t .is-book .short, rw (c .place-of .ensures) (start-within t (answered o _ g) s (o .before .before .args .number) h))
+
+returns-2 : tie.Need-returns-2
+returns-2 c =
+    let o = c .before .before .before in
+    sym (ap (λ (e : Entries). rankOf e (o .before .before .args .number)) (told o _ (c .before .place .given .1)))
+
+returns-3 : tie.Need-returns-3
+returns-3 c =
+    let o = c .before .before .before .before .before .before .before .before in
+    let g = c .before .before .before .before .before .before .live .given .1 in
+    let a = o .before .before .args in
+    let place = c .before .place-of .ensures in
+    let stock = c .stock-at .ensures ∙ ap (λ (s : ℕ). entryAt (now (a .book)) s .stock) place in
+    (λ i. finds (place i) (stock i))
+    ∙ found-there (told o _ g) (answered o _ g) (c .before .before .sort-records .ensures) (a .number) (c .before .before .before .before .if1 .left)
+
+pub rank-spec : {M : Type 1} → statement M
+rank-spec =
+    tie.close
+    (tie.spec
+    open-book-requires
+    enum-known-place
+    enum-known-live
+    returns
+    sort-records-requires
+    mul-place-of
+    array-read-place-of
+    place-of-requires
+    stock-at-requires
+    returns-2
+    returns-3)

@@ -1,0 +1,52 @@
+// The live records of a book in word order, and the one with so many before it.
+use filing::keys::KEY_ROOM;
+use filing::keys::MOST_LIVE;
+use filing::keys::file_records;
+use keeping::look::stock_at;
+use keeping::plan::Found;
+use opening::open::Opening;
+use opening::open::open_book;
+use refusals::Refusal;
+ghost use mathlib.Core.Path.{_≡_};
+ghost use lib.ListN.{length};
+ghost use Rattle.entries.specs.Entries.{entries};
+ghost use Rattle.entries.specs.Book.{Opened};
+ghost use Rattle.keeping.specs.Outcome.{foundOutcome};
+ghost use Rattle.filing.specs.Filing.{mostLive};
+ghost use Rattle.ranking.specs.Rank.{rankOf, SortedRight};
+
+mod merging; // merging.rt: a merge sort of starts
+
+use crate::merging::place_of;
+use crate::merging::sort_front;
+
+// Puts the starts of the live records of a book, in word order, at the front of `starts`. Gives how many there are.
+pub fn sort_records(book: &[u8], free: usize, starts: &mut [u16; MOST_LIVE]) -> usize
+    requires { ⌜ Opened (now book) free × (length (now starts) ≡ mostLive) ⌝ }
+    ensures { λ r. ⌜ SortedRight (now (book .entry)) (now (starts .entry)) (now (starts .exit)) r ⌝ }
+{
+    let mut keys = [0u8; KEY_ROOM];
+    let mut room = [0u16; MOST_LIVE];
+    let count = file_records(book, free, &mut keys, starts);
+    sort_front(book, &keys, starts, count, &mut room);
+    count
+}
+
+// Start and stock number of the live record with `number` live records before it in word order.
+pub fn rank(book: &[u8], number: usize) -> Found
+    ensures { λ r. ⌜ foundOutcome r ≡ rankOf (entries (now (book .entry))) number ⌝ }
+{
+    match open_book(book) {
+        Opening::Wrong(place) => Found::Refused(Refusal::NotABook(place)),
+        Opening::Book { live, free } => {
+            if live <= number {
+                return Found::Refused(Refusal::RankTooHigh(live));
+            }
+            let mut starts = [0u16; MOST_LIVE];
+            sort_records(book, free, &mut starts);
+            let start = place_of(starts[number]);
+            let stock = stock_at(book, start);
+            Found::Entry { start, stock }
+        }
+    }
+}
