@@ -33,7 +33,8 @@ pub record Holds (line : List ℕ) (held : Word) : Type 0 where
 -- what the answer tells of the line, where the output stays as it was
 abbrev pub Tells : List ℕ → Word → LineAnswer → Type 0
 Tells line held Values = Holds line held
-Tells line held (Refused refusal) = (before after : List ℕ) → after ≡ before → DecodeWritten line before after (refuses (numberOf refusal) (placeOf refusal))
+Tells line held (Refused refusal) =
+    (before after : List ℕ) → after ≡ before → DecodeWritten line before after (refuses (numberOf refusal) (placeOf refusal))
 
 abbrev TellsOf : List ℕ → Decoded → Type 0
 TellsOf line decoded = Tells line (decoded .word) (decoded .answer)

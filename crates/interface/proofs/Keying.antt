@@ -40,7 +40,13 @@ module _ (word : List ℕ) (key : Key) (right : KeyRight word key) where
     bytes-length =
         let row = stores .reads .row in
         ap length bytes-are ∙ length-append (keyOf row) (zeros (keyLimit - usedBytes (length row)))
-        ∙ omega (arith, key-used row, length-replicate {A = ℕ} (keyLimit - usedBytes (length row)) 0, stores .reads .count, count-limit (storedForm word) count (stores .reads))
+        ∙ omega (
+          arith,
+          key-used row,
+          length-replicate {A = ℕ} (keyLimit - usedBytes (length row)) 0,
+          stores .reads .count,
+          count-limit (storedForm word) count (stores .reads),
+        )
 
     pub written-right : (before after : List ℕ) → keyLimit ≤ length before → after ≡ take keyLimit (key .bytes) ++ drop keyLimit before
         → KeyWritten word before after (accepts count)

@@ -12,12 +12,14 @@ use Rattle.collation.specs.Comparison.{CompareAnswers}
 use Rattle.entries.specs.Entries.{entries}
 use Rattle.keeping.specs.Outcome.{checkOf}
 use Rattle.keeping.proofs.Laws.{Bytes}
+use Rattle.ranking.specs.Rank.{rankOf}
 use Rattle.wordbook.specs.Calls.{AddPromise, RemovePromise}
 use Rattle.packing.specs.Packing.{pack, unpack, Packed}
-use Rattle.packing.specs.Answers.{RecordGivenRight, readNumbers, recordNumbers, partNumbers, writeNumbers, spellNumbers, compareNumbers, bookNumbers, FindAnswers}
+use Rattle.packing.specs.Answers.{RecordGivenRight, readNumbers, recordNumbers, partNumbers, writeNumbers}
+use Rattle.packing.specs.Answers.{spellNumbers, compareNumbers, FindAnswers, bookNumbers}
 use Rattle.packing.proofs.Laws.{unpack-pack, packed-told}
 use Rattle.packing.proofs.WordFits.{read-fits, record-fits, part-fits, normalise-fits, write-fits, spell-fits, compare-fits}
-use Rattle.packing.proofs.BookFits.{check-fits, find-fits, add-fits, remove-fits}
+use Rattle.packing.proofs.BookFits.{check-fits, rank-fits, find-fits, add-fits, remove-fits}
 use Rattle.interface.specs.Outputs.{KeyWritten, DecodeWritten}
 use Rattle.interface.proofs.OutputFits.{key-fits, decode-fits}
 
@@ -53,6 +55,9 @@ module _ (bytes before after : List ℕ) (n : ℕ) where
 module _ (book : List ℕ) (small : Bytes book) (n : ℕ) where
   pub check-told : n ≡ pack (bookNumbers (checkOf (entries book))) → unpack n ≡ bookNumbers (checkOf (entries book))
   check-told e = ap unpack e ∙ unpack-pack (bookNumbers (checkOf (entries book))) (check-fits book small)
+
+  pub rank-told : (rank : ℕ) → n ≡ pack (bookNumbers (rankOf (entries book) rank)) → unpack n ≡ bookNumbers (rankOf (entries book) rank)
+  rank-told rank e = ap unpack e ∙ unpack-pack (bookNumbers (rankOf (entries book) rank)) (rank-fits book small rank)
 
   pub find-told : (word : List ℕ) (p : Packed (FindAnswers book word) bookNumbers n) → unpack n ≡ bookNumbers (p .outcome)
   find-told word p = packed-told (FindAnswers book word) bookNumbers (find-fits book small word) n p

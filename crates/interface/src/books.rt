@@ -2,6 +2,7 @@
 ghost use mathlib.Core.Path.{_≡_};
 ghost use Rattle.entries.specs.Entries.{entries};
 ghost use Rattle.keeping.specs.Outcome.{checkOf};
+ghost use Rattle.ranking.specs.Rank.{rankOf};
 ghost use Rattle.wordbook.specs.Calls.{AddPromise, RemovePromise};
 ghost use Rattle.packing.specs.Packing.{pack, Packed};
 ghost use Rattle.packing.specs.Answers.{bookNumbers, FindAnswers};
@@ -36,4 +37,12 @@ pub extern "C" fn jogcairn_book_find(book: &[u8], word: &[u16]) -> u64
     ensures { λ r. ⌜ Packed (FindAnswers (now (book .entry)) (now (word .entry))) bookNumbers r ⌝ }
 {
     packing::of_found(wordbook::find(book, word))
+}
+
+// Stock number and start of the live record with `rank` live records before it in word order.
+#[no_mangle]
+pub extern "C" fn jogcairn_book_rank(book: &[u8], rank: usize) -> u64
+    ensures { λ r. ⌜ r ≡ pack (bookNumbers (rankOf (entries (now (book .entry))) rank)) ⌝ }
+{
+    packing::of_found(wordbook::rank(book, rank))
 }

@@ -1,10 +1,12 @@
 -- The numbers of every right answer on a book fit their bits: a place is at most the book's limit, and a record's start lies before its end.
 -- Assumes nothing.
 use mathlib.Core.Path.{_≡_, refl, sym, ap, subst}
+use mathlib.Core.Logic.{inl, inr}
 use mathlib.Core.Bool.{Bool, true, false, _&&_}
 use mathlib.Core.List.{List, [], _∷_, _++_}
 use mathlib.Core.Option.{Option, none, some}
 use Prim.Native.Nat.{ℕ, zero, suc, _+_, _≤_, _<_}
+use native.Mathlib.Decide.{decLt}
 use native.Mathlib.Omega.{arith}
 use borrow.Author.Tests.{leb-true}
 use lib.Dec.{T, eqb, leb}
@@ -21,6 +23,8 @@ use Rattle.entries.proofs.Records.{framed-true, length-record, end-length}
 use Rattle.entries.proofs.Agree.{Sound, sound}
 use Rattle.keeping.specs.Outcome.{Outcome, checkOf, findOfEntry, findOf, removeOfEntry, removeOf, addOfEntry, addOf, places, refuses}
 use Rattle.keeping.proofs.Laws.{Bytes}
+use Rattle.ranking.specs.Rank.{rankOf, Among}
+use Rattle.ranking.proofs.Laws.{rank-below, rank-too-high, rank-of-no-book}
 use Rattle.wordbook.specs.Calls.{WordRefused, empty, refused, CallAnswers, word-refused, word-stored, AddPromise, RemovePromise}
 use Rattle.packing.specs.Packing.{answer, Fits}
 use Rattle.packing.specs.Answers.{bookNumbers, FindAnswers}
@@ -54,14 +58,16 @@ bounded-from (suc fuel) bytes at seen h =
     bounded-pick (length bytes) (eqb (getD bytes at 0) 0) _ _
     (λ _. bounded-tail (length bytes) (drop at bytes) at (book seen at) (omega (arith, length-drop at bytes)) tt)
     (bounded-pick (length bytes) (isFramed bytes at && mayFollow seen (entryAt bytes at)) _ _
-    (λ t. bounded-from fuel bytes (at + 7 + getD bytes (at + 2) 0) (seen ++ (entryAt bytes at ∷ [])) (framed-true bytes at (both-left (isFramed bytes at) _ t) .room))
+    (λ t. bounded-from fuel bytes (at + 7 + getD bytes (at + 2) 0) (seen ++ (entryAt bytes at ∷ []))
+    (framed-true bytes at (both-left (isFramed bytes at) _ t) .room))
     h)
 
 pub bounded : (bytes : List ℕ) → Bounded bookLimit (entries bytes)
 unfolding entries
 bounded bytes =
     bounded-pick bookLimit (leb (length bytes) bookLimit) _ _
-    (λ t. bounded-more (length bytes) bookLimit (entriesFrom (suc (length bytes)) bytes 0 []) (leb-true (length bytes) bookLimit (is-true (leb (length bytes) bookLimit) t))
+    (λ t. bounded-more (length bytes) bookLimit (entriesFrom (suc (length bytes)) bytes 0 [])
+    (leb-true (length bytes) bookLimit (is-true (leb (length bytes) bookLimit) t))
     (bounded-from (suc (length bytes)) bytes 0 [] (omega arith)))
     (omega arith)
 
@@ -89,6 +95,14 @@ looked at seen (x ∷ es) word entry g e = go (x .live && sameList (x .word) wor
         subst (λ (y : Entry). Placed y (endOf (at + size x) es)) same
         (record { before = omega (arith, g .0, end-length (at + size x) es); stock = g .1 .stock })
     go false later f = later f
+
+-- the same for an entry of the list
+among-placed : (at : ℕ) (seen es : List Entry) (entry : Entry) → GoodAfter at seen es → Among entry es → Placed entry (endOf at es)
+among-placed at seen [] entry g m = absurd m
+among-placed at seen (x ∷ es) entry g (inl e) =
+    subst (λ (y : Entry). Placed y (endOf (at + size x) es)) (sym e)
+    (record { before = omega (arith, g .0, end-length (at + size x) es); stock = g .1 .stock })
+among-placed at seen (x ∷ es) entry g (inr m) = among-placed (at + size x) (seen ++ (x ∷ [])) es entry (g .3) m
 
 live-few : (live : Bool) (n m : ℕ) → n ≤ m → counted live n ≤ suc m
 live-few true n m h = omega arith
@@ -161,6 +175,25 @@ call-fits word right o f (word-stored s) = f
 module _ (bytes : List ℕ) (small : Bytes bytes) where
   pub check-fits : Fits (bookNumbers (checkOf (entries bytes)))
   check-fits = check-by bytes [] (entries bytes) (bounded bytes) (sound bytes small)
+
+  rank-by : (number : ℕ) (e : Entries) → entries bytes ≡ e → Bounded bookLimit e → Sound bytes e → Fits (bookNumbers (rankOf (entries bytes) number))
+  rank-by number (book es free) e b s = go (decLt number (liveCount es))
+    where
+      go : Dec (number < liveCount es) → Fits (bookNumbers (rankOf (entries bytes) number))
+      go (yes h) =
+          let r = rank-below bytes es (s .0) number h in
+          let p = among-placed 0 [] es (r .entry) (s .0 .good) (r .among) in
+          let q = p .before in
+          subst (λ (o : Outcome). Fits (bookNumbers o)) (sym (r .found))
+          (record { tag = omega arith; second = omega (arith, book-end bytes es (s .0)); first = p .stock })
+      go (no h) =
+          subst (λ (o : Outcome). Fits (bookNumbers o)) (sym (rank-too-high bytes es (s .0) number (omega arith)))
+          (record { tag = omega arith; second = omega arith; first = omega (arith, live-near es, book-end bytes es (s .0), end-length 0 es) })
+  rank-by number (wrong place) e b s =
+      subst (λ (o : Outcome). Fits (bookNumbers o)) (sym (rank-of-no-book bytes place number e)) (wrong-fits bytes [] place b)
+
+  pub rank-fits : (number : ℕ) → Fits (bookNumbers (rankOf (entries bytes) number))
+  rank-fits number = rank-by number (entries bytes) refl (bounded bytes) (sound bytes small)
 
   pub find-fits : (word : List ℕ) (o : Outcome) → FindAnswers bytes word o → Fits (bookNumbers o)
   find-fits word o c = call-fits word _ o (find-by bytes (storedForm word) (entries bytes) (bounded bytes) (sound bytes small)) c

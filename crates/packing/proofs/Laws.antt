@@ -8,12 +8,12 @@ use Rattle.packing.specs.Packing.{Answer, answer, pack, unpack, Fits, Pa
 pub unpack-pack : (a : Answer) → Fits a → unpack (pack a) ≡ a
 unfolding pack unpack
 unpack-pack a f =
-    let tag : (a .tag % 0x100 * 0x100000000000000 + a .second % 0x1000000 * 0x100000000 + a .first % 0x100000000) / 0x100000000000000 ≡ a .tag =
-    (let t = f .tag in let s = f .second in let r = f .first in omega arith) in
-    let second : (a .tag % 0x100 * 0x100000000000000 + a .second % 0x1000000 * 0x100000000 + a .first % 0x100000000) / 0x100000000 % 0x1000000 ≡ a .second =
-    (let t = f .tag in let s = f .second in let r = f .first in omega arith) in
-    let first : (a .tag % 0x100 * 0x100000000000000 + a .second % 0x1000000 * 0x100000000 + a .first % 0x100000000) % 0x100000000 ≡ a .first =
-    (let t = f .tag in let s = f .second in let r = f .first in omega arith) in
+    let t = f .tag in
+    let s = f .second in
+    let r = f .first in
+    let tag : pack a / 0x100000000000000 ≡ a .tag = omega arith in
+    let second : pack a / 0x100000000 % 0x1000000 ≡ a .second = omega arith in
+    let first : pack a % 0x100000000 ≡ a .first = omega arith in
     rw (tag, second, first)
 
 -- answers that fit are told apart by their numbers

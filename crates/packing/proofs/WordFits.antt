@@ -127,7 +127,8 @@ most-or false b x f g t = g t
 head-most : (h : ℕ) → T (isHead h) → h ≤ 0x104F
 head-most h =
     most-or (isConsonant h) _ h (upto 0x1000 0x1021 h (omega arith))
-    (most-or (isIndependentVowel h) _ h (most-or (within 0x1023 0x1027 h) _ h (upto 0x1023 0x1027 h (omega arith)) (upto 0x1029 0x102A h (omega arith)))
+    (most-or (isIndependentVowel h) _ h
+    (most-or (within 0x1023 0x1027 h) _ h (upto 0x1023 0x1027 h (omega arith)) (upto 0x1029 0x102A h (omega arith)))
     (most-or (isDigit h) _ h (upto 0x1040 0x1049 h (omega arith))
     (most-or (isStop h) _ h (upto 0x104A 0x104B h (omega arith)) (upto 0x104C 0x104F h (omega arith)))))
 

@@ -42,6 +42,7 @@ fn refused(refusal: Refusal, second: u64) -> u64
     packed(refusal.number() as u64, second, refusal.place() as u64)
 }
 
+// A byte as a number.
 fn wide(x: u8) -> u64
     ensures { λ r. ⌜ (r ≡ x) × (r < 256) ⌝ }
 {
@@ -55,6 +56,7 @@ fn joined(low: u8, second: u8, third: u8, high: u8) -> u64
     wide(low) + 256 * (wide(second) + 256 * (wide(third) + 256 * wide(high)))
 }
 
+// The bytes of a record: four in the first number, three in the second.
 fn of_bytes(bytes: [u8; 7]) -> u64
     ensures { λ r. ⌜ r ≡ pack (bytesNumbers bytes) ⌝ }
 {
@@ -63,6 +65,7 @@ fn of_bytes(bytes: [u8; 7]) -> u64
     packed(0, second, first)
 }
 
+// The number of syllables.
 pub fn of_reading(answer: ReadAnswer) -> u64
     ensures { λ r. ⌜ r ≡ pack (readNumbers (outcomeOf answer)) ⌝ }
 {
@@ -72,6 +75,7 @@ pub fn of_reading(answer: ReadAnswer) -> u64
     }
 }
 
+// A record, or that there is no such syllable.
 pub fn of_record(given: SyllableRecord) -> u64
     ensures { λ r. ⌜ r ≡ pack (outcomeNumbers (recordOutcomeOf (given .answer)) (given .bytes)) ⌝ }
 {
@@ -86,6 +90,7 @@ pub fn of_record(given: SyllableRecord) -> u64
     }
 }
 
+// Place and length of a part, or that there is no such syllable.
 pub fn of_part(answer: PartAnswer) -> u64
     ensures { λ r. ⌜ r ≡ pack (partNumbers (partOutcomeOf answer)) ⌝ }
 {
@@ -96,6 +101,7 @@ pub fn of_part(answer: PartAnswer) -> u64
     }
 }
 
+// The number of values that are stored.
 pub fn of_normalising(answer: NormaliseAnswer) -> u64
     ensures { λ r. ⌜ r ≡ pack (readNumbers (normaliseOutcomeOf answer)) ⌝ }
 {
@@ -105,6 +111,7 @@ pub fn of_normalising(answer: NormaliseAnswer) -> u64
     }
 }
 
+// The number of values that are written.
 pub fn of_writing(answer: WriteAnswer) -> u64
     ensures { λ r. ⌜ r ≡ pack (writeNumbers (writeOutcomeOf answer)) ⌝ }
 {
@@ -114,6 +121,7 @@ pub fn of_writing(answer: WriteAnswer) -> u64
     }
 }
 
+// The numbers of values and of syllables.
 pub fn of_spelling(answer: SpellAnswer) -> u64
     ensures { λ r. ⌜ r ≡ pack (spellNumbers (spellOutcomeOf answer)) ⌝ }
 {
@@ -123,6 +131,7 @@ pub fn of_spelling(answer: SpellAnswer) -> u64
     }
 }
 
+// The order: 0, 1 or 2; or the refusal, with the word that it is of.
 pub fn of_comparison(answer: Compared) -> u64
     ensures { λ r. ⌜ r ≡ pack (compareNumbers (compareOutcomeOf answer)) ⌝ }
 {
@@ -135,6 +144,7 @@ pub fn of_comparison(answer: Compared) -> u64
     }
 }
 
+// The number of live records.
 pub fn of_check(answer: Checked) -> u64
     ensures { λ r. ⌜ r ≡ pack (bookNumbers (checkedOutcome answer)) ⌝ }
 {
@@ -144,6 +154,7 @@ pub fn of_check(answer: Checked) -> u64
     }
 }
 
+// The stock number and the start of a record.
 pub fn of_found(answer: Found) -> u64
     ensures { λ r. ⌜ r ≡ pack (bookNumbers (foundOutcome answer)) ⌝ }
 {
@@ -153,6 +164,7 @@ pub fn of_found(answer: Found) -> u64
     }
 }
 
+// The start of a record.
 pub fn of_placed(answer: Placed) -> u64
     ensures { λ r. ⌜ r ≡ pack (bookNumbers (placedOutcome answer)) ⌝ }
 {

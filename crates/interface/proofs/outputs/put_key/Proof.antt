@@ -20,7 +20,8 @@ returns : tie.Need-returns
 returns c =
     let k = c .before .before .before .before in
     let word = k .before .before .before .args .word .now in
-    short-right word (k .key-of .result) (k .key-of .ensures) (c .before .before .answer2 .given .0 .0) (c .before .before .answer2 .given .1) _ _ (c .if1 .taken) refl
+    short-right word (k .key-of .result) (k .key-of .ensures)
+    (c .before .before .answer2 .given .0 .0) (c .before .before .answer2 .given .1) _ _ (c .if1 .taken) refl
 
 copy-key-requires : tie.Need-copy-key-requires
 copy-key-requires c κs =
@@ -41,7 +42,8 @@ returns-3 : tie.Need-returns-3
 returns-3 c =
     let k = c .before .before .before .before .before .before .before .before .before .before in
     let a = c .before .before .before .before .before .before .before .before .answer2 in
-    written-right (k .before .before .before .args .word .now) (k .key-of .result) (k .key-of .ensures) (a .given .0 .0) (a .given .1) _ _ (c .before .before .before .before .before .before .if1 .left) (c .before .before .copy-key .ensures)
+    written-right (k .before .before .before .args .word .now) (k .key-of .result) (k .key-of .ensures)
+    (a .given .0 .0) (a .given .1) _ _ (c .before .before .before .before .before .before .if1 .left) (c .before .before .copy-key .ensures)
 
 pub put-key-spec : {M : Type 1} → statement M
 put-key-spec =

@@ -52,7 +52,8 @@ same-length c = search needs
 
 returns-3 : tie.Need-returns-3
 returns-3 c =
-    written-right _ _ (holds (c .before .before .before .before .before .before .before .before)) _ _ (c .before .before .before .before .before .before .if1 .left) (c .before .before .copy-out .ensures)
+    written-right _ _ (holds (c .before .before .before .before .before .before .before .before)) _ _
+    (c .before .before .before .before .before .before .if1 .left) (c .before .before .copy-out .ensures)
 
 pub put-values-spec : {M : Type 1} → statement M
 put-values-spec =

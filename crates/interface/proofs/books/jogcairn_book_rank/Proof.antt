@@ -1,0 +1,17 @@
+-- `interface::books::jogcairn_book_rank` meets its contract: the answer of rank is packed.
+-- Assumes nothing.
+use borrow.Author.Needs.{needs}
+use Rattle.interface.proofs.books.jogcairn_book_rank.Statement.{statement}
+use Rattle.interface.proofs.books.jogcairn_book_rank.Tie as tie
+
+rank-requires : tie.Need-rank-requires
+rank-requires c κs = search needs
+
+of-found-requires : tie.Need-of-found-requires
+of-found-requires c κs = search needs
+
+returns : tie.Need-returns
+returns c = rw (← c .before .rank .ensures) (c .of-found .ensures)
+
+pub jogcairn-book-rank-spec : {M : Type 1} → statement M
+jogcairn-book-rank-spec = tie.close (tie.spec rank-requires of-found-requires returns)
