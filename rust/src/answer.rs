@@ -1,0 +1,101 @@
+//! The one number that every call of the library answers.
+
+use crate::refusal::{Reason, Refusal};
+use std::cmp::Ordering;
+
+/// An answer: tag * 2^56 + second * 2^32 + first.
+#[derive(Clone, Copy)]
+pub(crate) struct Answer(u64);
+
+/// The tag of an accepted input.
+const ACCEPTED: u8 = 0;
+
+/// The tag of a readable word that has no syllable of the number asked for.
+const NO_SUCH_SYLLABLE: u8 = 128;
+
+impl Answer {
+    /// The answer that a call gave.
+    pub(crate) fn new(number: u64) -> Answer {
+        Answer(number)
+    }
+
+    fn tag(self) -> u8 {
+        (self.0 >> 56) as u8
+    }
+
+    fn first(self) -> u32 {
+        self.0 as u32
+    }
+
+    fn second(self) -> u32 {
+        (self.0 >> 32) as u32 & 0x00FF_FFFF
+    }
+
+    /// The one number of an accepted input.
+    pub(crate) fn one(self) -> Result<usize, Refusal> {
+        let (first, second) = self.two()?;
+        self.demand(second == 0);
+        Ok(first as usize)
+    }
+
+    /// The two numbers of an accepted input, the first one first.
+    pub(crate) fn two(self) -> Result<(u32, usize), Refusal> {
+        match self.tag() {
+            ACCEPTED => Ok((self.first(), self.second() as usize)),
+            _ => Err(self.refusal(0)),
+        }
+    }
+
+    /// The two numbers of a syllable, or nothing where the word has no such syllable.
+    pub(crate) fn syllable(self) -> Result<Option<(u32, usize)>, Refusal> {
+        match self.tag() {
+            NO_SUCH_SYLLABLE => {
+                self.demand(self.first() == 0 && self.second() == 0);
+                Ok(None)
+            }
+            _ => self.two().map(Some),
+        }
+    }
+
+    /// The seven low bytes, the lowest first.
+    pub(crate) fn seven_bytes(self) -> [u8; 7] {
+        let [bytes @ .., _] = self.0.to_le_bytes();
+        bytes
+    }
+
+    /// Which of two words is refused, and why; nothing where both are accepted.
+    pub(crate) fn refused_word(self) -> Option<(u32, Refusal)> {
+        let which = self.second();
+        (self.tag() != ACCEPTED).then(|| (which, self.refusal(which)))
+    }
+
+    /// The order of two accepted words: 0 less, 1 equal, 2 greater.
+    pub(crate) fn ordering(self) -> Ordering {
+        match self.0 {
+            0 => Ordering::Less,
+            1 => Ordering::Equal,
+            2 => Ordering::Greater,
+            _ => self.outside(),
+        }
+    }
+
+    /// The refusal, whose second number must be as given.
+    fn refusal(self, second: u32) -> Refusal {
+        self.demand(self.second() == second);
+        match Reason::of_number(self.tag()) {
+            Some(reason) => Refusal { reason, place: self.first() as usize },
+            None => self.outside(),
+        }
+    }
+
+    /// Ends the program where the library's contract excludes the answer.
+    pub(crate) fn demand(self, holds: bool) {
+        if !holds {
+            self.outside()
+        }
+    }
+
+    fn outside(self) -> ! {
+        panic!("the library's contract excludes the answer {:016X}", self.0)
+    }
+}
