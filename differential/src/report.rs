@@ -16,7 +16,13 @@ impl fmt::Display for Report<'_> {
     fn fmt(&self, f: &mut fmt::Formatter<'_>) -> fmt::Result {
         writeln!(f, "{}", self.counts)?;
         match self.finding {
-            None => write!(f, "{} inputs, no difference", self.counts.total()),
+            None => {
+                let missing = self.counts.missing();
+                if !missing.is_empty() {
+                    writeln!(f, "not reached: {}", missing.join("; "))?;
+                }
+                write!(f, "{} inputs, no difference", self.counts.total())
+            }
             Some(Finding { input, case, difference: found }) => {
                 writeln!(f, "a difference at input {input}; the smallest such input is")?;
                 writeln!(f, "{case}")?;

@@ -2,6 +2,7 @@
 
 use crate::case::Case;
 use std::iter::successors;
+use std::ops::Range;
 
 /// The smallest case that is reached from this one by steps after each of which it still differs.
 pub fn smallest(mut case: Case, differs: impl Fn(&Case) -> bool) -> Case {
@@ -21,8 +22,7 @@ fn smaller_cases(case: &Case) -> impl Iterator<Item = Case> + '_ {
     let with_second = |second| Case { second, ..case.clone() };
     let is_book = case.call.bytes_name() == Some("book");
     let book: &[u8] = if is_book { &case.bytes } else { &[] };
-    let whole_records = records(book).map(|record| without(book, record.start, record.end));
-    whole_records
+    fewer_records(book)
         .map(with_bytes)
         .chain(shorter(&case.bytes).map(with_bytes))
         .chain(shorter_records(book).map(with_bytes))
@@ -34,17 +34,21 @@ fn smaller_cases(case: &Case) -> impl Iterator<Item = Case> + '_ {
         .chain(simpler(&case.second, 0x1000).map(with_second))
 }
 
-fn without<T: Copy>(list: &[T], start: usize, end: usize) -> Vec<T> {
-    [&list[..start], &list[end..]].concat()
+/// Stretches of a list of so many items: all, halves, quarters and so on down to single items.
+fn stretches(length: usize) -> impl Iterator<Item = Range<usize>> {
+    let sizes = successors(Some(length), |&size| Some(size / 2)).take_while(|&size| size > 0);
+    sizes.flat_map(move |size| {
+        (0..length).step_by(size).map(move |start| start..length.min(start + size))
+    })
 }
 
-/// The list without a stretch of it: all, halves, quarters and so on down to single items.
+fn without<T: Copy>(list: &[T], stretch: Range<usize>) -> Vec<T> {
+    [&list[..stretch.start], &list[stretch.end..]].concat()
+}
+
+/// The list without a stretch of it.
 fn shorter<T: Copy>(list: &[T]) -> impl Iterator<Item = Vec<T>> + '_ {
-    let sizes = successors(Some(list.len()), |&size| Some(size / 2)).take_while(|&size| size > 0);
-    sizes.flat_map(move |size| {
-        let starts = (0..list.len()).step_by(size);
-        starts.map(move |start| without(list, start, list.len().min(start + size)))
-    })
+    stretches(list.len()).map(|stretch| without(list, stretch))
 }
 
 /// The list with one item made the simplest.
@@ -57,22 +61,33 @@ fn simpler<T: Copy + PartialEq>(list: &[T], simplest: T) -> impl Iterator<Item =
     })
 }
 
-/// The stretches that look like records of a book.
-fn records(book: &[u8]) -> impl Iterator<Item = std::ops::Range<usize>> + '_ {
+/// The stretches of a book that look like records.
+fn records(book: &[u8]) -> Vec<Range<usize>> {
+    let mut records = Vec::new();
     let mut start = 0;
-    std::iter::from_fn(move || {
-        let &[b'M', _, count, ..] = book.get(start..)? else { return None };
-        let record = start..start + 7 + usize::from(count);
-        start = record.end;
-        (record.end <= book.len()).then_some(record)
-    })
+    while let Some(&[b'M', _, count, ..]) = book.get(start..) {
+        let end = start + 7 + usize::from(count);
+        if end > book.len() {
+            break;
+        }
+        records.push(start..end);
+        start = end;
+    }
+    records
+}
+
+/// The book without some of its records.
+fn fewer_records(book: &[u8]) -> impl Iterator<Item = Vec<u8>> + '_ {
+    let records = records(book);
+    stretches(records.len())
+        .map(move |taken| without(book, records[taken.start].start..records[taken.end - 1].end))
 }
 
 /// The book with one value less in a record.
 fn shorter_records(book: &[u8]) -> impl Iterator<Item = Vec<u8>> + '_ {
-    records(book).flat_map(move |record| {
+    records(book).into_iter().flat_map(move |record| {
         (record.start + 7..record.end).map(move |place| {
-            let mut book = without(book, place, place + 1);
+            let mut book = without(book, place..place + 1);
             book[record.start + 2] -= 1;
             book
         })

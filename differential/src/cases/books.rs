@@ -46,7 +46,7 @@ pub fn case(random: &mut Random, shelf: &mut Shelf) -> Case {
         }
     }
     if call.takes_word() {
-        case.word = word(random, shelf);
+        case.word = word(random, shelf, call);
     }
     case.numbers[0] = match call {
         Call::BookAdd => stock(random),
@@ -57,11 +57,12 @@ pub fn case(random: &mut Random, shelf: &mut Shelf) -> Case {
 }
 
 /// A word that is in the book, perhaps typed otherwise, or another.
-fn word(random: &mut Random, shelf: &Shelf) -> Vec<u16> {
+fn word(random: &mut Random, shelf: &Shelf, call: Call) -> Vec<u16> {
+    let known = if call == Call::BookAdd { 6 } else { 14 };
     match random.below(20) {
         0 => Vec::new(),
         1 | 2 => words::word(random),
-        3..10 if !shelf.words.is_empty() => {
+        number if number < 3 + known && !shelf.words.is_empty() => {
             let mut word = shelf.words[random.below(shelf.words.len())].clone();
             match random.below(8) {
                 0 => words::damage(random, &mut word),
@@ -70,7 +71,7 @@ fn word(random: &mut Random, shelf: &Shelf) -> Vec<u16> {
             }
             word
         }
-        10 => vec![random.pick(&[0x1000, 0x1015, 0x1021, 0x1025, 0x1040, 0x104F])],
+        18 => vec![random.pick(&[0x1000, 0x1015, 0x1021, 0x1025, 0x1040, 0x104F])],
         _ => valid(random),
     }
 }

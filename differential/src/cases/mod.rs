@@ -22,7 +22,7 @@ pub struct Cases {
 }
 
 /// The calls on words and lines, each as often as it stands here.
-const WORD_CALLS: [Call; 16] = [
+const WORD_CALLS: [Call; 17] = [
     Call::Read,
     Call::Read,
     Call::Record,
@@ -38,6 +38,7 @@ const WORD_CALLS: [Call; 16] = [
     Call::Compare,
     Call::Compare,
     Call::WordOrder,
+    Call::Decode,
     Call::Decode,
 ];
 
@@ -91,7 +92,7 @@ impl Cases {
         match self.random.below(8) {
             0..3 => needed,
             3 => needed.saturating_sub(1),
-            4 => needed + self.random.between(1, 5),
+            4 => needed + self.random.pick(&[1, 1, 2, 5]),
             5 => 0,
             _ => self.random.below(needed + 1),
         }

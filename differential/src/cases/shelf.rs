@@ -43,13 +43,13 @@ impl Shelf {
             0..80 => random.below(20),
             80..800 => random.between(20, 300),
             800..990 => random.between(300, 1_500),
-            990..998 => random.between(1_500, 6_000),
+            990..995 => random.between(1_500, 6_000),
             _ => BOOK_LIMIT - random.below(2) * random.below(40),
         };
         let mut shelf = Shelf { bytes: vec![0; size], ..Shelf::new() };
         shelf.calls_left = if size < 1_500 { random.between(10, 60) } else { 16 };
         let filled = match random.below(4) {
-            _ if size > 1_500 => size - random.below(100),
+            _ if size > 1_500 => size - random.below(30),
             0 => random.below(size + 1),
             1 => size,
             _ => 0,
