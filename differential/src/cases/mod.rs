@@ -22,7 +22,7 @@ pub struct Cases {
 }
 
 /// The calls on words and lines, each as often as it stands here.
-const WORD_CALLS: [Call; 17] = [
+const WORD_CALLS: [Call; 18] = [
     Call::Read,
     Call::Read,
     Call::Record,
@@ -34,6 +34,7 @@ const WORD_CALLS: [Call; 17] = [
     Call::Write,
     Call::Normalise,
     Call::Normalise,
+    Call::Key,
     Call::Key,
     Call::Compare,
     Call::Compare,

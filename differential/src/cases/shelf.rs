@@ -21,32 +21,43 @@ pub struct Shelf {
     /// Stored words of records, live or not.
     pub words: Vec<Vec<u16>>,
     calls_left: usize,
+    number: usize,
 }
+
+/// One of so many books is of the longest kind, and full or nearly so.
+const LONGEST_ONE_OF: usize = 150;
 
 impl Shelf {
     /// A book without bytes.
     pub fn new() -> Shelf {
-        Shelf { bytes: Vec::new(), starts: Vec::new(), end: 0, words: Vec::new(), calls_left: 0 }
+        Shelf {
+            bytes: Vec::new(),
+            starts: Vec::new(),
+            end: 0,
+            words: Vec::new(),
+            calls_left: 0,
+            number: 0,
+        }
     }
 
     /// Counts a call, and begins another book where this one had its calls.
     pub fn turn(&mut self, random: &mut Random) {
         if self.calls_left == 0 {
-            *self = Shelf::begun(random);
+            *self = Shelf::begun(random, self.number + 1);
         }
         self.calls_left -= 1;
     }
 
     /// A book of some size: empty, partly filled or full.
-    fn begun(random: &mut Random) -> Shelf {
-        let size = match random.below(1000) {
-            0..80 => random.below(20),
-            80..800 => random.between(20, 300),
-            800..990 => random.between(300, 1_500),
-            990..995 => random.between(1_500, 6_000),
-            _ => BOOK_LIMIT - random.below(2) * random.below(40),
+    fn begun(random: &mut Random, number: usize) -> Shelf {
+        let size = match random.below(100) {
+            _ if number % LONGEST_ONE_OF == 0 => BOOK_LIMIT - random.below(2) * random.below(40),
+            0..8 => random.below(20),
+            8..80 => random.between(20, 300),
+            80..99 => random.between(300, 1_500),
+            _ => random.between(1_500, 6_000),
         };
-        let mut shelf = Shelf { bytes: vec![0; size], ..Shelf::new() };
+        let mut shelf = Shelf { bytes: vec![0; size], number, ..Shelf::new() };
         shelf.calls_left = if size < 1_500 { random.between(10, 60) } else { 16 };
         let filled = match random.below(4) {
             _ if size > 1_500 => size - random.below(30),
