@@ -17,21 +17,36 @@ pub fn smallest(mut case: Case, differs: impl Fn(&Case) -> bool) -> Case {
 
 /// Cases one step smaller, those of the largest steps first.
 fn smaller_cases(case: &Case) -> impl Iterator<Item = Case> + '_ {
-    let with_bytes = |bytes| Case { bytes, ..case.clone() };
-    let with_word = |word| Case { word, ..case.clone() };
-    let with_second = |second| Case { second, ..case.clone() };
+    shorter_cases(case)
+        .chain(with_smaller_numbers(case))
+        .chain(shorter_cases(case).filter_map(with_number_before))
+        .chain(simpler_cases(case))
+}
+
+/// Cases of which some list is shorter.
+fn shorter_cases(case: &Case) -> impl Iterator<Item = Case> + '_ {
     let is_book = case.call.bytes_name() == Some("book");
     let book: &[u8] = if is_book { &case.bytes } else { &[] };
-    fewer_records(book)
-        .map(with_bytes)
-        .chain(shorter(&case.bytes).map(with_bytes))
-        .chain(shorter_records(book).map(with_bytes))
-        .chain(shorter(&case.word).map(with_word))
-        .chain(shorter(&case.second).map(with_second))
-        .chain(with_smaller_numbers(case))
-        .chain(simpler(&case.bytes, 0).map(with_bytes))
-        .chain(simpler(&case.word, 0x1000).map(with_word))
-        .chain(simpler(&case.second, 0x1000).map(with_second))
+    let books = fewer_records(book).chain(shorter(&case.bytes)).chain(shorter_records(book));
+    books
+        .map(|bytes| Case { bytes, ..case.clone() })
+        .chain(shorter(&case.word).map(|word| Case { word, ..case.clone() }))
+        .chain(shorter(&case.second).map(|second| Case { second, ..case.clone() }))
+}
+
+/// Cases of as long lists, one item of which is simpler.
+fn simpler_cases(case: &Case) -> impl Iterator<Item = Case> + '_ {
+    simpler(&case.bytes, 0)
+        .map(|bytes| Case { bytes, ..case.clone() })
+        .chain(simpler(&case.word, 0x1000).map(|word| Case { word, ..case.clone() }))
+        .chain(simpler(&case.second, 0x1000).map(|second| Case { second, ..case.clone() }))
+}
+
+/// The case with the number before its first one: a shorter word has the same syllable there, and
+/// a shorter outcome as much room.
+fn with_number_before(mut case: Case) -> Option<Case> {
+    case.numbers[0] = case.numbers[0].checked_sub(1)?;
+    Some(case)
 }
 
 /// Stretches of a list of so many items: all, halves, quarters and so on down to single items.

@@ -2,7 +2,8 @@
 
 use differential::cases::Cases;
 use differential::{
-    run, Answer, Call, Case, Finding, Library, Memory, Outcome, Proved, Reference, MARGIN,
+    run, Answer, Call, Case, Counts, Finding, Library, Memory, Outcome, Proved, Reference, Report,
+    MARGIN,
 };
 
 /// The proved library with a fault put into its outcomes.
@@ -42,6 +43,9 @@ fn a_wrong_place_is_found() {
     let refused = |place| Answer::Refused { number: 4, place, which: 0 };
     assert_eq!(found.difference.tried.answer, refused(5));
     assert_eq!(found.difference.reference.answer, refused(4));
+    let report = Report { counts: &Counts::new(), finding: Some(&found) }.to_string();
+    let told = "read\n  word (4 values): 1000 1004 103A 1039\n  proved: refused 4 at 5\n  oracle: refused 4 at 4";
+    assert!(report.ends_with(told), "{report}");
 }
 
 #[test]
@@ -87,20 +91,14 @@ fn a_value_written_behind_an_output_is_found() {
 #[test]
 fn a_refusal_that_writes_is_found() {
     let found = finding(|case, outcome| {
-        if let (Call::Key, Answer::Refused { number: 5, .. }, Memory::Bytes(cells)) =
-            (case.call, &outcome.answer, &mut outcome.lent[outcome_last(case)])
-        {
-            if cells.len() > 2 * MARGIN {
+        let Answer::Refused { number: 5, .. } = outcome.answer else { return };
+        if let (Call::Key, [_, Memory::Bytes(cells)]) = (case.call, &mut outcome.lent[..]) {
+            if case.numbers[0] > 0 {
                 cells[MARGIN] = 0;
             }
         }
     });
     assert_eq!(found.case, Case { numbers: [1, 0], ..Case::of_word(Call::Key, Vec::new()) });
-}
-
-/// The argument of a key that is the output.
-fn outcome_last(case: &Case) -> usize {
-    usize::from(case.call == Call::Key)
 }
 
 #[test]

@@ -73,7 +73,8 @@ impl fmt::Display for Entry<'_> {
 }
 
 /// The live records of a book in word order; made by [`Book::entries`](crate::Book::entries) and
-/// [`book::entries`](crate::book::entries).
+/// [`book::entries`](crate::book::entries). Each step asks the library for one rank, for which it
+/// tests the book anew.
 ///
 /// ```
 /// // ပ, အ and က as they were added, read from the word filed last to the one filed first.

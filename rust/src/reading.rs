@@ -65,7 +65,8 @@ pub struct Syllable<'w> {
     pub record: Record,
 }
 
-/// The syllables of a word that was read, in their order; made by [`read`].
+/// The syllables of a word that was read, in their order; made by [`read`]. Each step asks the
+/// library for one syllable, for which it reads the word anew.
 ///
 /// ```
 /// // ပြဿနာ, problem, from its last syllable to its first.

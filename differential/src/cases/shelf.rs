@@ -51,7 +51,9 @@ impl Shelf {
     /// A book of some size: empty, partly filled or full.
     fn begun(random: &mut Random, number: usize) -> Shelf {
         let size = match random.below(100) {
-            _ if number % LONGEST_ONE_OF == 0 => BOOK_LIMIT - random.below(2) * random.below(40),
+            _ if number.is_multiple_of(LONGEST_ONE_OF) => {
+                BOOK_LIMIT - random.below(2) * random.below(40)
+            }
             0..8 => random.below(20),
             8..80 => random.between(20, 300),
             80..99 => random.between(300, 1_500),
