@@ -99,3 +99,44 @@ impl Answer {
         panic!("the library's contract excludes the answer {:016X}", self.0)
     }
 }
+
+#[cfg(test)]
+mod tests {
+    use super::*;
+
+    fn packed(tag: u64, second: u64, first: u64) -> Answer {
+        Answer::new((tag << 56) + (second << 32) + first)
+    }
+
+    #[test]
+    fn the_two_numbers_are_taken_apart() {
+        assert_eq!(packed(0, 0, 64).one(), Ok(64));
+        let most = packed(0, 0x00FF_FFFF, 0xFFFF_FFFF).two();
+        assert_eq!(most, Ok((u32::MAX, 0x00FF_FFFF)));
+        assert_eq!(packed(128, 0, 0).syllable(), Ok(None));
+        assert_eq!(Answer::new(0x0006_0504_0302_0100).seven_bytes(), [0, 1, 2, 3, 4, 5, 6]);
+    }
+
+    #[test]
+    fn a_refusal_has_its_number_and_place() {
+        let refusal = Refusal { reason: Reason::NotABook, place: 16_384 };
+        assert_eq!(packed(11, 0, 16_384).one(), Err(refusal));
+        assert_eq!(packed(11, 2, 16_384).refused_word(), Some((2, refusal)));
+        assert_eq!(packed(0, 0, 2).refused_word(), None);
+        assert_eq!(packed(0, 0, 2).ordering(), Ordering::Greater);
+    }
+
+    #[test]
+    fn an_answer_that_the_contract_excludes_ends_the_program() {
+        let excluded: [fn() -> bool; 5] = [
+            || packed(9, 0, 0).one().is_ok(),
+            || packed(128, 0, 0).one().is_ok(),
+            || packed(0, 1, 0).one().is_ok(),
+            || packed(3, 1, 0).two().is_ok(),
+            || packed(0, 0, 3).ordering().is_eq(),
+        ];
+        for call in excluded {
+            assert!(std::panic::catch_unwind(call).is_err());
+        }
+    }
+}
