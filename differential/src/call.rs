@@ -1,0 +1,126 @@
+//! The calls that are compared.
+
+/// A call of the library, or a type of the crate `jogcairn` that several calls stand behind.
+#[derive(Clone, Copy, Debug, PartialEq, Eq, PartialOrd, Ord)]
+#[allow(missing_docs)]
+pub enum Call {
+    Read,
+    Record,
+    Part,
+    Syllables,
+    Spell,
+    Write,
+    Normalise,
+    Key,
+    Compare,
+    WordOrder,
+    Decode,
+    BookCheck,
+    BookAdd,
+    BookRemove,
+    BookFind,
+    BookRank,
+    BookEntries,
+}
+
+impl Call {
+    /// All calls.
+    pub const ALL: [Call; 17] = [
+        Call::Read,
+        Call::Record,
+        Call::Part,
+        Call::Syllables,
+        Call::Spell,
+        Call::Write,
+        Call::Normalise,
+        Call::Key,
+        Call::Compare,
+        Call::WordOrder,
+        Call::Decode,
+        Call::BookCheck,
+        Call::BookAdd,
+        Call::BookRemove,
+        Call::BookFind,
+        Call::BookRank,
+        Call::BookEntries,
+    ];
+
+    /// The name that is printed.
+    pub const fn name(self) -> &'static str {
+        match self {
+            Call::Read => "read",
+            Call::Record => "record",
+            Call::Part => "part",
+            Call::Syllables => "syllables",
+            Call::Spell => "spell",
+            Call::Write => "write",
+            Call::Normalise => "normalise",
+            Call::Key => "key",
+            Call::Compare => "compare",
+            Call::WordOrder => "order of words",
+            Call::Decode => "decode",
+            Call::BookCheck => "book check",
+            Call::BookAdd => "book add",
+            Call::BookRemove => "book remove",
+            Call::BookFind => "book find",
+            Call::BookRank => "book rank",
+            Call::BookEntries => "book entries",
+        }
+    }
+
+    /// The tags that its answers can have: 0 for accepted, a refusal number, or 128 for no such
+    /// syllable.
+    pub const fn tags(self) -> &'static [u8] {
+        match self {
+            Call::Read | Call::Syllables | Call::Compare | Call::WordOrder => &[0, 1, 2, 3, 4],
+            Call::Record | Call::Part => &[0, 1, 2, 3, 4, 128],
+            Call::Spell | Call::Normalise | Call::Key => &[0, 1, 2, 3, 4, 5],
+            Call::Write => &[0, 5, 6],
+            Call::Decode => &[0, 1, 5, 7],
+            Call::BookCheck | Call::BookEntries => &[0, 11],
+            Call::BookAdd => &[0, 1, 2, 3, 4, 8, 11, 12, 14],
+            Call::BookRemove | Call::BookFind => &[0, 1, 2, 3, 4, 8, 11, 13],
+            Call::BookRank => &[0, 11, 15],
+        }
+    }
+
+    /// Whether two words are handed in, so that a refusal says which.
+    pub const fn takes_two_words(self) -> bool {
+        matches!(self, Call::Compare | Call::WordOrder)
+    }
+
+    /// What the bytes of a case are, if the call takes any.
+    pub const fn bytes_name(self) -> Option<&'static str> {
+        match self {
+            Call::Write => Some("records"),
+            Call::Decode => Some("line"),
+            Call::BookCheck
+            | Call::BookAdd
+            | Call::BookRemove
+            | Call::BookFind
+            | Call::BookRank
+            | Call::BookEntries => Some("book"),
+            _ => None,
+        }
+    }
+
+    /// What the numbers of a case are.
+    pub const fn number_names(self) -> &'static [&'static str] {
+        match self {
+            Call::Record | Call::Part => &["number"],
+            Call::Spell => &["room", "room for starts"],
+            Call::Write | Call::Normalise | Call::Key | Call::Decode => &["room"],
+            Call::BookAdd => &["stock"],
+            Call::BookRank => &["rank"],
+            _ => &[],
+        }
+    }
+
+    /// Whether a word is handed in.
+    pub const fn takes_word(self) -> bool {
+        !matches!(
+            self,
+            Call::Write | Call::Decode | Call::BookCheck | Call::BookRank | Call::BookEntries
+        )
+    }
+}

@@ -1,0 +1,170 @@
+//! Calls on books: on the one that goes on, and on copies of it that were damaged.
+
+use super::shelf::{letters, Shelf};
+use super::words::{self, valid};
+use crate::call::Call;
+use crate::case::Case;
+use oracle::book::BOOK_LIMIT;
+use oracle::lists::shuffle_runs;
+use oracle::random::Random;
+
+/// The calls, each as often as it stands here.
+const CALLS: [Call; 16] = [
+    Call::BookAdd,
+    Call::BookAdd,
+    Call::BookAdd,
+    Call::BookAdd,
+    Call::BookAdd,
+    Call::BookAdd,
+    Call::BookRemove,
+    Call::BookRemove,
+    Call::BookFind,
+    Call::BookFind,
+    Call::BookFind,
+    Call::BookRank,
+    Call::BookRank,
+    Call::BookRank,
+    Call::BookCheck,
+    Call::BookEntries,
+];
+
+/// Above so many records a book is ranked only now and then, since that takes long.
+const MANY_RECORDS: usize = 60;
+
+/// The next call.
+pub fn case(random: &mut Random, shelf: &mut Shelf) -> Case {
+    shelf.turn(random);
+    let call = match random.pick(&CALLS) {
+        Call::BookRank if shelf.starts.len() > MANY_RECORDS && random.chance(90) => Call::BookFind,
+        Call::BookEntries if shelf.starts.len() > MANY_RECORDS => Call::BookCheck,
+        call => call,
+    };
+    let mut case = Case::of_bytes(call, shelf.bytes.clone());
+    if random.chance(20) {
+        for _ in 0..random.pick(&[1, 1, 1, 2]) {
+            damage(random, shelf, &mut case.bytes);
+        }
+    }
+    if call.takes_word() {
+        case.word = word(random, shelf, call);
+    }
+    case.numbers[0] = match call {
+        Call::BookAdd => stock(random),
+        Call::BookRank => rank(random, shelf),
+        _ => 0,
+    };
+    case
+}
+
+/// A word that is in the book, perhaps typed otherwise, or another.
+fn word(random: &mut Random, shelf: &Shelf, call: Call) -> Vec<u16> {
+    let known = if call == Call::BookAdd { 6 } else { 14 };
+    match random.below(20) {
+        0 => Vec::new(),
+        1 | 2 => words::word(random),
+        number if number < 3 + known && !shelf.words.is_empty() => {
+            let mut word = shelf.words[random.below(shelf.words.len())].clone();
+            match random.below(8) {
+                0 => words::damage(random, &mut word),
+                1..4 => shuffle_runs(random, &mut word),
+                _ => {}
+            }
+            word
+        }
+        18 => vec![random.pick(&[0x1000, 0x1015, 0x1021, 0x1025, 0x1040, 0x104F])],
+        _ => valid(random),
+    }
+}
+
+fn stock(random: &mut Random) -> usize {
+    match random.below(6) {
+        0 => random.pick(&[0, 1, u32::MAX as usize, 0x0102_0304, 0xFF00_0000]),
+        1 => random.below(1_000),
+        _ => random.below(1 << 32),
+    }
+}
+
+fn rank(random: &mut Random, shelf: &Shelf) -> usize {
+    match random.below(30) {
+        0 => random.pick(&[usize::MAX, 1 << 32, 1 << 16, 1 << 8]),
+        1 => shelf.starts.len(),
+        _ => random.below(shelf.starts.len() + 1),
+    }
+}
+
+/// Changes a copy of the book, mostly so that it is none.
+fn damage(random: &mut Random, shelf: &Shelf, bytes: &mut Vec<u8>) {
+    let start = if shelf.starts.is_empty() { 0 } else { random.pick(&shelf.starts) };
+    let any = random.below(256) as u8;
+    match random.below(20) {
+        0 => set(bytes, start, any),
+        1 => set(bytes, start, 0),
+        2 => set(bytes, start + 1, any),
+        3..5 => set(bytes, start + 1, random.pick(b"W-")),
+        5 => set(bytes, start + 2, random.pick(&[0, 65, 64, 66, 128, 255, any])),
+        6 => change(bytes, start + 2, random.pick(&[1, 255])),
+        7 => set(bytes, start + random.between(3, 6), any),
+        8 => set(bytes, start + 7 + random.below(6), any),
+        9 => set(bytes, start + 7 + random.below(6), any % 0x50),
+        10 => {
+            let place = start + 7 + random.below(5);
+            if place + 1 < bytes.len() {
+                bytes.swap(place, place + 1);
+            }
+        }
+        11 => set(bytes, shelf.end + random.below(12), any),
+        12 => {
+            if let Some(last) = bytes.last_mut() {
+                *last = any;
+            }
+        }
+        13 => bytes.truncate(random.below(bytes.len() + 1)),
+        14 => bytes.truncate((shelf.end + random.below(3)).saturating_sub(1)),
+        15 => put_record(random, shelf, bytes),
+        16 => put_record_as_typed(random, shelf, bytes),
+        17 => put(bytes, shelf.end, random.pick(&[&b"M"[..], b"MW", b"M-\x01", b"MW\x40", b"W"])),
+        18 if random.chance(4) => bytes.resize(BOOK_LIMIT + random.between(1, 3), 0),
+        18 => bytes.extend((0..random.below(9)).map(|_| random.pick(b"\0\0\0\0\0\0\0M"))),
+        _ => bytes.iter_mut().take(40).for_each(|byte| *byte = random.below(256) as u8),
+    }
+}
+
+fn set(bytes: &mut [u8], place: usize, byte: u8) {
+    if let Some(there) = bytes.get_mut(place) {
+        *there = byte;
+    }
+}
+
+fn change(bytes: &mut [u8], place: usize, by: u8) {
+    if let Some(there) = bytes.get_mut(place) {
+        *there = there.wrapping_add(by);
+    }
+}
+
+fn put(bytes: &mut [u8], place: usize, contents: &[u8]) {
+    for (number, &byte) in contents.iter().enumerate() {
+        set(bytes, place + number, byte);
+    }
+}
+
+/// Puts a word that is there already behind the last record.
+fn put_record(random: &mut Random, shelf: &Shelf, bytes: &mut [u8]) {
+    if !shelf.words.is_empty() {
+        let word = &shelf.words[random.below(shelf.words.len())];
+        put(bytes, shelf.end, &record(random.pick(&[b"MW", b"MW", b"M-"]), &letters(word)));
+    }
+}
+
+/// Puts a word behind the last record that may be unreadable or in no storage order.
+fn put_record_as_typed(random: &mut Random, shelf: &Shelf, bytes: &mut [u8]) {
+    let mut word = valid(random);
+    shuffle_runs(random, &mut word);
+    if random.chance(40) {
+        words::damage(random, &mut word);
+    }
+    put(bytes, shelf.end, &record(random.pick(&[b"MW", b"M-"]), &letters(&word)));
+}
+
+fn record(mark: &[u8; 2], letters: &[u8]) -> Vec<u8> {
+    [mark, &[letters.len() as u8, 1, 2, 3, 4][..], letters].concat()
+}

@@ -1,0 +1,120 @@
+//! Inputs made by chance, the same for the same seed on every machine.
+
+mod books;
+mod lines;
+mod records;
+mod shelf;
+mod words;
+
+use crate::call::Call;
+use crate::case::Case;
+use crate::library::Library;
+use crate::outcome::{Answer, Outcome};
+use crate::reference::Reference;
+use jogcairn::KEY_SIZE;
+use oracle::random::Random;
+use shelf::Shelf;
+
+/// A maker of inputs.
+pub struct Cases {
+    random: Random,
+    shelf: Shelf,
+}
+
+/// The calls on words and lines, each as often as it stands here.
+const WORD_CALLS: [Call; 18] = [
+    Call::Read,
+    Call::Read,
+    Call::Record,
+    Call::Part,
+    Call::Syllables,
+    Call::Spell,
+    Call::Spell,
+    Call::Write,
+    Call::Write,
+    Call::Normalise,
+    Call::Normalise,
+    Call::Key,
+    Call::Key,
+    Call::Compare,
+    Call::Compare,
+    Call::WordOrder,
+    Call::Decode,
+    Call::Decode,
+];
+
+impl Cases {
+    /// The inputs of a seed.
+    pub fn new(seed: u64) -> Cases {
+        Cases { random: Random::of(&format!("differential {seed}")), shelf: Shelf::new() }
+    }
+
+    /// The next input.
+    pub fn next_case(&mut self) -> Case {
+        if self.random.chance(30) {
+            return books::case(&mut self.random, &mut self.shelf);
+        }
+        let call = self.random.pick(&WORD_CALLS);
+        let mut case = match call {
+            Call::Write => Case::of_bytes(call, records::records(&mut self.random)),
+            Call::Decode => Case::of_bytes(call, lines::line(&mut self.random)),
+            _ => Case::of_word(call, words::word(&mut self.random)),
+        };
+        if call.takes_two_words() {
+            case.second = words::neighbour(&mut self.random, &case.word);
+        }
+        case.numbers = self.numbers(&case);
+        case
+    }
+
+    /// Takes note of what the other implementation answered, so that a book goes on from there.
+    pub fn take_note(&mut self, case: &Case, outcome: &Outcome) {
+        self.shelf.take_note(case, outcome);
+    }
+
+    /// Numbers near those that decide: the rooms that are just enough, the number of syllables.
+    fn numbers(&mut self, case: &Case) -> [usize; 2] {
+        match case.call {
+            Call::Key => [self.near(KEY_SIZE), 0],
+            Call::Record | Call::Part => {
+                let syllables = accepted(&Case { call: Call::Read, ..case.clone() })[0];
+                [self.number(syllables), 0]
+            }
+            Call::Spell | Call::Write | Call::Normalise | Call::Decode => {
+                let enough = Case { numbers: [256; 2], ..case.clone() };
+                accepted(&enough).map(|needed| self.near(needed))
+            }
+            _ => [0; 2],
+        }
+    }
+
+    /// A room from none to more than enough.
+    fn near(&mut self, needed: usize) -> usize {
+        match self.random.below(8) {
+            0..3 => needed,
+            3 => needed.saturating_sub(1),
+            4 => needed + self.random.pick(&[1, 1, 2, 5]),
+            5 => 0,
+            _ => self.random.below(needed + 1),
+        }
+    }
+
+    /// The number of a syllable, sometimes of one that is not there.
+    fn number(&mut self, syllables: usize) -> usize {
+        match self.random.below(20) {
+            0 => self.random.pick(&[usize::MAX, 1 << 32, 1 << 8, 1 << 16, 64, 63]),
+            1..4 => syllables + self.random.below(2),
+            _ => self.random.below(syllables.max(1)),
+        }
+    }
+}
+
+/// The numbers with which the other implementation accepts a case; zeros where it does not.
+fn accepted(case: &Case) -> [usize; 2] {
+    match Reference.outcome(case).answer {
+        Answer::Accepted(numbers) => {
+            [0, 1].map(|number| numbers.get(number).map_or(0, |&number| number as usize))
+        }
+        _ => [0; 2],
+    }
+}

@@ -1,0 +1,67 @@
+//! Records for the writer: of rows, of rows that were changed, and bytes by chance.
+
+use oracle::lists::{random_row, row_of_length};
+use oracle::random::Random;
+use oracle::word::WORD_LIMIT;
+
+/// Records of any kind, seven bytes each but for faults.
+pub fn records(random: &mut Random) -> Vec<u8> {
+    match random.below(20) {
+        0 => any_bytes(random),
+        1 => small_bytes(random),
+        2 => one_syllable(random),
+        3..6 => row_about_the_limit(random),
+        6..13 => {
+            let mut bytes = row(random);
+            for _ in 0..random.pick(&[1, 1, 2]) {
+                damage(random, &mut bytes);
+            }
+            bytes
+        }
+        _ => row(random),
+    }
+}
+
+fn row(random: &mut Random) -> Vec<u8> {
+    let syllables = random.below(6);
+    random_row(random, syllables).records.concat()
+}
+
+/// About 64 values; the joined 103F of two records is one of them.
+fn row_about_the_limit(random: &mut Random) -> Vec<u8> {
+    let length = random.between(WORD_LIMIT - 2, WORD_LIMIT + 2);
+    row_of_length(random, length).records.concat()
+}
+
+fn any_bytes(random: &mut Random) -> Vec<u8> {
+    (0..random.below(30)).map(|_| random.below(256) as u8).collect()
+}
+
+/// One record, each byte about as large as it may be.
+fn one_syllable(random: &mut Random) -> Vec<u8> {
+    [0x52, 14, 15, 3, 36, 5, 4].map(|bound| random.below(bound) as u8).to_vec()
+}
+
+fn small_bytes(random: &mut Random) -> Vec<u8> {
+    let syllables = random.between(1, 3);
+    (0..syllables).flat_map(|_| one_syllable(random)).collect()
+}
+
+/// Changes a byte, or takes, doubles or swaps records or bytes.
+fn damage(random: &mut Random, bytes: &mut Vec<u8>) {
+    if bytes.is_empty() {
+        return bytes.push(random.below(4) as u8);
+    }
+    let place = random.below(bytes.len());
+    let start = place / 7 * 7;
+    match random.below(8) {
+        0 => drop(bytes.drain(start..bytes.len().min(start + 7))),
+        1 => drop(bytes.remove(place)),
+        2 => bytes.insert(place, random.below(4) as u8),
+        3 => bytes[place] = bytes[place].wrapping_add(random.pick(&[1, 255])),
+        4 => bytes[place] = random.below(256) as u8,
+        5 => bytes.truncate(place),
+        6 => bytes[place] = 0,
+        _ => bytes.extend_from_within(start..),
+    }
+}

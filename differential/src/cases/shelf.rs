@@ -1,0 +1,121 @@
+//! The book that the calls go on with, until a new one is begun.
+
+use super::words::valid;
+use crate::case::Case;
+use crate::lent::{Memory, MARGIN};
+use crate::outcome::{Answer, Outcome};
+use crate::Call;
+use oracle::book::BOOK_LIMIT;
+use oracle::random::Random;
+use oracle::storage::store;
+use std::collections::BTreeSet;
+
+/// A book, and the words that were handed to it.
+pub struct Shelf {
+    /// The whole buffer.
+    pub bytes: Vec<u8>,
+    /// Where each record starts.
+    pub starts: Vec<usize>,
+    /// The first free byte.
+    pub end: usize,
+    /// Stored words of records, live or not.
+    pub words: Vec<Vec<u16>>,
+    calls_left: usize,
+    number: usize,
+}
+
+/// One of so many books is of the longest kind, and full or nearly so.
+const LONGEST_ONE_OF: usize = 150;
+
+impl Shelf {
+    /// A book without bytes.
+    pub fn new() -> Shelf {
+        Shelf {
+            bytes: Vec::new(),
+            starts: Vec::new(),
+            end: 0,
+            words: Vec::new(),
+            calls_left: 0,
+            number: 0,
+        }
+    }
+
+    /// Counts a call, and begins another book where this one had its calls.
+    pub fn turn(&mut self, random: &mut Random) {
+        if self.calls_left == 0 {
+            *self = Shelf::begun(random, self.number + 1);
+        }
+        self.calls_left -= 1;
+    }
+
+    /// A book of some size: empty, partly filled or full.
+    fn begun(random: &mut Random, number: usize) -> Shelf {
+        let size = match random.below(100) {
+            _ if number.is_multiple_of(LONGEST_ONE_OF) => {
+                BOOK_LIMIT - random.below(2) * random.below(40)
+            }
+            0..8 => random.below(20),
+            8..80 => random.between(20, 300),
+            80..99 => random.between(300, 1_500),
+            _ => random.between(1_500, 6_000),
+        };
+        let mut shelf = Shelf { bytes: vec![0; size], number, ..Shelf::new() };
+        shelf.calls_left = if size < 1_500 { random.between(10, 60) } else { 16 };
+        let filled = match random.below(4) {
+            _ if size > 1_500 => size - random.below(30),
+            0 => random.below(size + 1),
+            1 => size,
+            _ => 0,
+        };
+        shelf.fill(random, filled);
+        shelf
+    }
+
+    /// Puts records of different words there, until the next would pass the given byte.
+    fn fill(&mut self, random: &mut Random, to: usize) {
+        let mut live = BTreeSet::new();
+        loop {
+            let Ok(stored) = store(&valid(random)) else { continue };
+            let word = stored.word.to_vec();
+            if self.end + 7 + word.len() > to {
+                return;
+            }
+            let mark = if random.chance(80) { b"MW" } else { b"M-" };
+            if mark == b"MW" && !live.insert(word.clone()) {
+                continue;
+            }
+            let stock = random.below(1 << 32) as u32;
+            let record = [mark, &[word.len() as u8][..], &stock.to_le_bytes(), &letters(&word)];
+            let record = record.concat();
+            self.bytes[self.end..][..record.len()].copy_from_slice(&record);
+            self.starts.push(self.end);
+            self.end += record.len();
+            self.words.push(word);
+        }
+    }
+
+    /// Goes on from what an accepted call left, if it was on this very book.
+    pub fn take_note(&mut self, case: &Case, outcome: &Outcome) {
+        let (Answer::Accepted(numbers), Some(Memory::Bytes(cells))) =
+            (&outcome.answer, outcome.lent.first())
+        else {
+            return;
+        };
+        if !matches!(case.call, Call::BookAdd | Call::BookRemove) || case.bytes != self.bytes {
+            return;
+        }
+        self.bytes.copy_from_slice(&cells[MARGIN..cells.len() - MARGIN]);
+        if case.call == Call::BookAdd {
+            let start = numbers[0] as usize;
+            let letters = &self.bytes[start + 7..][..usize::from(self.bytes[start + 2])];
+            self.words.push(letters.iter().map(|&letter| 0x1000 + u16::from(letter)).collect());
+            self.end = start + 7 + letters.len();
+            self.starts.push(start);
+        }
+    }
+}
+
+/// The values of a stored word as a record holds them.
+pub fn letters(word: &[u16]) -> Vec<u8> {
+    word.iter().map(|value| (value - 0x1000) as u8).collect()
+}

@@ -1,0 +1,209 @@
+//! Words: valid ones, damaged ones, and values by chance.
+
+use oracle::formula::writings;
+use oracle::letters::admitted_values;
+use oracle::lists::{random_row, row_of_length, shuffle_runs};
+use oracle::random::Random;
+use oracle::syllable::Piece;
+use oracle::word::WORD_LIMIT;
+use std::sync::LazyLock;
+
+static ADMITTED: LazyLock<Vec<u16>> = LazyLock::new(|| admitted_values().collect());
+
+/// A word of any kind.
+pub fn word(random: &mut Random) -> Vec<u16> {
+    match random.below(100) {
+        0..2 => Vec::new(),
+        2..24 => valid(random),
+        24..28 => long(random),
+        28..33 => at_the_limit(random),
+        33..45 => shuffled(random),
+        45..65 => damaged(random),
+        65..72 => beginning(random),
+        72..76 => doubled(random),
+        76..82 => letter_u(random),
+        82..87 => loose_pieces(random),
+        87..91 => admitted(random),
+        91..96 => foreign(random),
+        96..99 => any_values(random),
+        _ => overlong(random),
+    }
+}
+
+/// A word that is near another in the word order, or any word.
+pub fn neighbour(random: &mut Random, first: &[u16]) -> Vec<u16> {
+    let mut second = first.to_vec();
+    match random.below(10) {
+        0 => {}
+        1..3 => shuffle_runs(random, &mut second),
+        3..6 => damage(random, &mut second),
+        6 => second.truncate(random.below(first.len() + 1)),
+        7 => {
+            for value in &mut second {
+                if matches!(*value, 0x102B | 0x102C) && random.chance(50) {
+                    *value ^= 0x102B ^ 0x102C;
+                }
+            }
+        }
+        _ => second = word(random),
+    }
+    second
+}
+
+/// A row of up to six syllables.
+pub fn valid(random: &mut Random) -> Vec<u16> {
+    let syllables = random.pick(&[1, 1, 2, 2, 3, 4, 5]);
+    random_row(random, syllables).values
+}
+
+fn long(random: &mut Random) -> Vec<u16> {
+    let length = random.between(20, WORD_LIMIT);
+    row_of_length(random, length).values
+}
+
+/// About 64 values, sometimes with an end that is not finished or that is stored shorter.
+fn at_the_limit(random: &mut Random) -> Vec<u16> {
+    let endings: [&[u16]; 6] = [
+        &[],
+        &[],
+        &[],
+        &[0x1000, 0x1010, 0x1039],
+        &[0x1000, 0x1004, 0x103A, 0x1039],
+        &[0x1025, 0x102E],
+    ];
+    let ending = random.pick(&endings);
+    let length = random.between(WORD_LIMIT - 2, WORD_LIMIT + 2) - ending.len();
+    let mut word = row_of_length(random, length).values;
+    word.extend(ending);
+    match random.below(4) {
+        0 => damage(random, &mut word),
+        1 => shuffle_runs(random, &mut word),
+        _ => {}
+    }
+    word
+}
+
+fn shuffled(random: &mut Random) -> Vec<u16> {
+    let mut word = if random.chance(10) { long(random) } else { valid(random) };
+    shuffle_runs(random, &mut word);
+    word
+}
+
+fn damaged(random: &mut Random) -> Vec<u16> {
+    let mut word = if random.chance(10) { long(random) } else { valid(random) };
+    for _ in 0..random.pick(&[1, 1, 1, 2, 3]) {
+        damage(random, &mut word);
+    }
+    word
+}
+
+/// Deletes, replaces, doubles or inserts a value, or swaps it with its neighbour.
+pub fn damage(random: &mut Random, word: &mut Vec<u16>) {
+    let value = any_admitted(random);
+    if word.is_empty() {
+        return word.push(value);
+    }
+    let place = random.below(word.len());
+    match random.below(6) {
+        0 => drop(word.remove(place)),
+        1 => word.insert(place, word[place]),
+        2 => word.insert(random.below(word.len() + 1), value),
+        3 if place + 1 < word.len() => word.swap(place, place + 1),
+        _ => word[place] = value,
+    }
+}
+
+/// An admitted value, marks and the stacker more often than letters.
+fn any_admitted(random: &mut Random) -> u16 {
+    if random.chance(50) {
+        random.pick(&ADMITTED)
+    } else {
+        random.pick(&[
+            0x102B, 0x102C, 0x102D, 0x102E, 0x102F, 0x1030, 0x1031, 0x1032, 0x1036, 0x1037, 0x1038,
+            0x1039, 0x103A, 0x103B, 0x103C, 0x103D, 0x103E, 0x103F, 0x1004, 0x101E, 0x1021, 0x1025,
+        ])
+    }
+}
+
+/// The first values of a word, often cut just behind a stacker.
+fn beginning(random: &mut Random) -> Vec<u16> {
+    let mut word = valid(random);
+    let behind_stacker = word.iter().rposition(|&value| value == 0x1039).map(|place| place + 1);
+    let length = match behind_stacker {
+        Some(length) if random.chance(60) => length,
+        _ => random.below(word.len() + 1),
+    };
+    word.truncate(length);
+    word
+}
+
+fn doubled(random: &mut Random) -> Vec<u16> {
+    let word = if random.chance(20) { long(random) } else { valid(random) };
+    [word.clone(), word].concat()
+}
+
+/// A word with 1025 before what changes it, or before what only comes near.
+fn letter_u(random: &mut Random) -> Vec<u16> {
+    let middles: [&[u16]; 12] = [
+        &[0x1025, 0x102E],
+        &[0x1000, 0x1025, 0x103A],
+        &[0x1000, 0x1025, 0x1039, 0x1005],
+        &[0x1000, 0x1025, 0x1037, 0x103A],
+        &[0x1000, 0x1025, 0x103A, 0x1039, 0x1005],
+        &[0x1000, 0x1025, 0x1039],
+        &[0x1025],
+        &[0x1025, 0x1025, 0x102E],
+        &[0x1025, 0x102E, 0x102E],
+        &[0x1025, 0x1038, 0x102E],
+        &[0x1025, 0x1031, 0x102E],
+        &[0x1025, 0x103F],
+    ];
+    let mut word = if random.chance(50) { valid(random) } else { Vec::new() };
+    word.extend(random.pick(&middles));
+    if random.chance(30) {
+        word.push(any_admitted(random));
+    }
+    if random.chance(40) {
+        word.extend(valid(random));
+    }
+    if random.chance(40) {
+        shuffle_runs(random, &mut word);
+    }
+    word
+}
+
+/// Writings of pieces in any order.
+fn loose_pieces(random: &mut Random) -> Vec<u16> {
+    let mut word = Vec::new();
+    for _ in 0..random.between(1, 8) {
+        let all: Vec<_> = writings(random.pick(&Piece::ALL)).collect();
+        word.extend(random.pick(&all).values());
+    }
+    word
+}
+
+fn admitted(random: &mut Random) -> Vec<u16> {
+    (0..random.below(13)).map(|_| any_admitted(random)).collect()
+}
+
+fn foreign(random: &mut Random) -> Vec<u16> {
+    let mut word = if random.chance(50) { valid(random) } else { damaged(random) };
+    for _ in 0..random.pick(&[1, 1, 2]) {
+        let value = match random.below(3) {
+            0 => random.pick(&[0x1022, 0x1028, 0x1033, 0x1034, 0x1035, 0x1050, 0x0FFF]),
+            1 => random.between(0x1050, 0x109F) as u16,
+            _ => random.below(0x1_0000) as u16,
+        };
+        word.insert(random.below(word.len() + 1), value);
+    }
+    word
+}
+
+fn any_values(random: &mut Random) -> Vec<u16> {
+    (0..random.below(20)).map(|_| random.below(0x1_0000) as u16).collect()
+}
+
+fn overlong(random: &mut Random) -> Vec<u16> {
+    let length = random.pick(&[65, 66, 127, 128, 256, 320, 1_000]);
+    (0..length).map(|_| any_admitted(random)).collect()
+}

@@ -1,0 +1,175 @@
+//! The proved library, through the crate `jogcairn`.
+
+use crate::call::Call;
+use crate::case::Case;
+use crate::lent::{Lent, Memory};
+use crate::library::Library;
+use crate::outcome::{Answer, Outcome};
+use jogcairn::{Book, ComparisonRefusal, Found, Refusal, Which, Word};
+use std::cmp::Ordering;
+
+/// The proved library.
+pub struct Proved;
+
+impl Library for Proved {
+    fn outcome(&self, case: &Case) -> Outcome {
+        match case.call {
+            Call::Spell => spell(case),
+            Call::Write | Call::Decode => bytes_to_values(case),
+            Call::Normalise => normalise(case),
+            Call::Key => key(case),
+            Call::Compare | Call::WordOrder => of_two_words(case),
+            Call::BookCheck | Call::BookRank | Call::BookEntries => of_book(case),
+            Call::BookAdd | Call::BookRemove | Call::BookFind => of_book_and_word(case),
+            Call::Read | Call::Record | Call::Part | Call::Syllables => of_word(case),
+        }
+    }
+}
+
+fn refused(refusal: Refusal, which: u8) -> Answer {
+    Answer::Refused { number: refusal.number(), place: refusal.place, which }
+}
+
+fn one(result: Result<usize, Refusal>) -> Answer {
+    match result {
+        Ok(number) => Answer::Accepted(vec![number as u64]),
+        Err(refusal) => refused(refusal, 0),
+    }
+}
+
+fn many(result: Result<Vec<u64>, Refusal>) -> Answer {
+    match result {
+        Ok(numbers) => Answer::Accepted(numbers),
+        Err(refusal) => refused(refusal, 0),
+    }
+}
+
+fn of_syllable(result: Result<Option<Vec<u64>>, Refusal>) -> Answer {
+    match result {
+        Ok(Some(numbers)) => Answer::Accepted(numbers),
+        Ok(None) => Answer::NoSuchSyllable,
+        Err(refusal) => refused(refusal, 0),
+    }
+}
+
+fn of_word(case: &Case) -> Outcome {
+    let word = Lent::input(&case.word);
+    let values = word.inside();
+    let number = case.numbers[0];
+    let answer = match case.call {
+        Call::Record => of_syllable(jogcairn::record(values, number).map(|record| {
+            record.map(|record| record.bytes().into_iter().map(u64::from).collect())
+        })),
+        Call::Part => of_syllable(jogcairn::part(values, number).map(|part| {
+            part.map(|part| {
+                let place = (part.as_ptr() as usize - values.as_ptr() as usize) / 2;
+                vec![place as u64, part.len() as u64]
+            })
+        })),
+        Call::Syllables => many(syllables(values)),
+        _ => one(jogcairn::read(values).map(|syllables| syllables.len())),
+    };
+    Outcome { answer, lent: vec![word.after()] }
+}
+
+/// The bytes of each record, the length of each part and its values.
+fn syllables(word: &[u16]) -> Result<Vec<u64>, Refusal> {
+    let mut numbers = Vec::new();
+    for syllable in jogcairn::read(word)? {
+        numbers.extend(syllable.record.bytes().map(u64::from));
+        numbers.push(syllable.part.len() as u64);
+        numbers.extend(syllable.part.iter().map(|&value| u64::from(value)));
+    }
+    Ok(numbers)
+}
+
+fn spell(case: &Case) -> Outcome {
+    let word = Lent::input(&case.word);
+    let mut values = Lent::output(case.numbers[0]);
+    let mut starts = Lent::output(case.numbers[1]);
+    let lengths = jogcairn::spell_into(word.inside(), values.inside_mut(), starts.inside_mut());
+    let answer = many(lengths.map(|lengths| vec![lengths.values as u64, lengths.starts as u64]));
+    Outcome { answer, lent: vec![word.after(), values.after(), starts.after()] }
+}
+
+fn bytes_to_values(case: &Case) -> Outcome {
+    let bytes = Lent::input(&case.bytes);
+    let mut word = Lent::output(case.numbers[0]);
+    let count = match case.call {
+        Call::Write => jogcairn::write_into(bytes.inside(), word.inside_mut()),
+        _ => jogcairn::decode_into(bytes.inside(), word.inside_mut()),
+    };
+    Outcome { answer: one(count), lent: vec![bytes.after(), word.after()] }
+}
+
+fn normalise(case: &Case) -> Outcome {
+    let word = Lent::input(&case.word);
+    let mut output = Lent::output(case.numbers[0]);
+    let count = jogcairn::normalise_into(word.inside(), output.inside_mut());
+    Outcome { answer: one(count), lent: vec![word.after(), output.after()] }
+}
+
+fn key(case: &Case) -> Outcome {
+    let word = Lent::input(&case.word);
+    let mut key = Lent::<u8>::output(case.numbers[0]);
+    let count = jogcairn::key_into(word.inside(), key.inside_mut());
+    Outcome { answer: one(count), lent: vec![word.after(), key.after()] }
+}
+
+fn of_two_words(case: &Case) -> Outcome {
+    let (first, second) = (Lent::input(&case.word), Lent::input(&case.second));
+    let ordering = match case.call {
+        Call::Compare => jogcairn::compare(first.inside(), second.inside()),
+        _ => order_of_words(first.inside(), second.inside()),
+    };
+    let answer = match ordering {
+        Ok(ordering) => Answer::Accepted(vec![(ordering as i8 + 1) as u64]),
+        Err(ComparisonRefusal { which: Which::First, refusal }) => refused(refusal, 1),
+        Err(ComparisonRefusal { which: Which::Second, refusal }) => refused(refusal, 2),
+    };
+    Outcome { answer, lent: vec![first.after(), second.after()] }
+}
+
+fn order_of_words(first: &[u16], second: &[u16]) -> Result<Ordering, ComparisonRefusal> {
+    let refused_in = |which| move |refusal| ComparisonRefusal { which, refusal };
+    let first = Word::new(first).map_err(refused_in(Which::First))?;
+    let second = Word::new(second).map_err(refused_in(Which::Second))?;
+    Ok(first.cmp(&second))
+}
+
+fn of_book(case: &Case) -> Outcome {
+    let book = Lent::input(&case.bytes);
+    let answer = match case.call {
+        Call::BookCheck => one(jogcairn::book::check(book.inside())),
+        Call::BookRank => many(jogcairn::book::rank(book.inside(), case.numbers[0]).map(found)),
+        _ => many(entries(book.inside())),
+    };
+    Outcome { answer, lent: vec![book.after()] }
+}
+
+fn found(found: Found) -> Vec<u64> {
+    vec![found.start as u64, u64::from(found.stock)]
+}
+
+/// Start, stock number and values of each live record.
+fn entries(book: &[u8]) -> Result<Vec<u64>, Refusal> {
+    let mut numbers = Vec::new();
+    for entry in jogcairn::book::entries(book)? {
+        numbers.extend([entry.start() as u64, u64::from(entry.stock())]);
+        numbers.extend(entry.values().map(u64::from));
+    }
+    Ok(numbers)
+}
+
+fn of_book_and_word(case: &Case) -> Outcome {
+    let mut bytes = Lent::input(&case.bytes);
+    let word = Lent::input(&case.word);
+    let mut book = Book::new(bytes.inside_mut());
+    let answer = match case.call {
+        Call::BookAdd => one(book.add(word.inside(), case.numbers[0] as u32)),
+        Call::BookRemove => one(book.remove(word.inside())),
+        _ => many(book.find(word.inside()).map(found)),
+    };
+    let lent: Vec<Memory> = vec![bytes.after(), word.after()];
+    Outcome { answer, lent }
+}

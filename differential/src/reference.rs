@@ -1,0 +1,166 @@
+//! The other implementation, `oracle`.
+
+use crate::call::Call;
+use crate::case::Case;
+use crate::lent::Lent;
+use crate::library::Library;
+use crate::outcome::{Answer, Outcome};
+use oracle::book;
+use oracle::word::hand_out;
+use oracle::{Refusal, Which};
+
+/// The other implementation.
+pub struct Reference;
+
+impl Library for Reference {
+    fn outcome(&self, case: &Case) -> Outcome {
+        match case.call {
+            Call::Spell => spell(case),
+            Call::Write | Call::Decode => bytes_to_values(case),
+            Call::Normalise => normalise(case),
+            Call::Key => key(case),
+            Call::Compare | Call::WordOrder => compare(case),
+            Call::BookCheck | Call::BookRank | Call::BookEntries => of_book(case),
+            Call::BookAdd | Call::BookRemove | Call::BookFind => of_book_and_word(case),
+            Call::Read | Call::Record | Call::Part | Call::Syllables => of_word(case),
+        }
+    }
+}
+
+fn refused(refusal: Refusal, which: u8) -> Answer {
+    Answer::Refused { number: refusal.number, place: refusal.place, which }
+}
+
+fn accepted(result: Result<Vec<u64>, Refusal>) -> Answer {
+    match result {
+        Ok(numbers) => Answer::Accepted(numbers),
+        Err(refusal) => refused(refusal, 0),
+    }
+}
+
+fn one(number: usize) -> Vec<u64> {
+    vec![number as u64]
+}
+
+fn of_word(case: &Case) -> Outcome {
+    let word = Lent::input(&case.word);
+    let answer = match case.call {
+        Call::Read => accepted(oracle::read(word.inside()).map(|read| one(read.syllables().len()))),
+        Call::Syllables => accepted(syllables(word.inside())),
+        _ => of_syllable(case.call, word.inside(), case.numbers[0]),
+    };
+    Outcome { answer, lent: vec![word.after()] }
+}
+
+fn of_syllable(call: Call, word: &[u16], number: usize) -> Answer {
+    let reading = match oracle::read(word) {
+        Ok(reading) => reading,
+        Err(refusal) => return refused(refusal, 0),
+    };
+    let Some(syllable) = reading.syllables().get(number) else { return Answer::NoSuchSyllable };
+    Answer::Accepted(match call {
+        Call::Record => oracle::record(word, number).record.map(u64::from).to_vec(),
+        _ => vec![syllable.start as u64, oracle::part(word, number).len() as u64],
+    })
+}
+
+/// The bytes of each record, the length of each part and its values.
+fn syllables(word: &[u16]) -> Result<Vec<u64>, Refusal> {
+    let mut numbers = Vec::new();
+    for (number, syllable) in oracle::read(word)?.syllables().iter().enumerate() {
+        let part = oracle::part(word, number);
+        numbers.extend(syllable.record.map(u64::from));
+        numbers.push(part.len() as u64);
+        numbers.extend(part.iter().map(|&value| u64::from(value)));
+    }
+    Ok(numbers)
+}
+
+fn spell(case: &Case) -> Outcome {
+    let word = Lent::input(&case.word);
+    let mut values = Lent::output(case.numbers[0]);
+    let mut starts = Lent::<u16>::output(case.numbers[1]);
+    let mut wide: Vec<usize> = starts.inside().iter().map(|&start| usize::from(start)).collect();
+    let lengths = oracle::spell_out(word.inside(), values.inside_mut(), &mut wide);
+    for (start, wide) in starts.inside_mut().iter_mut().zip(wide) {
+        *start = wide as u16;
+    }
+    let answer = accepted(lengths.map(|found| vec![found.values as u64, found.starts as u64]));
+    Outcome { answer, lent: vec![word.after(), values.after(), starts.after()] }
+}
+
+fn bytes_to_values(case: &Case) -> Outcome {
+    let bytes = Lent::input(&case.bytes);
+    let mut word = Lent::output(case.numbers[0]);
+    let count = match case.call {
+        Call::Write => oracle::write(bytes.inside(), word.inside_mut()),
+        _ => oracle::decode(bytes.inside()).and_then(|line| hand_out(&line, word.inside_mut())),
+    };
+    Outcome { answer: accepted(count.map(one)), lent: vec![bytes.after(), word.after()] }
+}
+
+fn normalise(case: &Case) -> Outcome {
+    let word = Lent::input(&case.word);
+    let mut output = Lent::output(case.numbers[0]);
+    let count = oracle::normalise(word.inside(), output.inside_mut());
+    Outcome { answer: accepted(count.map(one)), lent: vec![word.after(), output.after()] }
+}
+
+/// A key is written whole, and a short output is refused last.
+fn key(case: &Case) -> Outcome {
+    let word = Lent::input(&case.word);
+    let mut output = Lent::output(case.numbers[0]);
+    let count = oracle::key(word.inside())
+        .and_then(|key| hand_out(key.bytes(), output.inside_mut()).map(|_| key.count()));
+    Outcome { answer: accepted(count.map(one)), lent: vec![word.after(), output.after()] }
+}
+
+fn compare(case: &Case) -> Outcome {
+    let (first, second) = (Lent::input(&case.word), Lent::input(&case.second));
+    let answer = match oracle::compare(first.inside(), second.inside()) {
+        Ok(ordering) => Answer::Accepted(vec![(ordering as i8 + 1) as u64]),
+        Err((Which::First, refusal)) => refused(refusal, 1),
+        Err((Which::Second, refusal)) => refused(refusal, 2),
+    };
+    Outcome { answer, lent: vec![first.after(), second.after()] }
+}
+
+fn of_book(case: &Case) -> Outcome {
+    let bytes = Lent::input(&case.bytes);
+    let answer = accepted(match case.call {
+        Call::BookCheck => book::check(bytes.inside()).map(one),
+        Call::BookRank => book::rank(bytes.inside(), case.numbers[0]).map(found),
+        _ => entries(bytes.inside()),
+    });
+    Outcome { answer, lent: vec![bytes.after()] }
+}
+
+fn found(entry: book::Entry) -> Vec<u64> {
+    vec![entry.start as u64, u64::from(entry.stock)]
+}
+
+/// Start, stock number and values of each live record.
+fn entries(bytes: &[u8]) -> Result<Vec<u64>, Refusal> {
+    let mut numbers = Vec::new();
+    for rank in 0..book::check(bytes)? {
+        let entry = book::rank(bytes, rank)?;
+        numbers.extend(found(entry));
+        let (count, letters) = (bytes[entry.start + 2], &bytes[entry.start + 7..]);
+        let letters = letters.iter().take(usize::from(count));
+        numbers.extend(letters.map(|&letter| 0x1000 + u64::from(letter)));
+    }
+    Ok(numbers)
+}
+
+fn of_book_and_word(case: &Case) -> Outcome {
+    let mut bytes = Lent::input(&case.bytes);
+    let word = Lent::input(&case.word);
+    let answer = accepted(match case.call {
+        Call::BookAdd => {
+            book::add(bytes.inside_mut(), word.inside(), case.numbers[0] as u32).map(one)
+        }
+        Call::BookRemove => book::remove(bytes.inside_mut(), word.inside()).map(one),
+        _ => book::find(bytes.inside(), word.inside()).map(found),
+    });
+    Outcome { answer, lent: vec![bytes.after(), word.after()] }
+}

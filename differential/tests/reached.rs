@@ -1,0 +1,188 @@
+//! The inputs come in all kinds: every state of a book, every room of an output.
+
+use differential::cases::Cases;
+use differential::{Answer, Call, Case, Library, Outcome, Reference};
+use jogcairn::{BOOK_LIMIT, WORD_LIMIT};
+use std::collections::BTreeSet;
+
+/// Whether the case is of the kind.
+type Kind = fn(&Case, &Outcome) -> bool;
+
+const INPUTS: usize = 60_000;
+
+/// Shows that inputs of each kind are made.
+fn demand(kinds: &[(&str, Kind)]) {
+    let mut cases = Cases::new(1);
+    let mut missing: BTreeSet<&str> = kinds.iter().map(|(name, _)| *name).collect();
+    for _ in 0..INPUTS {
+        let case = cases.next_case();
+        let outcome = Reference.outcome(&case);
+        for (name, _) in kinds.iter().filter(|(_, kind)| kind(&case, &outcome)) {
+            missing.remove(name);
+        }
+        cases.take_note(&case, &outcome);
+    }
+    assert!(missing.is_empty(), "{missing:?}");
+}
+
+fn place_of(outcome: &Outcome, wanted: u8) -> Option<usize> {
+    match outcome.answer {
+        Answer::Refused { number, place, .. } if number == wanted => Some(place),
+        _ => None,
+    }
+}
+
+/// The bytes from the place on at which a buffer is no book.
+fn wrong_from<'c>(case: &'c Case, outcome: &Outcome) -> Option<&'c [u8]> {
+    case.bytes.get(place_of(outcome, 11)?..)
+}
+
+/// Whether a whole record begins the bytes, and its count of values.
+fn record(bytes: &[u8]) -> Option<usize> {
+    match bytes {
+        [b'M', b'W' | b'-', count @ 1..=64, ..] if bytes.len() >= 7 + usize::from(*count) => {
+            Some(usize::from(*count))
+        }
+        _ => None,
+    }
+}
+
+#[test]
+fn books_come_in_every_state() {
+    demand(&[
+        ("no bytes", |case, _| case.call == Call::BookCheck && case.bytes.is_empty()),
+        ("no records", |case, _| {
+            case.call == Call::BookAdd && !case.bytes.is_empty() && case.bytes[0] == 0
+        }),
+        ("an exact fit", |case, outcome| {
+            let Answer::Accepted(numbers) = &outcome.answer else { return false };
+            case.call == Call::BookAdd
+                && record(&case.bytes[numbers[0] as usize..]).is_none()
+                && case.bytes.len() - numbers[0] as usize == 7 + case.word.len()
+        }),
+        ("one byte short", |case, outcome| {
+            let free = place_of(outcome, 14);
+            free.is_some_and(|free| case.bytes.len() + 1 == free + 7 + case.word.len())
+        }),
+        ("the longest book", |case, outcome| {
+            case.bytes.len() == BOOK_LIMIT && matches!(outcome.answer, Answer::Accepted(_))
+        }),
+        ("the longest book, full", |case, outcome| {
+            case.bytes.len() == BOOK_LIMIT && place_of(outcome, 14).is_some()
+        }),
+        ("a word that was removed, added anew", |case, outcome| {
+            let Answer::Accepted(numbers) = &outcome.answer else { return false };
+            let letters: Vec<u8> = case.word.iter().map(|value| *value as u8).collect();
+            case.call == Call::BookAdd
+                && case.bytes[..numbers[0] as usize]
+                    .windows(letters.len() + 5)
+                    .any(|window| window[0] == letters.len() as u8 && window[5..] == letters)
+        }),
+    ]);
+}
+
+#[test]
+fn books_are_damaged_in_every_way() {
+    demand(&[
+        ("overlong", |case, outcome| {
+            case.bytes.len() > BOOK_LIMIT && place_of(outcome, 11) == Some(BOOK_LIMIT)
+        }),
+        ("another mark", |case, outcome| {
+            wrong_from(case, outcome).is_some_and(|wrong| wrong[0] != b'M' && wrong[0] != 0)
+        }),
+        ("a stray byte behind zeros", |case, outcome| {
+            let place = place_of(outcome, 11).filter(|&place| 0 < place && place < BOOK_LIMIT);
+            place.is_some_and(|place| case.bytes[place - 1] == 0 && case.bytes[place] != b'M')
+        }),
+        ("the mark's second byte", |case, outcome| {
+            let wrong = wrong_from(case, outcome);
+            wrong
+                .is_some_and(|wrong| matches!(wrong, [b'M', second, ..] if !b"W-".contains(second)))
+        }),
+        ("a lone 4D at the end", |case, outcome| wrong_from(case, outcome) == Some(b"M")),
+        ("a record cut by the end", |case, outcome| {
+            let wrong = wrong_from(case, outcome);
+            wrong.is_some_and(|wrong| {
+                matches!(wrong, [b'M', b'W', count @ 1..=64, ..] if wrong.len() < 7 + usize::from(*count))
+            })
+        }),
+        ("no values", |case, outcome| {
+            wrong_from(case, outcome).is_some_and(|wrong| matches!(wrong, [b'M', b'W', 0, ..]))
+        }),
+        ("too many values", |case, outcome| {
+            wrong_from(case, outcome)
+                .is_some_and(|wrong| matches!(wrong, [b'M', b'W', 65..=255, ..]))
+        }),
+        ("a word that is not readable", |case, outcome| {
+            let wrong = wrong_from(case, outcome).filter(|wrong| record(wrong).is_some());
+            wrong.is_some_and(|wrong| oracle::normalise(&word(wrong), &mut [0; 64]).is_err())
+        }),
+        ("a word in no storage order", |case, outcome| {
+            let wrong = wrong_from(case, outcome).filter(|wrong| record(wrong).is_some());
+            wrong.is_some_and(|wrong| {
+                let mut stored = [0; 64];
+                let count = oracle::normalise(&word(wrong), &mut stored);
+                count.is_ok_and(|count| stored[..count] != word(wrong))
+            })
+        }),
+        ("two equal live words", |case, outcome| {
+            let wrong = wrong_from(case, outcome).filter(|wrong| record(wrong).is_some());
+            wrong.is_some_and(|wrong| {
+                let mut stored = [0; 64];
+                let count = oracle::normalise(&word(wrong), &mut stored);
+                count.is_ok_and(|count| stored[..count] == word(wrong))
+            })
+        }),
+        ("a bad word and a bad book", |case, outcome| {
+            place_of(outcome, 3).is_some() && oracle::book::check(&case.bytes).is_err()
+        }),
+    ]);
+}
+
+/// The word of the record at the front.
+fn word(bytes: &[u8]) -> Vec<u16> {
+    let count = usize::from(bytes[2]);
+    bytes[7..][..count].iter().map(|&letter| 0x1000 + u16::from(letter)).collect()
+}
+
+#[test]
+fn words_come_in_every_length() {
+    let mut cases = Cases::new(1);
+    let mut lengths = BTreeSet::new();
+    for _ in 0..INPUTS {
+        lengths.insert(cases.next_case().word.len());
+    }
+    assert!((0..=WORD_LIMIT + 2).all(|length| lengths.contains(&length)));
+}
+
+#[test]
+fn outputs_come_in_every_length_from_none_to_enough() {
+    const LONGEST: usize = 6;
+    let mut cases = Cases::new(1);
+    let (mut seen, mut rooms_for_keys) = (BTreeSet::new(), BTreeSet::new());
+    for _ in 0..3 * INPUTS {
+        let case = cases.next_case();
+        if case.call == Call::Key {
+            rooms_for_keys.insert(case.numbers[0]);
+            continue;
+        }
+        let enough = Case { numbers: [512; 2], ..case.clone() };
+        if !case.call.number_names().contains(&"room") {
+            continue;
+        }
+        if let Answer::Accepted(needed) = Reference.outcome(&enough).answer {
+            seen.insert((case.call.name(), needed[0], case.numbers[0]));
+        }
+    }
+    for call in [Call::Spell, Call::Write, Call::Normalise, Call::Decode] {
+        for needed in 0..=LONGEST {
+            for room in 0..=needed + 1 {
+                assert!(
+                    seen.contains(&(call.name(), needed as u64, room)),
+                    "{call:?} {needed} {room}"
+                );
+            }
+        }
+    }
+    assert!((0..=321).all(|room| rooms_for_keys.contains(&room)));
+}

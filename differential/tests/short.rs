@@ -1,0 +1,49 @@
+//! Every short word, none left out.
+
+use differential::{difference, Call, Case, Proved, Reference};
+
+/// One value or more of each kind: those that the rules name, and one of the others.
+const REPRESENTATIVES: [u16; 24] = [
+    0x1000, 0x1004, 0x1009, 0x101E, 0x1021, 0x1025, 0x1040, 0x104A, 0x104C, 0x102B, 0x102C, 0x102D,
+    0x102E, 0x102F, 0x1031, 0x1036, 0x1037, 0x1038, 0x1039, 0x103A, 0x103B, 0x103C, 0x103D, 0x103F,
+];
+
+/// Tries each word of so many of the values.
+fn try_all(values: &[u16], length: usize, call: Call) {
+    let mut places = vec![0; length];
+    loop {
+        let word = places.iter().map(|&place| values[place]).collect();
+        let case = Case { numbers: [320, 64], ..Case::of_word(call, word) };
+        assert!(difference(&Proved, &Reference, &case).is_none(), "{case}");
+        // The next word: the places count like the digits of a number.
+        let Some(digit) = places.iter().rposition(|&place| place + 1 < values.len()) else { break };
+        places[digit] += 1;
+        places[digit + 1..].fill(0);
+    }
+}
+
+/// The admitted values, and the foreign ones among and beside them.
+fn values() -> Vec<u16> {
+    (0x0FFF..=0x1050).collect()
+}
+
+#[test]
+fn every_word_of_up_to_two_values() {
+    for call in [Call::Syllables, Call::Spell, Call::Normalise, Call::Key] {
+        for length in 0..=2 {
+            try_all(&values(), length, call);
+        }
+    }
+}
+
+#[test]
+fn every_word_of_three_values() {
+    try_all(&values(), 3, Call::Syllables);
+    try_all(&values(), 3, Call::Normalise);
+}
+
+#[test]
+fn every_word_of_four_representatives() {
+    try_all(&REPRESENTATIVES, 4, Call::Syllables);
+    try_all(&REPRESENTATIVES, 4, Call::Normalise);
+}

@@ -1,0 +1,212 @@
+//! The word book: a buffer of at most 16,384 bytes that gives each word a stock number.
+//!
+//! [`Book`] keeps a book in bytes that it may change; the functions of this module look into bytes
+//! that are shared. Each call tests the word first and then the whole book, and changes nothing
+//! where it refuses. A buffer of zeros, and one of no bytes, is a book without records.
+
+use crate::entries::Entries;
+use crate::ffi;
+use crate::refusal::Refusal;
+
+/// Where a live record starts, and its stock number.
+#[derive(Clone, Copy, Debug, PartialEq, Eq, Hash)]
+pub struct Found {
+    /// The byte where the record starts.
+    pub start: usize,
+    /// The stock number.
+    pub stock: u32,
+}
+
+/// Tells whether the bytes are a book, and gives the number of live records.
+///
+/// ```
+/// assert_eq!(jogcairn::book::check(&[0; 40])?, 0);
+/// assert_eq!(jogcairn::book::check(&[0, 0, 7]).unwrap_err().place, 2);
+/// # Ok::<(), jogcairn::Refusal>(())
+/// ```
+pub fn check(book: &[u8]) -> Result<usize, Refusal> {
+    ffi::book_check(book).one()
+}
+
+/// The live record with the word, which is normalised first.
+///
+/// ```
+/// let book = *b"MW\x01\x07\x00\x00\x00\x15";
+/// assert_eq!(jogcairn::book::find(&book, &[0x1015])?.stock, 7);
+/// assert_eq!(jogcairn::book::find(&book, &[0x1000]).unwrap_err().number(), 13);
+/// # Ok::<(), jogcairn::Refusal>(())
+/// ```
+pub fn find(book: &[u8], word: &[u16]) -> Result<Found, Refusal> {
+    let (stock, start) = ffi::book_find(book, word).two()?;
+    Ok(Found { start, stock })
+}
+
+/// The live record with so many live records before it in word order.
+///
+/// ```
+/// // ပ with stock number 7, then က with 8; က is filed first.
+/// let book = *b"MW\x01\x07\x00\x00\x00\x15MW\x01\x08\x00\x00\x00\x00";
+/// let first = jogcairn::book::rank(&book, 0)?;
+/// assert_eq!((first.start, first.stock), (8, 8));
+/// assert_eq!(jogcairn::book::rank(&book, 2).unwrap_err().place, 2);
+/// # Ok::<(), jogcairn::Refusal>(())
+/// ```
+pub fn rank(book: &[u8], rank: usize) -> Result<Found, Refusal> {
+    let (stock, start) = ffi::book_rank(book, rank).two()?;
+    Ok(Found { start, stock })
+}
+
+/// The live records in word order.
+///
+/// ```
+/// let book = *b"MW\x01\x07\x00\x00\x00\x15MW\x01\x08\x00\x00\x00\x00";
+/// let stocks: Vec<u32> = jogcairn::book::entries(&book)?.map(|entry| entry.stock()).collect();
+/// assert_eq!(stocks, [8, 7]);
+/// # Ok::<(), jogcairn::Refusal>(())
+/// ```
+pub fn entries(book: &[u8]) -> Result<Entries<'_>, Refusal> {
+    Ok(Entries::new(book, check(book)?))
+}
+
+/// A word book in borrowed bytes, which are its only state.
+///
+/// ```
+/// use jogcairn::{Book, Reason, Word};
+///
+/// let mut bytes = [0; 64];
+/// let mut book = Book::new(&mut bytes);
+/// let daughter: Word = "သမီး".parse()?;
+/// let university: Word = "တက္ကသိုလ်".parse()?;
+/// assert_eq!(book.add(&daughter, 31)?, 0);
+/// assert_eq!(book.add(&university, 4_000_000_000)?, 11);
+/// assert_eq!(book.add(&daughter, 5).unwrap_err().reason, Reason::AlreadyLive);
+/// assert_eq!(book.remove(&daughter)?, 0);
+/// assert_eq!(book.find(&daughter).unwrap_err().reason, Reason::NotLive);
+/// assert_eq!(book.check()?, 1);
+/// # Ok::<(), jogcairn::Refusal>(())
+/// ```
+#[derive(Debug)]
+pub struct Book<'b> {
+    bytes: &'b mut [u8],
+}
+
+impl<'b> Book<'b> {
+    /// The book in these bytes. Whether they are one, each call tells.
+    ///
+    /// ```
+    /// use jogcairn::Book;
+    ///
+    /// let mut bytes = [0x4D];
+    /// assert_eq!(Book::new(&mut bytes).check().unwrap_err().number(), 11);
+    /// ```
+    pub fn new(bytes: &'b mut [u8]) -> Book<'b> {
+        Book { bytes }
+    }
+
+    /// The bytes of the book.
+    ///
+    /// ```
+    /// use jogcairn::Book;
+    ///
+    /// let mut bytes = [0; 9];
+    /// let mut book = Book::new(&mut bytes);
+    /// book.add(&[0x1015], 0x0102)?;
+    /// assert_eq!(book.as_bytes(), b"MW\x01\x02\x01\x00\x00\x15\x00");
+    /// # Ok::<(), jogcairn::Refusal>(())
+    /// ```
+    pub fn as_bytes(&self) -> &[u8] {
+        self.bytes
+    }
+
+    /// Tells whether the bytes are a book, and gives the number of live records.
+    ///
+    /// ```
+    /// use jogcairn::Book;
+    ///
+    /// assert_eq!(Book::new(&mut []).check()?, 0);
+    /// # Ok::<(), jogcairn::Refusal>(())
+    /// ```
+    pub fn check(&self) -> Result<usize, Refusal> {
+        check(self.bytes)
+    }
+
+    /// Puts a live record with the word just after the last record, and gives its start.
+    ///
+    /// ```
+    /// use jogcairn::{Book, Reason};
+    ///
+    /// let mut bytes = [0; 15];
+    /// let mut book = Book::new(&mut bytes);
+    /// assert_eq!(book.add(&[0x1015], 1)?, 0);
+    /// let full = book.add(&[0x1000], 2).unwrap_err();
+    /// assert_eq!((full.reason, full.place), (Reason::BookFull, 8));
+    /// # Ok::<(), jogcairn::Refusal>(())
+    /// ```
+    pub fn add(&mut self, word: &[u16], stock: u32) -> Result<usize, Refusal> {
+        ffi::book_add(self.bytes, word, stock).one()
+    }
+
+    /// Marks the live record with the word as removed, and gives its start. Its room is not used
+    /// again.
+    ///
+    /// ```
+    /// use jogcairn::Book;
+    ///
+    /// let mut bytes = *b"MW\x01\x07\x00\x00\x00\x15";
+    /// assert_eq!(Book::new(&mut bytes).remove(&[0x1015])?, 0);
+    /// assert_eq!(&bytes, b"M-\x01\x07\x00\x00\x00\x15");
+    /// # Ok::<(), jogcairn::Refusal>(())
+    /// ```
+    pub fn remove(&mut self, word: &[u16]) -> Result<usize, Refusal> {
+        ffi::book_remove(self.bytes, word).one()
+    }
+
+    /// The live record with the word.
+    ///
+    /// ```
+    /// use jogcairn::{Book, Found};
+    ///
+    /// let mut bytes = [0; 20];
+    /// let mut book = Book::new(&mut bytes);
+    /// book.add(&[0x1025, 0x102E], 9)?;
+    /// assert_eq!(book.find(&[0x1026])?, Found { start: 0, stock: 9 });
+    /// # Ok::<(), jogcairn::Refusal>(())
+    /// ```
+    pub fn find(&self, word: &[u16]) -> Result<Found, Refusal> {
+        find(self.bytes, word)
+    }
+
+    /// The live record with so many live records before it in word order.
+    ///
+    /// ```
+    /// use jogcairn::{Book, Found};
+    ///
+    /// let mut bytes = [0; 20];
+    /// let mut book = Book::new(&mut bytes);
+    /// book.add(&[0x1015], 1)?;
+    /// book.add(&[0x1000], 2)?;
+    /// assert_eq!(book.rank(0)?, Found { start: 8, stock: 2 });
+    /// # Ok::<(), jogcairn::Refusal>(())
+    /// ```
+    pub fn rank(&self, rank: usize) -> Result<Found, Refusal> {
+        self::rank(self.bytes, rank)
+    }
+
+    /// The live records in word order.
+    ///
+    /// ```
+    /// use jogcairn::{Book, Word};
+    ///
+    /// let mut bytes = [0; 256];
+    /// let mut book = Book::new(&mut bytes);
+    /// for (stock, name) in ["ကင်ဆာ", "ကကူရံ", "ကကတိုး"].into_iter().enumerate() {
+    ///     book.add(&name.parse::<Word>()?, stock as u32)?;
+    /// }
+    /// let filed: Vec<String> = book.entries()?.map(|entry| entry.to_string()).collect();
+    /// assert_eq!(filed, ["ကကတိုး", "ကကူရံ", "ကင်ဆာ"]);
+    /// # Ok::<(), jogcairn::Refusal>(())
+    /// ```
+    pub fn entries(&self) -> Result<Entries<'_>, Refusal> {
+        entries(self.bytes)
+    }
+}

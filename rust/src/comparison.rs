@@ -1,0 +1,74 @@
+//! Comparison of two words as they are handed in.
+
+use crate::ffi;
+use crate::refusal::Refusal;
+use std::cmp::Ordering;
+use std::error::Error;
+use std::fmt;
+
+/// One of two words.
+#[derive(Clone, Copy, Debug, PartialEq, Eq, Hash)]
+pub enum Which {
+    /// The word handed in first.
+    First,
+    /// The word handed in second.
+    Second,
+}
+
+/// A refused comparison. The first word is tested whole before the second.
+///
+/// ```
+/// use jogcairn::{compare, Which};
+///
+/// let refused = compare(&[0x1000], &[0x103F]).unwrap_err();
+/// assert_eq!(refused.which, Which::Second);
+/// assert_eq!(
+///     refused.to_string(),
+///     "the second word: refusal 3: no word begins with the first value"
+/// );
+/// ```
+#[derive(Clone, Copy, Debug, PartialEq, Eq, Hash)]
+pub struct ComparisonRefusal {
+    /// The word that is refused.
+    pub which: Which,
+    /// Why.
+    pub refusal: Refusal,
+}
+
+impl fmt::Display for ComparisonRefusal {
+    fn fmt(&self, f: &mut fmt::Formatter<'_>) -> fmt::Result {
+        let which = match self.which {
+            Which::First => "first",
+            Which::Second => "second",
+        };
+        write!(f, "the {which} word: {}", self.refusal)
+    }
+}
+
+impl Error for ComparisonRefusal {
+    fn source(&self) -> Option<&(dyn Error + 'static)> {
+        Some(&self.refusal)
+    }
+}
+
+/// Compares two words, which are normalised first: by their rows of weights, and then by the code
+/// values of their stored forms. Words that are compared often are better held as
+/// [`Word`](crate::Word)s.
+///
+/// ```
+/// use std::cmp::Ordering;
+///
+/// assert_eq!(jogcairn::compare(&[0x1025, 0x102E], &[0x1026])?, Ordering::Equal);
+/// // The two AA weigh the same, so that the code values decide.
+/// assert_eq!(jogcairn::compare(&[0x1000, 0x102B], &[0x1000, 0x102C])?, Ordering::Less);
+/// # Ok::<(), jogcairn::ComparisonRefusal>(())
+/// ```
+pub fn compare(first: &[u16], second: &[u16]) -> Result<Ordering, ComparisonRefusal> {
+    let answer = ffi::compare(first, second);
+    if let Some((which, refusal)) = answer.refused_word() {
+        answer.demand(which == 1 || which == 2);
+        let which = if which == 1 { Which::First } else { Which::Second };
+        return Err(ComparisonRefusal { which, refusal });
+    }
+    Ok(answer.ordering())
+}

@@ -1,0 +1,87 @@
+//! Myanmar (Burmese) words: their syllables, their one stored spelling, the order in which the
+//! dictionary files them, and a word book that gives each word a stock number.
+//!
+//! Every answer comes from a library that is proved to meet its contract; this crate gives it
+//! Rust's types. A word is a slice of code values, `&[u16]`, at most 64 of them; what is refused is
+//! an [`Err`] with a [`Refusal`], which has a number, a place and a sentence.
+//!
+//! ```
+//! use jogcairn::{read, Book, Word};
+//!
+//! // A name typed with its marks in any order has one stored form.
+//! let fan: Word = "ပန်ကာ".parse()?;
+//! let pipe: Word = "ပိုက်".parse()?;
+//! assert_eq!(read(&fan)?.len(), 2);
+//! assert!(pipe < fan);
+//!
+//! let mut bytes = [0; 256];
+//! let mut book = Book::new(&mut bytes);
+//! book.add(&fan, 2041)?;
+//! book.add(&pipe, 17)?;
+//! assert_eq!(book.find(&fan)?.stock, 2041);
+//! let filed: Vec<String> = book.entries()?.map(|entry| entry.to_string()).collect();
+//! assert_eq!(filed, ["ပိုက်", "ပန်ကာ"]);
+//! # Ok::<(), jogcairn::Refusal>(())
+//! ```
+//!
+//! | to | call |
+//! |---|---|
+//! | cut a word into syllables | [`read`], [`record`], [`part`] |
+//! | spell the syllables out | [`spell`], [`spell_into`] |
+//! | write a word from records | [`write()`], [`write_into`] |
+//! | store a word in its one spelling | [`Word`], [`normalise`], [`normalise_into`] |
+//! | file words | [`Word`], [`Key`], [`key_into`], [`compare`] |
+//! | take the values of a line of UTF-8 | [`decode`], [`decode_into`] |
+//! | keep a word book | [`Book`], and the functions of [`book`] for shared bytes |
+//!
+//! A function whose name ends in `_into` writes to the front of what the caller lends and leaves
+//! the rest as it was; a refusal writes nothing.
+
+#![forbid(unsafe_op_in_unsafe_fn)]
+#![deny(unsafe_code)]
+#![warn(missing_docs)]
+
+mod answer;
+pub mod book;
+mod comparison;
+mod entries;
+#[allow(unsafe_code)]
+mod ffi;
+mod key;
+mod line;
+mod reading;
+mod record;
+mod refusal;
+mod spelling;
+mod storage;
+mod text;
+mod word;
+mod writing;
+
+pub use book::{Book, Found};
+pub use comparison::{compare, ComparisonRefusal, Which};
+pub use entries::{Entries, Entry};
+pub use key::{key_into, Key};
+pub use line::{decode, decode_into};
+pub use reading::{part, read, record, Syllable, Syllables};
+pub use record::{Link, Record};
+pub use refusal::{Reason, Refusal};
+pub use spelling::{spell, spell_into, Spelled, SpelledLengths};
+pub use storage::{normalise, normalise_into};
+pub use word::Word;
+pub use writing::{write, write_into};
+
+/// The most code values that a word has.
+pub const WORD_LIMIT: usize = 64;
+
+/// The most bytes that a line has: three a value.
+pub const LINE_LIMIT: usize = 192;
+
+/// The values of the longest spelled word.
+pub const SPELLED_LIMIT: usize = 190;
+
+/// The bytes of a key, of which five a syllable are used.
+pub const KEY_SIZE: usize = 320;
+
+/// The most bytes that a book has.
+pub const BOOK_LIMIT: usize = 16_384;

@@ -1,0 +1,133 @@
+//! The words that the scope document names, and the order of its tests.
+
+use jogcairn::{
+    compare, decode, key_into, normalise, part, read, spell_into, write, Book, Key, Reason,
+    Refusal, Which, Word, KEY_SIZE, WORD_LIMIT,
+};
+use std::cmp::Ordering;
+
+fn refused<T: std::fmt::Debug>(result: Result<T, Refusal>) -> (u8, usize) {
+    let refusal = result.unwrap_err();
+    (refusal.number(), refusal.place)
+}
+
+fn weights(word: &[u16]) -> Vec<[u8; 5]> {
+    Key::of(word).unwrap().rows().collect()
+}
+
+#[test]
+fn the_words_to_try_are_weighed_as_the_document_says() {
+    assert_eq!(read(&[]).unwrap().len(), 0);
+    assert_eq!(weights(&[0x1000]), [[13, 0, 0, 0, 0]]);
+    assert_eq!(weights(&[0x101E, 0x1019, 0x102E, 0x1038]), [[43, 0, 0, 0, 0], [38, 0, 0, 3, 2]]);
+    assert_eq!(
+        weights(&[0x1010, 0x1000, 0x1039, 0x1000, 0x101E, 0x102D, 0x102F, 0x101C, 0x103A]),
+        [[29, 0, 1, 0, 0], [13, 0, 0, 0, 0], [43, 0, 29, 11, 0]]
+    );
+    assert_eq!(
+        weights(&[0x1021, 0x1004, 0x103A, 0x1039, 0x1002, 0x101C, 0x1014, 0x103A]),
+        [[46, 0, 5, 0, 0], [15, 0, 0, 0, 0], [41, 0, 21, 0, 0]]
+    );
+    assert_eq!(read(&[0x1000; 64]).unwrap().len(), 64);
+}
+
+#[test]
+fn the_words_to_try_are_refused_as_the_document_says() {
+    assert_eq!(refused(read(&[0x1000, 0x1039])), (3, 1));
+    assert_eq!(refused(read(&[0x1000, 0x1000, 0x1039])), (4, 3));
+    assert_eq!(refused(read(&[0x1000, 0x1004, 0x1039, 0x1000])), (3, 2));
+    assert_eq!(refused(read(&[0x103F])), (3, 0));
+    assert_eq!(refused(read(&[0x1000, 0x103B, 0x103C])), (3, 2));
+    assert_eq!(refused(read(&[0x1000, 0x102C, 0x103A])), (3, 2));
+    assert_eq!(read(&[0x1000, 0x1031, 0x102C, 0x103A]).unwrap().len(), 1);
+    assert_eq!(refused(read(&[0x1000; 65])), (1, 64));
+}
+
+#[test]
+fn words_are_stored_as_the_document_says() {
+    let stored = [0x1000, 0x1014, 0x103A, 0x1037];
+    assert_eq!(normalise(&[0x1000, 0x1014, 0x1037, 0x103A]).unwrap(), stored);
+    assert_eq!(normalise(&[0x1025, 0x102E]).unwrap(), [0x1026]);
+}
+
+#[test]
+fn the_parts_joined_give_the_word_and_the_records_written_too() {
+    for text in ["တက္ကသိုလ်", "အင်္ဂလန်", "ပြဿနာ", "သမီး", "၂၀၁၁", "ကမ္ဘောဒီးယား", ""]
+    {
+        let word: Word = text.parse().unwrap();
+        assert_eq!(word.to_string(), text);
+        let syllables = read(&word).unwrap();
+        let parts: Vec<u16> = syllables.clone().flat_map(|found| found.part).copied().collect();
+        assert_eq!(parts, word.values());
+        let records: Vec<u8> = syllables.flat_map(|found| found.record.bytes()).collect();
+        assert_eq!(write(&records).unwrap(), word.values());
+    }
+}
+
+#[test]
+fn syllables_are_an_exact_double_ended_iterator() {
+    let word = [0x1000, 0x1000, 0x103A, 0x1040, 0x1019, 0x102E];
+    let mut syllables = read(&word).unwrap();
+    assert_eq!(syllables.len(), 3);
+    assert_eq!(syllables.next_back().unwrap().part, &word[4..]);
+    assert_eq!(syllables.len(), 2);
+    assert_eq!(syllables.nth(1).unwrap().part, &word[3..4]);
+    assert_eq!(syllables.len(), 0);
+    assert!(syllables.next().is_none() && syllables.next_back().is_none());
+}
+
+#[test]
+fn the_part_lies_in_the_word_itself() {
+    let word = [0x1000, 0x1000, 0x103A, 0x1040];
+    let found = part(&word, 1).unwrap().unwrap();
+    assert_eq!(found.as_ptr(), word[3..].as_ptr());
+    assert_eq!(part(&word, usize::MAX).unwrap(), None);
+}
+
+#[test]
+fn an_empty_slice_is_lent_like_any_other() {
+    assert_eq!(spell_into(&[], &mut [], &mut []).unwrap().values, 0);
+    assert_eq!(refused(spell_into(&[0x1000], &mut [], &mut [])), (5, 1));
+    assert_eq!(refused(spell_into(&[0x1000], &mut [0], &mut [])), (5, 1));
+    assert_eq!(write(&[]).unwrap(), []);
+    assert_eq!(decode(&[]).unwrap(), []);
+    assert_eq!(refused(key_into(&[], &mut [])), (5, KEY_SIZE));
+    assert_eq!(compare(&[], &[]).unwrap(), Ordering::Equal);
+    assert_eq!(refused(Book::new(&mut []).add(&[0x1000], 1)), (14, 0));
+    assert_eq!(refused(Book::new(&mut []).rank(0)), (15, 0));
+}
+
+#[test]
+fn the_tests_run_in_the_order_of_the_document() {
+    let mut foreign = [0x1000; WORD_LIMIT + 1];
+    foreign[0] = 0x0041;
+    assert_eq!(refused(read(&foreign)), (1, 64));
+    assert_eq!(refused(read(&[0x1039, 0x0041])), (2, 1));
+    let mut no_book = *b"no book";
+    let mut book = Book::new(&mut no_book);
+    assert_eq!(refused(book.add(&[], 1)), (8, 0));
+    assert_eq!(refused(book.add(&[0x1039], 1)), (3, 0));
+    assert_eq!(refused(book.add(&[0x1000], 1)), (11, 0));
+    let both = compare(&[0x103F], &[0x0041]).unwrap_err();
+    assert_eq!((both.which, both.refusal.reason), (Which::First, Reason::NoContinuation));
+}
+
+#[test]
+fn a_book_is_kept_through_its_calls() {
+    let mut bytes = [0; 26];
+    let mut book = Book::new(&mut bytes);
+    let (first, second) = ([0x1000, 0x102B], [0x1000, 0x102C]);
+    assert_eq!(book.add(&second, 1), Ok(0));
+    assert_eq!(book.add(&first, 2), Ok(9));
+    assert_eq!(refused(book.add(&second, 3)), (12, 0));
+    assert_eq!(refused(book.add(&[0x1015, 0x102B], 3)), (14, 18));
+    let stocks =
+        |book: &Book| book.entries().unwrap().map(|found| found.stock()).collect::<Vec<_>>();
+    assert_eq!(stocks(&book), [2, 1]);
+    assert_eq!(book.remove(&first), Ok(9));
+    assert_eq!(refused(book.remove(&first)), (13, 0));
+    assert_eq!(refused(book.rank(1)), (15, 1));
+    assert_eq!(stocks(&book), [1]);
+    assert_eq!(book.add(&[0x1000], 4), Ok(18));
+    assert_eq!(bytes, *b"MW\x02\x01\0\0\0\x00\x2CM-\x02\x02\0\0\0\x00\x2BMW\x01\x04\0\0\0\x00");
+}
