@@ -16,9 +16,7 @@ ghost use Rattle.interface.specs.Outputs.{KeyWritten, DecodeWritten};
 pub extern "C" fn jogcairn_read(word: &[u16]) -> u64
     ensures { λ r. ⌜ Packed (Answers (now (word .entry))) readNumbers r ⌝ }
 {
-    let reading = reading::read::read(word);
-    let answer = reading.answer;
-    packing::of_reading(answer)
+    packing::of_reading(reading::walk::answer_of(word))
 }
 
 // The record of the syllable `number`, from 0.
