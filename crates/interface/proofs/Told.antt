@@ -1,9 +1,10 @@
 -- Every call's number tells all of its outcome: unpacked, it is the outcome's numbers, of which none is cut. By the promises alone.
 -- Assumes nothing.
-use mathlib.Core.Path.{_≡_, ap, _∙_}
+use mathlib.Core.Path.{_≡_, sym, ap, subst, _∙_}
 use mathlib.Core.List.{List}
 use Prim.Native.Nat.{ℕ}
 use Rattle.reading.specs.Answer.{Answers}
+use Rattle.reading.specs.Records.{HasRecord}
 use Rattle.reading.specs.Parts.{PartAnswers}
 use Rattle.normaliser.specs.Normal.{NormaliseRight}
 use Rattle.writing.specs.Write.{WriteRight}
@@ -15,10 +16,10 @@ use Rattle.keeping.proofs.Laws.{Bytes}
 use Rattle.ranking.specs.Rank.{rankOf}
 use Rattle.wordbook.specs.Calls.{AddPromise, RemovePromise}
 use Rattle.packing.specs.Packing.{pack, unpack, Packed}
-use Rattle.packing.specs.Answers.{RecordGivenRight, readNumbers, recordNumbers, partNumbers, writeNumbers}
+use Rattle.packing.specs.Answers.{RecordGivenRight, readNumbers, bytesNumbers, recordNumbers, partNumbers, writeNumbers}
 use Rattle.packing.specs.Answers.{spellNumbers, compareNumbers, FindAnswers, bookNumbers}
-use Rattle.packing.proofs.Laws.{unpack-pack, packed-told}
-use Rattle.packing.proofs.WordFits.{read-fits, record-fits, part-fits, normalise-fits, write-fits, spell-fits, compare-fits}
+use Rattle.packing.proofs.Laws.{unpack-pack, packed-told, RecordBits, record-bits}
+use Rattle.packing.proofs.WordFits.{read-fits, record-fits, record-small, part-fits, normalise-fits, write-fits, spell-fits, compare-fits}
 use Rattle.packing.proofs.BookFits.{check-fits, rank-fits, find-fits, add-fits, remove-fits}
 use Rattle.interface.specs.Outputs.{KeyWritten, DecodeWritten}
 use Rattle.interface.proofs.OutputFits.{key-fits, decode-fits}
@@ -29,6 +30,10 @@ module _ (word : List ℕ) (n : ℕ) where
 
   pub record-told : (number : ℕ) (p : Packed (RecordGivenRight word number) recordNumbers n) → unpack n ≡ recordNumbers (p .outcome)
   record-told number p = packed-told (RecordGivenRight word number) recordNumbers (record-fits word number) n p
+
+  -- the low 56 bits are the seven bytes, the head lowest, where there is such a syllable
+  pub record-bits-told : (number : ℕ) (bytes : List ℕ) → HasRecord word number bytes → n ≡ pack (bytesNumbers bytes) → RecordBits n bytes
+  record-bits-told number bytes r e = subst (λ (m : ℕ). RecordBits m bytes) (sym e) (record-bits bytes (record-small word number bytes r))
 
   pub part-told : (number : ℕ) (p : Packed (PartAnswers word number) partNumbers n) → unpack n ≡ partNumbers (p .outcome)
   part-told number p = packed-told (PartAnswers word number) partNumbers (part-fits word number) n p

@@ -24,7 +24,7 @@ use Rattle.rows.proofs.Sound.{apart}
 use Rattle.rows.proofs.Complete.{first}
 use Rattle.rows.proofs.Viable.{only-row}
 use Rattle.reading.specs.Answer as reading
-use Rattle.reading.specs.Records.{RecordOutcome, found, no-syllable, refuses, RecordAnswers}
+use Rattle.reading.specs.Records.{RecordOutcome, found, no-syllable, refuses, HasRecord, RecordAnswers}
 use Rattle.reading.specs.Parts as parts
 use Rattle.reading.proofs.Recorded.{count-limit}
 use Rattle.storage.specs.Stored.{storedForm}
@@ -189,6 +189,17 @@ bytes-fit (syllable h m v f t) is =
       first = omega (arith, head-most h (p .head), medial-small m, v .0, v .1);
     }
 
+bytes-small : (s : Syllable) → T (isSyllable s) → (k : ℕ) → getD (recordOf s) k 0 < 0x100
+unfolding recordOf
+bytes-small (syllable h m v f t) is zero = omega (arith, head-most h (apart h m v f t is .head))
+bytes-small (syllable h m v f t) is (suc zero) = medial-small m
+bytes-small (syllable h m v f t) is (suc (suc zero)) = vowel-small v .0
+bytes-small (syllable h m v f t) is (suc (suc (suc zero))) = vowel-small v .1
+bytes-small (syllable h m v f t) is (suc (suc (suc (suc zero)))) = final-small f (apart h m v f t is .final) .0
+bytes-small (syllable h m v f t) is (suc (suc (suc (suc (suc zero))))) = final-small f (apart h m v f t is .final) .1
+bytes-small (syllable h m v f t) is (suc (suc (suc (suc (suc (suc zero)))))) = tone-small t
+bytes-small (syllable h m v f t) is (suc (suc (suc (suc (suc (suc (suc k))))))) = omega arith
+
 row-at : (f : Final) (row : Row) (k : ℕ) (d : Syllable) → T (isRowAfter f row) → k < length row → T (isSyllable (getD row k d))
 row-at f [] k d t h = absurd (not-suc-le-zero h)
 row-at f (s ∷ row) zero d t h = first f s row t .is
@@ -203,3 +214,9 @@ record-fits word number given r = go (given .outcome) r
         (bytes-fit (getD (r .row) number (bare 0x1000)) (row-at no-final (r .row) number (bare 0x1000) (r .gives .is-row) (r .below)))
     go no-syllable r = record { tag = omega arith; second = omega arith; first = omega arith }
     go (refuses refusal place) r = small-fits refusal 0 place (omega arith) (refused-small word refusal place (r .refused))
+
+-- each of a record's seven bytes is one
+pub record-small : (word : List ℕ) (number : ℕ) (bytes : List ℕ) → HasRecord word number bytes → (k : ℕ) → getD bytes k 0 < 0x100
+record-small word number bytes r k =
+    subst (λ (l : List ℕ). getD l k 0 < 0x100) (sym (r .is))
+    (bytes-small (getD (r .row) number (bare 0x1000)) (row-at no-final (r .row) number (bare 0x1000) (r .gives .is-row) (r .below)) k)
