@@ -44,7 +44,7 @@ copy-out-requires c κs =
     let h = holds (c .before .before .before .before .before) in
     let n = held-count _ _ h in
     let l = held-limit _ _ h in
-    let r = c .before .before .before .before .if1 .left in
+    let r = c .before .before .before .if1 .left in
     (omega (arith, n), omega (arith, n))
 
 same-length : tie.Need-same-length
