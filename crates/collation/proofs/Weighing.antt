@@ -4,7 +4,7 @@ use mathlib.Core.Path.{_≡_, sym, subst}
 use mathlib.Core.List.{List}
 use Prim.Native.Nat.{ℕ, _≤_}
 use native.Mathlib.Omega.{arith}
-use lib.ListN.{length}
+use lib.ListN.{length, take}
 use Rattle.formula.specs.Limits.{limit}
 use Rattle.formula.specs.Row.{Row, Gives}
 use Rattle.refusals.specs.Refusal.{numberOf, placeOf}
@@ -18,8 +18,11 @@ use Rattle.storage.proofs.Rows.{gives-stored}
 use Rattle.normaliser.specs.Normal.{StoreRefusedWith, outcome, Stores, StoreAnswers}
 use Rattle.normaliser.proofs.Storing.{reads-stores}
 use Rattle.weighing.specs.Keys.{keyLimit, usedBytes}
+use Rattle.weighing.specs.Order.{inTurn, orderValues}
 use Rattle.keying.specs.Filled.{KeyIfRead, FillRight}
 use Rattle.collation.specs.Keyed.{KeyFor, KeyRight, WeighedFor, WeighRight}
+use Rattle.collation.specs.Comparison.{Ordered}
+use Rattle.collation.proofs.Laws.{keys-compare}
 
 -- the weights of a row of syllables, which is its own stored form
 pub row-weighed : (word : List ℕ) (answer : ReadAnswer) (bytes : List ℕ) → FillRight word answer bytes → (n : ℕ) → answer ≡ Syllables n
@@ -51,26 +54,41 @@ pub refused-weighed : (word : List ℕ) (answer : ReadAnswer) (bytes : List ℕ)
 refused-weighed word answer bytes answers refusal e room =
     record { answers = answers; weighed = subst (λ (a : ReadAnswer). WeighedFor word (outcomeOf a) bytes) (sym e) tt; room = room }
 
-module _ (word : List ℕ) (answer : ReadAnswer) (bytes : List ℕ) (right : WeighRight word answer bytes) where
-  pub weighed-refused : (refusal : Refusal) → answer ≡ Refused refusal → StoreRefusedWith word (numberOf refusal) (placeOf refusal)
-  weighed-refused refusal e = subst (λ (a : ReadAnswer). StoreAnswers word (outcomeOf a)) e (right .answers)
+pub weighed-refused : (word : List ℕ) (answer : ReadAnswer) (bytes : List ℕ) → WeighRight word answer bytes → (refusal : Refusal)
+    → answer ≡ Refused refusal → StoreRefusedWith word (numberOf refusal) (placeOf refusal)
+weighed-refused word answer bytes right refusal e = subst (λ (a : ReadAnswer). StoreAnswers word (outcomeOf a)) e (right .answers)
 
-  module _ (n : ℕ) (e : answer ≡ Syllables n) where
-    pub weighed-stores : Stores word n
-    weighed-stores = subst (λ (a : ReadAnswer). StoreAnswers word (outcomeOf a)) e (right .answers)
+-- a word that is weighed, with the number of its syllables
+pub record Weighed : Type 0 where
+  pub word : List ℕ
+  pub answer : ReadAnswer
+  pub bytes : List ℕ
+  pub right : WeighRight word answer bytes
+  pub count : ℕ
+  pub told : answer ≡ Syllables count
 
-    pub weighed-key : KeyRight word (record { answer = answer; bytes = bytes })
-    weighed-key =
-        record {
-          answers = right .answers;
-          bytes =
-              subst (λ (a : ReadAnswer). KeyFor word (outcomeOf a) bytes) (sym e)
-              (subst (λ (a : ReadAnswer). WeighedFor word (outcomeOf a) bytes) e (right .weighed));
-        }
+module _ (w : Weighed) where
+  pub weighed-stores : Stores (w .word) (w .count)
+  weighed-stores = subst (λ (a : ReadAnswer). StoreAnswers (w .word) (outcomeOf a)) (w .told) (w .right .answers)
 
-    pub weighed-limit : n ≤ limit
-    weighed-limit = count-limit (storedForm word) n (weighed-stores .reads)
+  pub weighed-key : KeyRight (w .word) (record { answer = w .answer; bytes = w .bytes })
+  weighed-key =
+      record {
+        answers = w .right .answers;
+        bytes =
+            subst (λ (a : ReadAnswer). KeyFor (w .word) (outcomeOf a) (w .bytes)) (sym (w .told))
+            (subst (λ (a : ReadAnswer). WeighedFor (w .word) (outcomeOf a) (w .bytes)) (w .told) (w .right .weighed));
+      }
 
-    -- the used bytes are within the key
-    pub weighed-used : usedBytes n ≤ length bytes
-    weighed-used = let h = weighed-limit in omega (arith, right .room)
+  pub weighed-limit : w .count ≤ limit
+  weighed-limit = count-limit (storedForm (w .word)) (w .count) (weighed-stores .reads)
+
+  -- the used bytes are within the key
+  pub weighed-used : usedBytes (w .count) ≤ length (w .bytes)
+  weighed-used = let h = weighed-limit in omega (arith, w .right .room)
+
+-- two words that are weighed compare by their used bytes, and by their stored forms where those are the same
+pub weighed-order : (w v : Weighed) → Ordered (w .word) (v .word)
+    (inTurn (orderValues (take (usedBytes (w .count)) (w .bytes)) (take (usedBytes (v .count)) (v .bytes)))
+    (orderValues (storedForm (w .word)) (storedForm (v .word))))
+weighed-order w v = keys-compare (w .word) _ (weighed-key w) (w .count) (w .told) (v .word) _ (weighed-key v) (v .count) (v .told)

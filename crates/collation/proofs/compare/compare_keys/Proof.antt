@@ -4,11 +4,39 @@ use mathlib.Core.Path.{sym}
 use native.Mathlib.Omega.{arith}
 use lib.Seq.{length-take-le}
 use borrow.Author.Needs.{needs}
-use Rattle.collation.proofs.Weighing.{weighed-refused, weighed-stores, weighed-key, weighed-limit, weighed-used}
-use Rattle.collation.proofs.Laws.{keys-compare}
+use Rattle.collation.proofs.Weighing.{Weighed, weighed-refused, weighed-stores, weighed-limit, weighed-used, weighed-order}
 use Rattle.collation.proofs.Comparing.{keys-decide, forms-decide}
 use Rattle.collation.proofs.compare.compare_keys.Statement.{statement}
 use Rattle.collation.proofs.compare.compare_keys.Tie as tie
+
+-- the first word, once it is weighed, and the second
+abbrev one : tie.After-one-answer2 → Weighed
+one c =
+    let a = c .before .before in
+    record {
+      word = a .before .before .before .before .args .first .now;
+      answer = a .weigh .result;
+      bytes = _;
+      right = a .weigh .ensures;
+      count = c .one-answer2 .given .0 .0;
+      told = c .one-answer2 .given .1;
+    }
+
+abbrev other : tie.After-other-answer2 → Weighed
+other c =
+    let b = c .before .before in
+    record {
+      word = b .before .before .before .before .before .before .before .before .before .args .second .now;
+      answer = b .weigh2 .result;
+      bytes = _;
+      right = b .weigh2 .ensures;
+      count = c .other-answer2 .given .0 .0;
+      told = c .other-answer2 .given .1;
+    }
+
+-- where the second word is weighed, so is the first
+abbrev first-of : tie.After-other-answer2 → Weighed
+first-of c = one (c .before .before .before .before .before)
 
 weigh-requires : tie.Need-weigh-requires
 weigh-requires c κs = search needs
@@ -35,74 +63,34 @@ returns-2 : tie.Need-returns-2
 returns-2 c =
     let b = c .before .before .before in
     let k = b .before .before .before in
-    let a = k .before .before in
-    let s = a .before .before .before .before .args in
     record {
-      first-count = k .one-answer2 .given .0 .0;
-      first-stores = weighed-stores (s .first .now) (a .weigh .result) _ (a .weigh .ensures) (k .one-answer2 .given .0 .0) (k .one-answer2 .given .1);
+      first-count = one k .count;
+      first-stores = weighed-stores (one k);
       second-refused =
-          weighed-refused (s .second .now) (b .weigh2 .result) _ (b .weigh2 .ensures) (c .before .other-answer .given .0 .0)
-          (c .before .other-answer .given .1);
+          weighed-refused (k .before .before .before .before .before .before .args .second .now) (b .weigh2 .result) _ (b .weigh2 .ensures)
+          (c .before .other-answer .given .0 .0) (c .before .other-answer .given .1);
     }
 
 enum-known-other-answer-2 : tie.Need-enum-known-other-answer-2
 enum-known-other-answer-2 c = search needs
 
 mul-one-end : tie.Need-mul-one-end
-mul-one-end c =
-    let j = c .before in
-    let b = j .before .before in
-    let k = b .before .before .before in
-    let a = k .before .before in
-    let s = a .before .before .before .before .args in
-    let h = weighed-limit (s .first .now) (a .weigh .result) _ (a .weigh .ensures) (k .one-answer2 .given .0 .0) (k .one-answer2 .given .1) in
-    omega arith
+mul-one-end c = let h = weighed-limit (first-of (c .before)) in omega arith
 
 mul-other-end : tie.Need-mul-other-end
-mul-other-end c =
-    let j = c .before in
-    let b = j .before .before in
-    let k = b .before .before .before in
-    let a = k .before .before in
-    let s = a .before .before .before .before .args in
-    let h = weighed-limit (s .second .now) (b .weigh2 .result) _ (b .weigh2 .ensures) (j .other-answer2 .given .0 .0) (j .other-answer2 .given .1) in
-    omega arith
+mul-other-end c = let h = weighed-limit (other (c .before)) in omega arith
 
 array-share-prefix-one : tie.Need-array-share-prefix-one
-array-share-prefix-one c =
-    let j = c .before in
-    let b = j .before .before in
-    let k = b .before .before .before in
-    let a = k .before .before in
-    let s = a .before .before .before .before .args in
-    weighed-used (s .first .now) (a .weigh .result) _ (a .weigh .ensures) (k .one-answer2 .given .0 .0) (k .one-answer2 .given .1)
+array-share-prefix-one c = weighed-used (first-of (c .before))
 
 slice-aggregate-order-bytes : tie.Need-slice-aggregate-order-bytes
-slice-aggregate-order-bytes c =
-    let j = c .before .before in
-    let b = j .before .before in
-    let k = b .before .before .before in
-    let a = k .before .before in
-    let s = a .before .before .before .before .args in
-    sym (length-take-le _ _ (weighed-used (s .first .now) (a .weigh .result) _ (a .weigh .ensures) (k .one-answer2 .given .0 .0) (k .one-answer2 .given .1)))
+slice-aggregate-order-bytes c = sym (length-take-le _ _ (weighed-used (first-of (c .before .before))))
 
 array-share-prefix-other : tie.Need-array-share-prefix-other
-array-share-prefix-other c =
-    let j = c .before .before in
-    let b = j .before .before in
-    let k = b .before .before .before in
-    let a = k .before .before in
-    let s = a .before .before .before .before .args in
-    weighed-used (s .second .now) (b .weigh2 .result) _ (b .weigh2 .ensures) (j .other-answer2 .given .0 .0) (j .other-answer2 .given .1)
+array-share-prefix-other c = weighed-used (other (c .before .before))
 
 slice-aggregate-order-bytes-2 : tie.Need-slice-aggregate-order-bytes-2
-slice-aggregate-order-bytes-2 c =
-    let j = c .before .before .before in
-    let b = j .before .before in
-    let k = b .before .before .before in
-    let a = k .before .before in
-    let s = a .before .before .before .before .args in
-    sym (length-take-le _ _ (weighed-used (s .second .now) (b .weigh2 .result) _ (b .weigh2 .ensures) (j .other-answer2 .given .0 .0) (j .other-answer2 .given .1)))
+slice-aggregate-order-bytes-2 c = sym (length-take-le _ _ (weighed-used (other (c .before .before .before))))
 
 order-bytes-requires : tie.Need-order-bytes-requires
 order-bytes-requires c κs = search needs
@@ -117,24 +105,13 @@ returns-3 : tie.Need-returns-3
 returns-3 c =
     let r = c .before .before in
     let j = r .before .before .before .before in
-    let b = j .before .before in
-    let k = b .before .before .before in
-    let a = k .before .before in
-    let s = a .before .before .before .before .args in
-    keys-decide (s .first .now) (s .second .now) _ _
-    (keys-compare (s .first .now) _ (weighed-key (s .first .now) (a .weigh .result) _ (a .weigh .ensures) (k .one-answer2 .given .0 .0) (k .one-answer2 .given .1)) (k .one-answer2 .given .0 .0) (k .one-answer2 .given .1) (s .second .now) _
-    (weighed-key (s .second .now) (b .weigh2 .result) _ (b .weigh2 .ensures) (j .other-answer2 .given .0 .0) (j .other-answer2 .given .1)) (j .other-answer2 .given .0 .0) (j .other-answer2 .given .1))
-    (r .order-bytes .result) (r .order-bytes .ensures) (c .before .match3 .keys2) (c .answer-of .result) (c .answer-of .ensures)
+    keys-decide (first-of j .word) (other j .word) _ _ (weighed-order (first-of j) (other j)) (r .order-bytes .result) (r .order-bytes .ensures)
+    (c .before .match3 .keys2) (c .answer-of .result) (c .answer-of .ensures)
 
 order-forms-requires : tie.Need-order-forms-requires
 order-forms-requires c κs =
-    let r = c .before .before in
-    let j = r .before .before .before .before in
-    let b = j .before .before in
-    let k = b .before .before .before in
-    let a = k .before .before in
-    let s = a .before .before .before .before .args in
-    (weighed-stores (s .first .now) (a .weigh .result) _ (a .weigh .ensures) (k .one-answer2 .given .0 .0) (k .one-answer2 .given .1) .admissible .short, weighed-stores (s .second .now) (b .weigh2 .result) _ (b .weigh2 .ensures) (j .other-answer2 .given .0 .0) (j .other-answer2 .given .1) .admissible .short)
+    let j = c .before .before .before .before .before .before in
+    (weighed-stores (first-of j) .admissible .short, weighed-stores (other j) .admissible .short)
 
 answer-of-requires-2 : tie.Need-answer-of-requires-2
 answer-of-requires-2 c κs = search needs
@@ -144,15 +121,8 @@ returns-4 c =
     let t = c .before .before in
     let r = t .before .before in
     let j = r .before .before .before .before in
-    let b = j .before .before in
-    let k = b .before .before .before in
-    let a = k .before .before in
-    let s = a .before .before .before .before .args in
-    forms-decide (s .first .now) (s .second .now) _ _
-    (keys-compare (s .first .now) _ (weighed-key (s .first .now) (a .weigh .result) _ (a .weigh .ensures) (k .one-answer2 .given .0 .0) (k .one-answer2 .given .1)) (k .one-answer2 .given .0 .0) (k .one-answer2 .given .1) (s .second .now) _
-    (weighed-key (s .second .now) (b .weigh2 .result) _ (b .weigh2 .ensures) (j .other-answer2 .given .0 .0) (j .other-answer2 .given .1)) (j .other-answer2 .given .0 .0) (j .other-answer2 .given .1))
-    (r .order-bytes .result) (r .order-bytes .ensures) (t .enum-told .given .1) (c .before .order-forms .result) (c .before .order-forms .ensures)
-    (c .answer-of2 .result) (c .answer-of2 .ensures)
+    forms-decide (first-of j .word) (other j .word) _ _ (weighed-order (first-of j) (other j)) (r .order-bytes .result) (r .order-bytes .ensures)
+    (t .enum-told .given .1) (c .before .order-forms .result) (c .before .order-forms .ensures) (c .answer-of2 .result) (c .answer-of2 .ensures)
 
 pub compare-keys-spec : {M : Type 1} → statement M
 compare-keys-spec =

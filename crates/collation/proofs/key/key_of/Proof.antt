@@ -32,7 +32,15 @@ returns-2 : tie.Need-returns-2
 returns-2 c =
     let a = c .before .before in
     let word = a .before .before .before .args .word .now in
-    weighed-key word (a .weigh .result) _ (a .weigh .ensures) (c .enum-told2 .given .0 .0) (c .enum-told2 .given .1)
+    weighed-key
+    (record {
+      word = word;
+      answer = a .weigh .result;
+      bytes = _;
+      right = a .weigh .ensures;
+      count = c .enum-told2 .given .0 .0;
+      told = c .enum-told2 .given .1;
+    })
 
 pub key-of-spec : {M : Type 1} → statement M
 key-of-spec = tie.close (tie.spec weigh-requires enum-told returns enum-told-2 returns-2)
