@@ -57,12 +57,14 @@ fn scale(x: u16) -> u64
     }
 }
 
-// What a mark adds to the packed weights in a state.
+// What a mark adds to the packed weights in a state. Nothing stands between the two look-ups, so that the compiler makes tables of them.
 pub fn gain(state: usize, x: u16) -> u64
     requires { ⌜ state < 16 ⌝ }
     ensures { λ r. ⌜ (r ≡ gainOf state x) × (r ≤ 15 * 0x100000000) ⌝ }
 {
-    (amounts(x) >> (4 * state)) % 16 * scale(x)
+    let all = amounts(x);
+    let place = scale(x);
+    (all >> (4 * state)) % 16 * place
 }
 
 // The weight, or 0 where there is none.

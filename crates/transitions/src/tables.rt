@@ -67,13 +67,17 @@ pub fn counts(class: u8) -> u64
     }
 }
 
-// What becomes of the count, times 16, and the state after the value x; 48 where it is refused.
+// What becomes of the count, times 16, and the state after the value x; 48 where it is refused. Nothing stands between the three look-ups,
+// so that the compiler makes of them two tables by value.
 pub fn next(state: usize, x: u16) -> u8
     requires { ⌜ state < 16 ⌝ }
     ensures { λ r. ⌜ r ≡ entryOf state x ⌝ }
 {
     let class = class_of(x);
-    let to = (turns(class) >> (state * 4)) % 16;
-    let count = (counts(class) >> (state * 4)) % 16;
+    let states = turns(class);
+    let changes = counts(class);
+    let shift = state * 4;
+    let to = (states >> shift) % 16;
+    let count = (changes >> shift) % 16;
     (count * 16 + to) as u8
 }

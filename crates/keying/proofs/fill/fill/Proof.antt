@@ -1,94 +1,130 @@
+-- `keying::fill::fill` meets its contract: before each turn the weights and the bytes are those of what the machine has kept of the values
+-- read. The measure is what is left of the word. Assumes nothing.
+use mathlib.Core.Path.{ap, sym, subst}
+use Prim.Native.Nat.{_-_, _≤_, _<_}
+use native.Mathlib.Omega.{arith}
+use lib.ListN.{length}
+use Rattle.reading.specs.Answer.{outcomeOf, too-long}
+use Rattle.keying.specs.Filling.{Filled}
+use Rattle.keying.proofs.Passing.{at-start, small, sized, refused, fits, some-left, next, stopped-short, key-short, stopped-end, key-whole, size-whole}
 use Rattle.keying.proofs.fill.fill.Statement.{statement}
 use Rattle.keying.proofs.fill.fill.Tie as tie
-use Rattle.keying.proofs.fill.fill.Reads as reads
-use Rattle.keying.proofs.fill.fill.Lts as lts
-use Rattle.keying.proofs.fill.put_finished.Reads as put-finished-reads
-use Rattle.keying.proofs.fill.put_last.Reads as put-last-reads
-use Rattle.keying.proofs.fill.weights_after.Reads as weights-after-reads
-use Rattle.reading.proofs.walk.answer_at.Reads as answer-at-reads
-use Rattle.transitions.proofs.tables.next.Reads as next-reads
 
 abbrev Inv-loop : tie.InvT-loop
-Inv-loop word bytes₀ weights₀ state₀ count₀ at₀ bytes weights state count at = ?
+Inv-loop word bytes₀ weights₀ state₀ count₀ at₀ bytes weights state count at = (at ≤ length word) × Filled word at state count weights bytes
 
 abbrev μ-loop : tie.MeasureT-loop
-μ-loop word bytes₀ weights₀ state₀ count₀ at₀ bytes weights state count at = ?
+μ-loop word bytes₀ weights₀ state₀ count₀ at₀ bytes weights state count at = length word - at
 
--- src/fill.rt:104:9
 returns : tie.Need-returns Inv-loop μ-loop
-returns c = ?
+returns c =
+    record {
+      answers = too-long (c .if1 .taken);
+      key = tt;
+      size = ap length (c .before .before .pre);
+    }
 
--- src/fill.rt:110:5
 loop-holds : tie.Need-loop-holds Inv-loop μ-loop
-loop-holds c = ?
+loop-holds c =
+    (omega arith, subst (Filled (c .before .before .args .word .now) 0 0 0 (record { last = 0; before = 0 })) (sym (c .before .before .pre)) (at-start (c .before .before .args .word .now)))
 
--- src/fill.rt:111:17
 mul-x : tie.Need-mul-x Inv-loop μ-loop
-mul-x c = ?
+mul-x c = omega arith
 
--- src/fill.rt:111:17
 shared-slice-read-x : tie.Need-shared-slice-read-x Inv-loop μ-loop
-shared-slice-read-x c = ?
+shared-slice-read-x c = omega arith
 
--- src/fill.rt:112:13
 next-requires : tie.Need-next-requires Inv-loop μ-loop
-next-requires c κs = ?
+next-requires c κs =
+    let l = c .before .before in
+    small (l .before .before .before .args .word .now) (l .loop .at) (l .loop .state) (l .loop .count) (l .loop .weights) (l .loop .bytes) (l .loop .inv .1)
 
--- src/fill.rt:114:13
 answer-at-requires : tie.Need-answer-at-requires Inv-loop μ-loop
-answer-at-requires c κs = ?
+answer-at-requires c κs =
+    let l = c .before .before .before .before in
+    stopped-short (l .before .before .before .args .word .now) (l .loop .at) (l .loop .state) (l .loop .count) (l .loop .weights) (l .loop .bytes) (l .loop .inv .1) (l .before .if1 .left) (c .before .before .before .loop-test .taken)
+    (refused (l .before .before .before .args .word .now) (l .loop .at) (l .loop .state) (l .loop .count) (l .loop .weights) (l .loop .bytes) (l .loop .inv .1) (c .before .next .result) (c .before .next .ensures) (c .if2 .taken))
 
--- src/fill.rt:114:13
 returns-2 : tie.Need-returns-2 Inv-loop μ-loop
-returns-2 c = ?
+returns-2 c =
+    let l = c .before .before .before .before .before in
+    let a = c .before .before in
+    record {
+      answers = c .answer-at .ensures;
+      key =
+          key-short (l .before .before .before .args .word .now) (l .loop .at) (l .loop .state) (l .loop .count) (l .loop .weights) (l .loop .bytes) (l .loop .inv .1) (l .before .if1 .left) (a .before .before .loop-test .taken)
+          (refused (l .before .before .before .args .word .now) (l .loop .at) (l .loop .state) (l .loop .count) (l .loop .weights) (l .loop .bytes) (l .loop .inv .1) (a .next .result) (a .next .ensures) (c .before .if2 .taken)) (outcomeOf (c .answer-at .result));
+      size = sized (l .before .before .before .args .word .now) (l .loop .at) (l .loop .state) (l .loop .count) (l .loop .weights) (l .loop .bytes) (l .loop .inv .1);
+    }
 
--- src/fill.rt:117:9
 weights-after-requires : tie.Need-weights-after-requires Inv-loop μ-loop
-weights-after-requires c κs = ?
+weights-after-requires c κs =
+    let l = c .before .before .before .before in (
+      small (l .before .before .before .args .word .now) (l .loop .at) (l .loop .state) (l .loop .count) (l .loop .weights) (l .loop .bytes) (l .loop .inv .1),
+      fits (l .before .before .before .args .word .now) (l .loop .at) (l .loop .state) (l .loop .count) (l .loop .weights) (l .loop .bytes) (l .loop .inv .1) (c .before .next .result) (c .before .next .ensures) (c .if2 .left) (c .before .before .before .loop-test .taken) (l .before .if1 .left),
+    )
 
--- src/fill.rt:118:9
 put-finished-requires : tie.Need-put-finished-requires Inv-loop μ-loop
-put-finished-requires c κs = ?
+put-finished-requires c κs =
+    let l = c .before .before .before .before .before .before in
+    let b = l .loop .inv .1 .bounded in
+    let i = l .loop .inv .0 in
+    omega (arith, l .before .if1 .left)
 
--- src/fill.rt:119:25
 cast-count : tie.Need-cast-count Inv-loop μ-loop
-cast-count c = ?
+cast-count c = omega arith
 
--- src/fill.rt:119:17
 add-count : tie.Need-add-count Inv-loop μ-loop
-add-count c = ?
+add-count c =
+    let l = c .before .before .before .before .before .before .before in
+    let b = l .loop .inv .1 .bounded in
+    let i = l .loop .inv .0 in
+    omega (arith, l .before .if1 .left)
 
--- src/fill.rt:119:17
 sub-count : tie.Need-sub-count Inv-loop μ-loop
-sub-count c = ?
+sub-count c =
+    let l = c .before .before .before .before .before .before .before in
+    let a = c .before .before .before .before in
+    some-left (l .before .before .before .args .word .now) (l .loop .at) (l .loop .state) (l .loop .count) (l .loop .weights) (l .loop .bytes) (l .loop .inv .1) (a .next .result) (a .next .ensures) (c .before .before .before .if2 .left) (a .before .before .loop-test .taken) (l .before .if1 .left)
 
--- src/fill.rt:120:17
 cast-state : tie.Need-cast-state Inv-loop μ-loop
-cast-state c = ?
+cast-state c = omega arith
 
--- src/fill.rt:121:9
 add-at : tie.Need-add-at Inv-loop μ-loop
-add-at c = ?
+add-at c = omega arith
 
--- src/fill.rt:110:5
 loop-less : tie.Need-loop-less Inv-loop μ-loop
-loop-less c = ?
+loop-less c = omega arith
 
--- src/fill.rt:110:5
 loop-again : tie.Need-loop-again Inv-loop μ-loop
-loop-again c = ?
+loop-again c =
+    let l = c .before .before .before .before .before .before .before in
+    let a = c .before .before .before .before in (
+      omega arith,
+      next (l .before .before .before .args .word .now) (l .loop .at) (l .loop .state) (l .loop .count) (l .loop .weights) (l .loop .bytes) (l .loop .inv .1) (a .next .result) (a .next .ensures) (c .before .before .before .if2 .left) (a .before .before .loop-test .taken) (l .before .if1 .left)
+          (c .before .before .weights-after .result) (c .before .before .weights-after .ensures) (c .put-finished .last .0) (c .put-finished .ensures),
+    )
 
--- src/fill.rt:123:5
 put-last-requires : tie.Need-put-last-requires Inv-loop μ-loop
-put-last-requires c κs = ?
+put-last-requires c κs =
+    let l = c .before .before in
+    let b = l .loop .inv .1 .bounded in
+    let i = l .loop .inv .0 in
+    omega (arith, l .before .if1 .left)
 
--- src/fill.rt:124:5
 answer-at-requires-2 : tie.Need-answer-at-requires-2 Inv-loop μ-loop
-answer-at-requires-2 c κs = ?
+answer-at-requires-2 c κs =
+    let l = c .before .before .before in
+    stopped-end (l .before .before .before .args .word .now) (l .loop .at) (l .loop .state) (l .loop .count) (l .loop .weights) (l .loop .bytes) (l .loop .inv .1) (l .before .if1 .left) (l .loop .inv .0) (c .before .before .loop-test .left)
 
--- src/fill.rt:99:1
 returns-3 : tie.Need-returns-3 Inv-loop μ-loop
-returns-3 c = ?
+returns-3 c =
+    let l = c .before .before .before .before in
+    record {
+      answers = c .answer-at2 .ensures;
+      key = key-whole (l .before .before .before .args .word .now) (l .loop .at) (l .loop .state) (l .loop .count) (l .loop .weights) (l .loop .bytes) (l .loop .inv .1) (l .before .if1 .left) (l .loop .inv .0) (c .before .before .before .loop-test .left) (c .before .put-last .last .0) (c .before .put-last .ensures) (outcomeOf (c .answer-at2 .result));
+      size = size-whole (l .before .before .before .args .word .now) (l .loop .at) (l .loop .state) (l .loop .count) (l .loop .weights) (l .loop .bytes) (l .loop .inv .1) (l .before .if1 .left) (l .loop .inv .0) (c .before .before .before .loop-test .left) (c .before .put-last .last .0) (c .before .put-last .ensures);
+    }
 
 pub fill-spec : {M : Type 1} → statement M
 fill-spec =

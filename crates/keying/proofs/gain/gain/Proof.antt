@@ -12,14 +12,14 @@ use Rattle.keying.proofs.gain.gain.Tie as tie
 amounts-requires : tie.Need-amounts-requires
 amounts-requires c κs = search needs
 
+scale-requires : tie.Need-scale-requires
+scale-requires c κs = search needs
+
 mul-result : tie.Need-mul-result
 mul-result c = search needs
 
 shr-result : tie.Need-shr-result
 shr-result c = search needs
-
-scale-requires : tie.Need-scale-requires
-scale-requires c κs = search needs
 
 mul-result-2 : tie.Need-mul-result-2
 mul-result-2 c =
@@ -36,4 +36,4 @@ returns c = (
 
 pub gain-spec : {M : Type 1} → statement M
 gain-spec =
-    tie.close (tie.spec amounts-requires mul-result shr-result scale-requires mul-result-2 returns)
+    tie.close (tie.spec amounts-requires scale-requires mul-result shr-result mul-result-2 returns)

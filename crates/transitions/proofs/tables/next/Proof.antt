@@ -14,17 +14,14 @@ class-of-requires c κs = search needs
 turns-requires : tie.Need-turns-requires
 turns-requires c κs = search needs
 
-mul-to : tie.Need-mul-to
-mul-to c = search needs
-
-shr-to : tie.Need-shr-to
-shr-to c = search needs
-
 counts-requires : tie.Need-counts-requires
 counts-requires c κs = search needs
 
-mul-count : tie.Need-mul-count
-mul-count c = search needs
+mul-shift : tie.Need-mul-shift
+mul-shift c = search needs
+
+shr-to : tie.Need-shr-to
+shr-to c = search needs
 
 shr-count : tie.Need-shr-count
 shr-count c = search needs
@@ -49,16 +46,4 @@ returns c =
 
 pub next-spec : {M : Type 1} → statement M
 next-spec =
-    tie.close
-    (tie.spec
-    class-of-requires
-    turns-requires
-    mul-to
-    shr-to
-    counts-requires
-    mul-count
-    shr-count
-    mul-result
-    add-result
-    cast-result
-    returns)
+    tie.close (tie.spec class-of-requires turns-requires counts-requires mul-shift shr-to shr-count mul-result add-result cast-result returns)
