@@ -15,11 +15,11 @@ use Rattle.formula.specs.Row.{Row}
 use Rattle.rows.specs.Kept.{endOf, KeptOk}
 use Rattle.transitions.specs.State.{stateOf, stateNumber}
 use Rattle.steps.proofs.Branches.{when-equal, when-unequal}
-use Rattle.keying.specs.Packed.{packed, gainOf, headFor, headPacked, packedTop, packedBelow}
+use Rattle.keying.specs.Packed.{packed, weighingOf, gainOf, packedTop, packedBelow}
 use Rattle.keying.specs.Filling.{Fit, closedBy, weightsAfter, WeightsOf}
 use Rattle.keying.specs.declared.fill.Weights.{Weights}
 use Rattle.keying.proofs.Bytes.{packed-small}
-use Rattle.keying.proofs.Heads.{head-itself}
+use Rattle.keying.proofs.Table.{head-weighing, great-sa-weighing}
 use Rattle.keying.proofs.Gained.{Moved, pushed, changed, closed, doubled}
 
 module _ (w : Weights) (d q x : ℕ) where
@@ -27,7 +27,7 @@ module _ (w : Weights) (d q x : ℕ) where
   unfolding weightsAfter
   after-gain g e f = when-equal d 1 _ _ _ e (rw f refl)
 
-  pub after-head : (h b : ℕ) → d ≡ 2 → h ≡ headPacked x → b ≡ closedBy x (w .last) → record { last = h; before = b } ≡ weightsAfter d q x w
+  pub after-head : (h b : ℕ) → d ≡ 2 → h ≡ weighingOf x → b ≡ closedBy x (w .last) → record { last = h; before = b } ≡ weightsAfter d q x w
   unfolding weightsAfter
   after-head h b e f g = when-unequal d 1 _ _ _ (λ (i : d ≡ 1). omega arith) (when-equal d 2 _ _ _ e (rw (f, g) refl))
 
@@ -46,14 +46,6 @@ pub closed-great : (x last : ℕ) → x ≡ 0x103F → closedBy x last ≡ last 
 unfolding closedBy
 closed-great x last e = sym (when-equal x 0x103F _ _ _ e refl)
 
-head-pushed : (x : ℕ) → T (isHead x) → headPacked x ≡ packed (bare x)
-unfolding headPacked
-head-pushed x h = ap (λ (k : ℕ). packed (bare k)) (head-itself x (no-great-sa x h))
-
-head-doubled : (x : ℕ) → x ≡ 0x103F → headPacked x ≡ packed (bare 0x101E)
-unfolding headPacked headFor
-head-doubled x e = ap (λ (k : ℕ). packed (bare k)) (sym (when-equal x 0x103F _ _ _ e refl))
-
 -- a syllable that has a final
 pub refuted : (s : Syllable) → T (not (isNoFinal (finalOf s))) → T (isNoFinal (finalOf s)) → ⊥
 refuted s = go (isNoFinal (finalOf s))
@@ -67,8 +59,8 @@ module _ (x d q : ℕ) (w : Weights) where
   pub weights-move : (kept b : Row) → Moved x kept b → length b + 1 ≡ length kept + d → q ≡ stateNumber (stateOf kept) → WeightsOf kept w
       → WeightsOf b (weightsAfter d q x w)
   weights-move kept _ (pushed h) l e o =
-      subst (WeightsOf (bare x ∷ kept)) (after-head w d q x (headPacked x) (closedBy x (w .last)) (omega arith) refl refl)
-      (record { last = head-pushed x h; before = λ _. closed-itself x (w .last) (no-great-sa x h) ∙ o .last })
+      subst (WeightsOf (bare x ∷ kept)) (after-head w d q x (weighingOf x) (closedBy x (w .last)) (omega arith) refl refl)
+      (record { last = head-weighing x h; before = λ _. closed-itself x (w .last) (no-great-sa x h) ∙ o .last })
   weights-move _ _ (changed {s} {n} {rest} g f) l e o =
       subst (WeightsOf (n ∷ rest)) (after-gain w d q x (gainOf q x) (omega arith) refl)
       (record {
@@ -79,8 +71,8 @@ module _ (x d q : ℕ) (w : Weights) where
       subst (WeightsOf (n ∷ rest)) (after-close w d q x (λ (i : d ≡ 1). omega arith) (λ (i : d ≡ 2). omega arith))
       (record { last = omega (arith, o .last, o .before t, g); before = λ u. absurd (refuted n f u) })
   weights-move _ _ (doubled {s} {n} {rest} y g) l e o =
-      subst (WeightsOf (bare 0x101E ∷ n ∷ rest)) (after-head w d q x (headPacked x) (closedBy x (w .last)) (omega arith) refl refl)
-      (record { last = head-doubled x y; before = λ _. closed-great x (w .last) y ∙ omega (arith, o .last, g) })
+      subst (WeightsOf (bare 0x101E ∷ n ∷ rest)) (after-head w d q x (weighingOf x) (closedBy x (w .last)) (omega arith) refl refl)
+      (record { last = great-sa-weighing x y; before = λ _. closed-great x (w .last) y ∙ omega (arith, o .last, g) })
 
   -- and the sums fit
   pub weights-fit : (kept b : Row) → KeptOk kept → Moved x kept b → length b + 1 ≡ length kept + d → WeightsOf kept w → Fit d w
@@ -100,4 +92,4 @@ module _ (x d q : ℕ) (w : Weights) where
 
   -- the packed weights that are put where a syllable begins
   pub finished-before : d ≡ 2 → weightsAfter d q x w .before ≡ closedBy x (w .last)
-  finished-before e = ap (λ (u : Weights). u .before) (sym (after-head w d q x (headPacked x) (closedBy x (w .last)) e refl refl))
+  finished-before e = ap (λ (u : Weights). u .before) (sym (after-head w d q x (weighingOf x) (closedBy x (w .last)) e refl refl))

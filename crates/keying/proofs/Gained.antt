@@ -5,9 +5,10 @@ use mathlib.Core.Path.{_≡_, refl, ap, sym, subst, _∙_}
 use mathlib.Core.Bool.{Bool, true, false, not, _&&_, _||_}
 use mathlib.Core.List.{List, [], _∷_}
 use mathlib.Core.Option.{Option, none, some}
-use Prim.Native.Nat.{ℕ, _+_, _-_, _*_, _≤_, _<_}
+use Prim.Native.Nat.{ℕ, suc, _+_, _-_, _*_, _%_, _^_, _≤_, _<_}
+use native.Mathlib.Nat.{zero-div}
 use native.Mathlib.Omega.{arith}
-use lib.Dec.{T, eqb, leb, eqb→eq}
+use lib.Dec.{T, eqb, leb, eqb→eq, leb→le}
 use borrow.Author.Tests.{lt-leb}
 use Rattle.letters.specs.Choice.{pick}
 use Rattle.letters.specs.Letters.{within, isConsonant, isMedial, isVowelMark, isTone, isKiller, kindOf}
@@ -28,7 +29,7 @@ use Rattle.steps.proofs.Classes.{inClass, kind-class, head-of}
 use Rattle.steps.proofs.Pieces.{mark-bounds}
 use Rattle.steps.proofs.Tests.{each-vowel, each-medial, vowel-test, medial-test, tone-test}
 use Rattle.transitions.specs.State.{State, done, plain-final, nga-final, waiting, head-stays, head-closes, head-nga, after-ya-ra, after-wa, after-both, after-ha, with-e, with-e-aa, with-i, with-u, with-vowel, headState, medialState, vowelState, finalState, toneState, isOpenTop, stateOf, stateNumber}
-use Rattle.keying.specs.Packed.{packed, amountsOf, scaleOf, gainOf}
+use Rattle.keying.specs.Packed.{packed, headFor, weighingOf, gainBy, gainOf}
 
 -- what the value x makes of what is kept, by packed weights
 pub data Moved (x : ℕ) : Row → Row → Type 0 where
@@ -158,7 +159,7 @@ abbrev medialTest : ℕ → MedialGroup → Bool
 medialTest x m = passes (λ (n : MedialGroup). every (medialGains x m n) heads) (medialAnd x m)
 
 medial-test-at : (x : ℕ) (m : MedialGroup) → T (isMedial x) → T (medialTest x m)
-unfolding gainOf amountsOf scaleOf
+unfolding gainBy weighingOf headFor packed pick
 medial-test-at x m c =
     each-medial (medialTest x)
     (marked isMedial (λ (y : ℕ). every (medialTest y) medialGroups) tt x
@@ -196,7 +197,7 @@ abbrev isVowelEnd : ℕ → Bool
 isVowelEnd x = isVowelMark x || isKiller x
 
 vowel-test-at : (x : ℕ) (v : Vowel) → (0x1000 ≤ x) × (x ≤ 0x104F) → T (isVowelEnd x) → T (vowelTest x v)
-unfolding gainOf amountsOf scaleOf
+unfolding gainBy weighingOf headFor packed pick
 vowel-test-at x v b c = each-vowel (vowelTest x) (marked isVowelEnd (λ (y : ℕ). every (vowelTest y) vowels) tt x b c) v
 
 module _ (x h : ℕ) (m : MedialGroup) (v : Vowel) (f : Final) (t : ToneMark) (kept : Row) (q : T (carriesMarks h && isOpen f t)) where
@@ -219,12 +220,15 @@ vowel-weighs x h m v f t kept c =
     (λ q. onto-weighs x _ _ (λ (n : Vowel). every (vowelGains x v n) opens) (vowelAnd x v)
     (vowel-test-at x v (omega arith, omega arith) (or-left (isVowelMark x) (isKiller x) c)) (vowel-moves x h m v f t kept q))
 
--- tones: the gain is the weight in every state
+-- tones: the gain is the weight in every state but the first
+abbrev toneGains : ℕ → ToneMark → ℕ → Bool
+toneGains x n k = eqb (0x100000000 * toneWeight n) (gainOf (suc k) x)
+
 abbrev toneTest : ℕ → Bool
-toneTest x = passes (λ (n : ToneMark). upTo (λ (q : ℕ). eqb (0x100000000 * toneWeight n) (gainOf q x)) 16) (toneOf x)
+toneTest x = passes (λ (n : ToneMark). upTo (toneGains x n) 15) (toneOf x)
 
 tone-test-at : (x : ℕ) → T (isTone x) → T (toneTest x)
-unfolding gainOf amountsOf scaleOf
+unfolding gainBy weighingOf headFor packed pick
 tone-test-at x c = marked isTone toneTest tt x (let l = low 0x1037 0x1038 x c in let u = high 0x1037 0x1038 x c in (omega arith, omega arith)) c
 
 pub state-small : (q : State) → stateNumber q < 16
@@ -250,6 +254,27 @@ no-tone-weight no-tone o = refl
 no-tone-weight dot o = absurd o
 no-tone-weight visarga o = absurd o
 
+abbrev pastFirst : Vowel → State → Bool
+pastFirst v q = leb 1 (stateNumber (vowelState v q))
+
+past-first : (v : Vowel) (m : MedialGroup) (b : Bool) (h : ℕ) → 1 ≤ stateNumber (vowelState v (medialState m (headState b h)))
+past-first v m b h = leb→le 1 _ (at-open (pastFirst v) (each-vowel (λ (u : Vowel). every (pastFirst u) opens) tt v) m b h)
+
+-- a syllable that takes a tone is not in the first state
+toned-state : (h : ℕ) (m : MedialGroup) (v : Vowel) (f : Final) (t : ToneMark) (kept : Row) → T (carriesFinal h) → T (isClosed f) → T (isNoTone t)
+    → 1 ≤ stateNumber (stateOf (syllable h m v f t ∷ kept))
+unfolding pick carriesMarks carriesFinal
+toned-state h m v no-final no-tone kept c o n = rw (is-true (isConsonant h) c) (past-first v m (isOpenTop kept) h)
+toned-state h m v (plain d) no-tone kept c o n =
+    rw (is-true (isConsonant h) c) (picked (λ (q : State). 1 ≤ stateNumber q) (eqb d 0x1004) nga-final plain-final (omega arith) (omega arith))
+toned-state h m v (stacked d) t kept c o n = absurd o
+toned-state h m v kinzi t kept c o n = absurd o
+toned-state h m v great-sa t kept c o n = absurd o
+toned-state h m v no-final dot kept c o n = absurd n
+toned-state h m v no-final visarga kept c o n = absurd n
+toned-state h m v (plain d) dot kept c o n = absurd n
+toned-state h m v (plain d) visarga kept c o n = absurd n
+
 tone-weighs : (x h : ℕ) (m : MedialGroup) (v : Vowel) (f : Final) (t : ToneMark) (kept : Row) → T (isTone x)
     → Weighs x (syllable h m v f t ∷ kept) (stepTone x (syllable h m v f t ∷ kept))
 unfolding packed
@@ -258,12 +283,17 @@ tone-weighs x h m v f t kept c = when-weighs x _ (carriesFinal h && (isClosed f 
     go : T (carriesFinal h && (isClosed f && isNoTone t))
         → Weighs x (syllable h m v f t ∷ kept) (onto (λ (n : ToneMark). syllable h m v f n ∷ kept) (toneOf x))
     go q =
-        let z = no-tone-weight t (both-right (isClosed f) (isNoTone t) (both-right (carriesFinal h) _ q)) in
-        onto-weighs x _ _ (λ (n : ToneMark). upTo (λ (k : ℕ). eqb (0x100000000 * toneWeight n) (gainOf k x)) 16) (toneOf x) (tone-test-at x c)
-        (λ (n : ToneMark) (p : T (upTo (λ (k : ℕ). eqb (0x100000000 * toneWeight n) (gainOf k x)) 16)).
-        let s = stateOf (syllable h m v f t ∷ kept) in
-        let e : 0x100000000 * toneWeight n ≡ gainOf (stateNumber s) x =
-        eqb→eq _ _ (below (λ (k : ℕ). eqb (0x100000000 * toneWeight n) (gainOf k x)) 16 p (stateNumber s) (state-small s)) in
+        let r = both-right (carriesFinal h) (isClosed f && isNoTone t) q in
+        let o = both-right (isClosed f) (isNoTone t) r in
+        let z = no-tone-weight t o in
+        let s = stateNumber (stateOf (syllable h m v f t ∷ kept)) in
+        let first : 1 ≤ s = toned-state h m v f t kept (both-left (carriesFinal h) _ q) (both-left (isClosed f) (isNoTone t) r) o in
+        let last : s < 16 = state-small (stateOf (syllable h m v f t ∷ kept)) in
+        let d : suc (s - 1) ≡ s = omega arith in
+        onto-weighs x _ _ (λ (n : ToneMark). upTo (toneGains x n) 15) (toneOf x) (tone-test-at x c)
+        (λ (n : ToneMark) (p : T (upTo (toneGains x n) 15)).
+        let e : 0x100000000 * toneWeight n ≡ gainOf (suc (s - 1)) x = eqb→eq _ _ (below (toneGains x n) 15 p (s - 1) (omega arith)) in
+        let g : gainOf (suc (s - 1)) x ≡ gainOf s x = ap (λ (k : ℕ). gainOf k x) d in
         changed {rest = kept} (omega arith) (λ i. i))
 
 -- great sa, which weighs 31 as a final
@@ -343,8 +373,8 @@ killer-weighs h m v f t kept = go (vowelAnd 0x103A v) (vowel-test-at 0x103A v (o
 
 -- the stacker; kinzi weighs what the plain final did
 no-gain : (q : ℕ) → gainOf q 0x1039 ≡ 0
-unfolding gainOf amountsOf scaleOf
-no-gain q = omega arith
+unfolding gainBy weighingOf headFor packed pick
+no-gain q = ap (λ (k : ℕ). k % 16 * 1) (zero-div (2 ^ (4 * q)))
 
 stacker-weighs : (h : ℕ) (m : MedialGroup) (v : Vowel) (f : Final) (t : ToneMark) (kept : Row)
     → Weighs 0x1039 (syllable h m v f t ∷ kept) (stepStacker (syllable h m v f t ∷ kept))

@@ -12,7 +12,7 @@ use Rattle.formula.specs.Row.{Row}
 use Rattle.rows.specs.Kept.{endOf}
 use Rattle.reading.specs.Walked.{Walked}
 use Rattle.weighing.specs.Keys.{keyLimit, zeros}
-use Rattle.keying.specs.Packed.{fiveBytes, gainOf, headPacked, packedTop, packedBelow, keptKey}
+use Rattle.keying.specs.Packed.{fiveBytes, weighingOf, gainOf, packedTop, packedBelow, keptKey}
 use Rattle.keying.specs.declared.fill.Weights.{Weights}
 
 -- the weights fit where a value changes them that makes d syllables more, less 1; a last head that closes is a letter
@@ -28,7 +28,7 @@ closedBy x last = pick (eqb x 0x103F) (last + 0x1F0000) last
 unfoldable pub weightsAfter : ℕ → ℕ → ℕ → Weights → Weights
 weightsAfter d q x w =
     pick (eqb d 1) (record { last = w .last + gainOf q x; before = w .before })
-    (pick (eqb d 2) (record { last = headPacked x; before = closedBy x (w .last) })
+    (pick (eqb d 2) (record { last = weighingOf x; before = closedBy x (w .last) })
     (record { last = w .before + (w .last - 12) * 0x10000; before = w .before }))
 
 -- the bytes with the last of so many syllables put at its place

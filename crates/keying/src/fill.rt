@@ -1,6 +1,6 @@
 // The reading of a word and its key in one pass. The weights of the last two syllables are kept packed, a byte for each weight.
 use crate::gain::gain;
-use crate::gain::head_weights;
+use crate::gain::weighing;
 use formula::Word;
 use reading::read::ReadAnswer;
 use reading::walk::answer_at;
@@ -75,17 +75,18 @@ fn weights_after(weights: Weights, change: u8, state: usize, x: u16) -> Weights
     requires { ⌜ (state < 16) × Fit change weights ⌝ }
     ensures { λ r. ⌜ r ≡ weightsAfter change state x weights ⌝ }
 {
+    let weighs = weighing(x);
     let last = weights.last;
     let before = weights.before;
     if change == 1 {
         return Weights {
-            last: last + gain(state, x),
+            last: last + gain(state, weighs),
             before,
         };
     }
     if change == 2 {
         return Weights {
-            last: head_weights(x),
+            last: weighs,
             before: closed_by(x, last),
         };
     }
