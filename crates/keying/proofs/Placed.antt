@@ -94,11 +94,11 @@ first-begun : (y : Syllable) (bytes : List ℕ) (p : ℕ) → KeyOf [] bytes →
 unfolding putLast pick
 first-begun y bytes p k = record { place = k .place; rest = k .rest; is = k .is; five = k .five; size = k .size; fresh = λ _. k .fresh tt }
 
-not-begun : (d count p : ℕ) (bytes : List ℕ) → (d ≡ 2 → ⊥) → bytes ≡ bytesAfter d count p bytes
+pub not-begun : (d count p : ℕ) (bytes : List ℕ) → (d ≡ 2 → ⊥) → bytes ≡ bytesAfter d count p bytes
 unfolding bytesAfter
 not-begun d count p bytes n = when-unequal d 2 _ _ _ n refl
 
-is-begun : (d count p : ℕ) (bytes : List ℕ) → d ≡ 2 → putLast count p bytes ≡ bytesAfter d count p bytes
+pub is-begun : (d count p : ℕ) (bytes : List ℕ) → d ≡ 2 → putLast count p bytes ≡ bytesAfter d count p bytes
 unfolding bytesAfter
 is-begun d count p bytes e = when-equal d 2 _ _ _ e refl
 

@@ -10,7 +10,7 @@ ghost use mathlib.Core.Path.{_≡_};
 ghost use Prim.Native.Nat.{_+_, _≤_, _<_};
 ghost use lib.Seq.{sets};
 ghost use Rattle.weighing.specs.Keys.{keyLimit, zeros};
-ghost use Rattle.keying.specs.Packed.{fiveBytes};
+ghost use Rattle.keying.specs.Packed.{fiveBytes, weighingOf};
 ghost use Rattle.keying.specs.Filling.{Fit, closedBy, weightsAfter, putLast, bytesAfter};
 ghost use Rattle.keying.specs.Filled.{FillRight};
 
@@ -48,17 +48,6 @@ fn put_last(bytes: &mut [u8; 320], count: usize, packed: u64)
     put_weights(bytes, 5 * (count - 1), packed);
 }
 
-// A syllable is put when the next one begins.
-fn put_finished(bytes: &mut [u8; 320], change: u8, count: usize, packed: u64)
-    requires { ⌜ count ≤ 64 ⌝ }
-    ensures { λ _. ⌜ now (bytes .exit) ≡ bytesAfter change count packed (now (bytes .entry)) ⌝ }
-{
-    if change != 2 {
-        return;
-    }
-    put_last(bytes, count, packed);
-}
-
 // A syllable that the value x ends: great sa is its final.
 fn closed_by(x: u16, last: u64) -> u64
     requires { ⌜ last < 0x300000000 ⌝ }
@@ -70,24 +59,34 @@ fn closed_by(x: u16, last: u64) -> u64
     last
 }
 
-// The weights after the value x: as many syllables, which gain; one more; or one fewer, where the last head is the final of the one before.
-fn weights_after(weights: Weights, change: u8, state: usize, x: u16) -> Weights
-    requires { ⌜ (state < 16) × Fit change weights ⌝ }
-    ensures { λ r. ⌜ r ≡ weightsAfter change state x weights ⌝ }
+// The weights after the value x: one syllable more, and the one before it is put; as many, where the last gains; or one fewer, where the last
+// head is the final of the one before.
+fn weights_after(
+    bytes: &mut [u8; 320],
+    count: usize,
+    weights: Weights,
+    change: u8,
+    state: usize,
+    x: u16,
+    weighs: u64,
+) -> Weights
+    requires { ⌜ (count ≤ 64) × (state < 16) × (weighs ≡ weighingOf x) × Fit change weights ⌝ }
+    ensures { λ r. ⌜ (r ≡ weightsAfter change state x weights) × (now (bytes .exit) ≡ bytesAfter change count (r .before) (now (bytes .entry))) ⌝ }
 {
-    let weighs = weighing(x);
     let last = weights.last;
     let before = weights.before;
+    if change == 2 {
+        let closed = closed_by(x, last);
+        put_last(bytes, count, closed);
+        return Weights {
+            last: weighs,
+            before: closed,
+        };
+    }
     if change == 1 {
         return Weights {
             last: last + gain(state, weighs),
             before,
-        };
-    }
-    if change == 2 {
-        return Weights {
-            last: weighs,
-            before: closed_by(x, last),
         };
     }
     Weights {
@@ -110,13 +109,13 @@ pub fn fill(word: &[u16], bytes: &mut [u8; 320]) -> ReadAnswer
     let mut at = 0;
     while at < word.len() {
         let x = word[at];
+        let weighs = weighing(x);
         let entry = next(state, x);
         if entry == REFUSED {
             return answer_at(word, at, state, count);
         }
         let change = entry / 16;
-        weights = weights_after(weights, change, state, x);
-        put_finished(bytes, change, count, weights.before);
+        weights = weights_after(bytes, count, weights, change, state, x, weighs);
         count = count + change as usize - 1;
         state = (entry % 16) as usize;
         at += 1;

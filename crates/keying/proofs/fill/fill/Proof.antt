@@ -34,58 +34,61 @@ mul-x c = omega arith
 shared-slice-read-x : tie.Need-shared-slice-read-x Inv-loop μ-loop
 shared-slice-read-x c = omega arith
 
+weighing-requires : tie.Need-weighing-requires Inv-loop μ-loop
+weighing-requires c κs = tt
+
 next-requires : tie.Need-next-requires Inv-loop μ-loop
 next-requires c κs =
-    let l = c .before .before in
+    let l = c .before .before .before in
     small (l .before .before .before .args .word .now) (l .loop .at) (l .loop .state) (l .loop .count) (l .loop .weights) (l .loop .bytes) (l .loop .inv .1)
 
 answer-at-requires : tie.Need-answer-at-requires Inv-loop μ-loop
 answer-at-requires c κs =
-    let l = c .before .before .before .before in
-    stopped-short (l .before .before .before .args .word .now) (l .loop .at) (l .loop .state) (l .loop .count) (l .loop .weights) (l .loop .bytes) (l .loop .inv .1) (l .before .if1 .left) (c .before .before .before .loop-test .taken)
-    (refused (l .before .before .before .args .word .now) (l .loop .at) (l .loop .state) (l .loop .count) (l .loop .weights) (l .loop .bytes) (l .loop .inv .1) (c .before .next .result) (c .before .next .ensures) (c .if2 .taken))
+    let n = c .before in
+    let l = n .before .before .before .before in
+    stopped-short (l .before .before .before .args .word .now) (l .loop .at) (l .loop .state) (l .loop .count) (l .loop .weights) (l .loop .bytes) (l .loop .inv .1) (l .before .if1 .left) (n .before .before .before .loop-test .taken)
+    (refused (l .before .before .before .args .word .now) (l .loop .at) (l .loop .state) (l .loop .count) (l .loop .weights) (l .loop .bytes) (l .loop .inv .1) (n .next .result) (n .next .ensures) (c .if2 .taken))
 
 returns-2 : tie.Need-returns-2 Inv-loop μ-loop
 returns-2 c =
-    let l = c .before .before .before .before .before in
-    let a = c .before .before in
+    let n = c .before .before in
+    let l = n .before .before .before .before in
     record {
       answers = c .answer-at .ensures;
       key =
-          key-short (l .before .before .before .args .word .now) (l .loop .at) (l .loop .state) (l .loop .count) (l .loop .weights) (l .loop .bytes) (l .loop .inv .1) (l .before .if1 .left) (a .before .before .loop-test .taken)
-          (refused (l .before .before .before .args .word .now) (l .loop .at) (l .loop .state) (l .loop .count) (l .loop .weights) (l .loop .bytes) (l .loop .inv .1) (a .next .result) (a .next .ensures) (c .before .if2 .taken)) (outcomeOf (c .answer-at .result));
+          key-short (l .before .before .before .args .word .now) (l .loop .at) (l .loop .state) (l .loop .count) (l .loop .weights) (l .loop .bytes) (l .loop .inv .1) (l .before .if1 .left) (n .before .before .before .loop-test .taken)
+          (refused (l .before .before .before .args .word .now) (l .loop .at) (l .loop .state) (l .loop .count) (l .loop .weights) (l .loop .bytes) (l .loop .inv .1) (n .next .result) (n .next .ensures) (c .before .if2 .taken)) (outcomeOf (c .answer-at .result));
       size = sized (l .before .before .before .args .word .now) (l .loop .at) (l .loop .state) (l .loop .count) (l .loop .weights) (l .loop .bytes) (l .loop .inv .1);
     }
 
 weights-after-requires : tie.Need-weights-after-requires Inv-loop μ-loop
 weights-after-requires c κs =
-    let l = c .before .before .before .before in (
-      small (l .before .before .before .args .word .now) (l .loop .at) (l .loop .state) (l .loop .count) (l .loop .weights) (l .loop .bytes) (l .loop .inv .1),
-      fits (l .before .before .before .args .word .now) (l .loop .at) (l .loop .state) (l .loop .count) (l .loop .weights) (l .loop .bytes) (l .loop .inv .1) (c .before .next .result) (c .before .next .ensures) (c .if2 .left) (c .before .before .before .loop-test .taken) (l .before .if1 .left),
-    )
-
-put-finished-requires : tie.Need-put-finished-requires Inv-loop μ-loop
-put-finished-requires c κs =
-    let l = c .before .before .before .before .before .before in
+    let n = c .before .before in
+    let l = n .before .before .before .before in
     let b = l .loop .inv .1 .bounded in
-    let i = l .loop .inv .0 in
-    omega (arith, l .before .if1 .left)
+    let i = l .loop .inv .0 in (
+      omega (arith, l .before .if1 .left),
+      small (l .before .before .before .args .word .now) (l .loop .at) (l .loop .state) (l .loop .count) (l .loop .weights) (l .loop .bytes) (l .loop .inv .1),
+      n .before .weighing .ensures,
+      fits (l .before .before .before .args .word .now) (l .loop .at) (l .loop .state) (l .loop .count) (l .loop .weights) (l .loop .bytes) (l .loop .inv .1) (n .next .result) (n .next .ensures) (c .before .if2 .left) (n .before .before .before .loop-test .taken) (l .before .if1 .left),
+    )
 
 cast-count : tie.Need-cast-count Inv-loop μ-loop
 cast-count c = omega arith
 
 add-count : tie.Need-add-count Inv-loop μ-loop
 add-count c =
-    let l = c .before .before .before .before .before .before .before in
+    let n = c .before .before .before in
+    let l = n .before .before .before .before in
     let b = l .loop .inv .1 .bounded in
     let i = l .loop .inv .0 in
     omega (arith, l .before .if1 .left)
 
 sub-count : tie.Need-sub-count Inv-loop μ-loop
 sub-count c =
-    let l = c .before .before .before .before .before .before .before in
-    let a = c .before .before .before .before in
-    some-left (l .before .before .before .args .word .now) (l .loop .at) (l .loop .state) (l .loop .count) (l .loop .weights) (l .loop .bytes) (l .loop .inv .1) (a .next .result) (a .next .ensures) (c .before .before .before .if2 .left) (a .before .before .loop-test .taken) (l .before .if1 .left)
+    let n = c .before .before .before in
+    let l = n .before .before .before .before in
+    some-left (l .before .before .before .args .word .now) (l .loop .at) (l .loop .state) (l .loop .count) (l .loop .weights) (l .loop .bytes) (l .loop .inv .1) (n .next .result) (n .next .ensures) (c .before .before .if2 .left) (n .before .before .before .loop-test .taken) (l .before .if1 .left)
 
 cast-state : tie.Need-cast-state Inv-loop μ-loop
 cast-state c = omega arith
@@ -98,11 +101,11 @@ loop-less c = omega arith
 
 loop-again : tie.Need-loop-again Inv-loop μ-loop
 loop-again c =
-    let l = c .before .before .before .before .before .before .before in
-    let a = c .before .before .before .before in (
+    let n = c .before .before .before in
+    let l = n .before .before .before .before in (
       omega arith,
-      next (l .before .before .before .args .word .now) (l .loop .at) (l .loop .state) (l .loop .count) (l .loop .weights) (l .loop .bytes) (l .loop .inv .1) (a .next .result) (a .next .ensures) (c .before .before .before .if2 .left) (a .before .before .loop-test .taken) (l .before .if1 .left)
-          (c .before .before .weights-after .result) (c .before .before .weights-after .ensures) (c .put-finished .last .0) (c .put-finished .ensures),
+      next (l .before .before .before .args .word .now) (l .loop .at) (l .loop .state) (l .loop .count) (l .loop .weights) (l .loop .bytes) (l .loop .inv .1) (n .next .result) (n .next .ensures) (c .before .before .if2 .left) (n .before .before .before .loop-test .taken) (l .before .if1 .left)
+          (c .weights-after .result) (c .weights-after .ensures .0) (c .weights-after .last .0) (c .weights-after .ensures .1),
     )
 
 put-last-requires : tie.Need-put-last-requires Inv-loop μ-loop
@@ -136,11 +139,11 @@ fill-spec =
     loop-holds
     mul-x
     shared-slice-read-x
+    weighing-requires
     next-requires
     answer-at-requires
     returns-2
     weights-after-requires
-    put-finished-requires
     cast-count
     add-count
     sub-count
