@@ -10,7 +10,7 @@ ghost use mathlib.Core.Path.{_≡_};
 ghost use Prim.Native.Nat.{_+_, _≤_, _<_};
 ghost use lib.Seq.{sets};
 ghost use Rattle.weighing.specs.Keys.{keyLimit, zeros};
-ghost use Rattle.keying.specs.Packed.{fiveBytes, weighingOf};
+ghost use Rattle.keying.specs.Packed.{fiveBytes};
 ghost use Rattle.keying.specs.Filling.{Fit, closedBy, weightsAfter, putLast, bytesAfter};
 ghost use Rattle.keying.specs.Filled.{FillRight};
 
@@ -68,11 +68,11 @@ fn weights_after(
     change: u8,
     state: usize,
     x: u16,
-    weighs: u64,
 ) -> Weights
-    requires { ⌜ (count ≤ 64) × (state < 16) × (weighs ≡ weighingOf x) × Fit change weights ⌝ }
+    requires { ⌜ (count ≤ 64) × (state < 16) × Fit change weights ⌝ }
     ensures { λ r. ⌜ (r ≡ weightsAfter change state x weights) × (now (bytes .exit) ≡ bytesAfter change count (r .before) (now (bytes .entry))) ⌝ }
 {
+    let weighs = weighing(x);
     let last = weights.last;
     let before = weights.before;
     if change == 2 {
@@ -109,13 +109,12 @@ pub fn fill(word: &[u16], bytes: &mut [u8; 320]) -> ReadAnswer
     let mut at = 0;
     while at < word.len() {
         let x = word[at];
-        let weighs = weighing(x);
         let entry = next(state, x);
         if entry == REFUSED {
             return answer_at(word, at, state, count);
         }
         let change = entry / 16;
-        weights = weights_after(bytes, count, weights, change, state, x, weighs);
+        weights = weights_after(bytes, count, weights, change, state, x);
         count = count + change as usize - 1;
         state = (entry % 16) as usize;
         at += 1;

@@ -34,29 +34,26 @@ mul-x c = omega arith
 shared-slice-read-x : tie.Need-shared-slice-read-x Inv-loop μ-loop
 shared-slice-read-x c = omega arith
 
-weighing-requires : tie.Need-weighing-requires Inv-loop μ-loop
-weighing-requires c κs = tt
-
 next-requires : tie.Need-next-requires Inv-loop μ-loop
 next-requires c κs =
-    let l = c .before .before .before in
+    let l = c .before .before in
     small (l .before .before .before .args .word .now) (l .loop .at) (l .loop .state) (l .loop .count) (l .loop .weights) (l .loop .bytes) (l .loop .inv .1)
 
 answer-at-requires : tie.Need-answer-at-requires Inv-loop μ-loop
 answer-at-requires c κs =
     let n = c .before in
-    let l = n .before .before .before .before in
-    stopped-short (l .before .before .before .args .word .now) (l .loop .at) (l .loop .state) (l .loop .count) (l .loop .weights) (l .loop .bytes) (l .loop .inv .1) (l .before .if1 .left) (n .before .before .before .loop-test .taken)
+    let l = n .before .before .before in
+    stopped-short (l .before .before .before .args .word .now) (l .loop .at) (l .loop .state) (l .loop .count) (l .loop .weights) (l .loop .bytes) (l .loop .inv .1) (l .before .if1 .left) (n .before .before .loop-test .taken)
     (refused (l .before .before .before .args .word .now) (l .loop .at) (l .loop .state) (l .loop .count) (l .loop .weights) (l .loop .bytes) (l .loop .inv .1) (n .next .result) (n .next .ensures) (c .if2 .taken))
 
 returns-2 : tie.Need-returns-2 Inv-loop μ-loop
 returns-2 c =
     let n = c .before .before in
-    let l = n .before .before .before .before in
+    let l = n .before .before .before in
     record {
       answers = c .answer-at .ensures;
       key =
-          key-short (l .before .before .before .args .word .now) (l .loop .at) (l .loop .state) (l .loop .count) (l .loop .weights) (l .loop .bytes) (l .loop .inv .1) (l .before .if1 .left) (n .before .before .before .loop-test .taken)
+          key-short (l .before .before .before .args .word .now) (l .loop .at) (l .loop .state) (l .loop .count) (l .loop .weights) (l .loop .bytes) (l .loop .inv .1) (l .before .if1 .left) (n .before .before .loop-test .taken)
           (refused (l .before .before .before .args .word .now) (l .loop .at) (l .loop .state) (l .loop .count) (l .loop .weights) (l .loop .bytes) (l .loop .inv .1) (n .next .result) (n .next .ensures) (c .before .if2 .taken)) (outcomeOf (c .answer-at .result));
       size = sized (l .before .before .before .args .word .now) (l .loop .at) (l .loop .state) (l .loop .count) (l .loop .weights) (l .loop .bytes) (l .loop .inv .1);
     }
@@ -64,13 +61,12 @@ returns-2 c =
 weights-after-requires : tie.Need-weights-after-requires Inv-loop μ-loop
 weights-after-requires c κs =
     let n = c .before .before in
-    let l = n .before .before .before .before in
+    let l = n .before .before .before in
     let b = l .loop .inv .1 .bounded in
     let i = l .loop .inv .0 in (
       omega (arith, l .before .if1 .left),
       small (l .before .before .before .args .word .now) (l .loop .at) (l .loop .state) (l .loop .count) (l .loop .weights) (l .loop .bytes) (l .loop .inv .1),
-      n .before .weighing .ensures,
-      fits (l .before .before .before .args .word .now) (l .loop .at) (l .loop .state) (l .loop .count) (l .loop .weights) (l .loop .bytes) (l .loop .inv .1) (n .next .result) (n .next .ensures) (c .before .if2 .left) (n .before .before .before .loop-test .taken) (l .before .if1 .left),
+      fits (l .before .before .before .args .word .now) (l .loop .at) (l .loop .state) (l .loop .count) (l .loop .weights) (l .loop .bytes) (l .loop .inv .1) (n .next .result) (n .next .ensures) (c .before .if2 .left) (n .before .before .loop-test .taken) (l .before .if1 .left),
     )
 
 cast-count : tie.Need-cast-count Inv-loop μ-loop
@@ -79,7 +75,7 @@ cast-count c = omega arith
 add-count : tie.Need-add-count Inv-loop μ-loop
 add-count c =
     let n = c .before .before .before in
-    let l = n .before .before .before .before in
+    let l = n .before .before .before in
     let b = l .loop .inv .1 .bounded in
     let i = l .loop .inv .0 in
     omega (arith, l .before .if1 .left)
@@ -87,8 +83,8 @@ add-count c =
 sub-count : tie.Need-sub-count Inv-loop μ-loop
 sub-count c =
     let n = c .before .before .before in
-    let l = n .before .before .before .before in
-    some-left (l .before .before .before .args .word .now) (l .loop .at) (l .loop .state) (l .loop .count) (l .loop .weights) (l .loop .bytes) (l .loop .inv .1) (n .next .result) (n .next .ensures) (c .before .before .if2 .left) (n .before .before .before .loop-test .taken) (l .before .if1 .left)
+    let l = n .before .before .before in
+    some-left (l .before .before .before .args .word .now) (l .loop .at) (l .loop .state) (l .loop .count) (l .loop .weights) (l .loop .bytes) (l .loop .inv .1) (n .next .result) (n .next .ensures) (c .before .before .if2 .left) (n .before .before .loop-test .taken) (l .before .if1 .left)
 
 cast-state : tie.Need-cast-state Inv-loop μ-loop
 cast-state c = omega arith
@@ -102,9 +98,9 @@ loop-less c = omega arith
 loop-again : tie.Need-loop-again Inv-loop μ-loop
 loop-again c =
     let n = c .before .before .before in
-    let l = n .before .before .before .before in (
+    let l = n .before .before .before in (
       omega arith,
-      next (l .before .before .before .args .word .now) (l .loop .at) (l .loop .state) (l .loop .count) (l .loop .weights) (l .loop .bytes) (l .loop .inv .1) (n .next .result) (n .next .ensures) (c .before .before .if2 .left) (n .before .before .before .loop-test .taken) (l .before .if1 .left)
+      next (l .before .before .before .args .word .now) (l .loop .at) (l .loop .state) (l .loop .count) (l .loop .weights) (l .loop .bytes) (l .loop .inv .1) (n .next .result) (n .next .ensures) (c .before .before .if2 .left) (n .before .before .loop-test .taken) (l .before .if1 .left)
           (c .weights-after .result) (c .weights-after .ensures .0) (c .weights-after .last .0) (c .weights-after .ensures .1),
     )
 
@@ -139,7 +135,6 @@ fill-spec =
     loop-holds
     mul-x
     shared-slice-read-x
-    weighing-requires
     next-requires
     answer-at-requires
     returns-2
