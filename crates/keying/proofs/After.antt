@@ -2,20 +2,18 @@
 -- Assumes nothing.
 use mathlib.Core.Path.{_≡_, refl, ap, sym, subst, _∙_}
 use mathlib.Core.Bool.{Bool, true, false, not}
-use mathlib.Core.List.{List, [], _∷_}
-use Prim.Native.Nat.{ℕ, suc, _+_, _-_, _*_, _≤_, _<_}
+use mathlib.Core.List.{[], _∷_}
+use Prim.Native.Nat.{ℕ, _+_, _-_, _*_, _≤_, _<_}
 use native.Mathlib.Omega.{arith}
-use lib.Dec.{T, eqb}
+use lib.Dec.{T}
 use lib.ListN.{length}
-use borrow.Author.Tests.{eq-eqb, ne-eqb}
-use Rattle.letters.specs.Choice.{pick}
 use Rattle.letters.specs.Weights.{isHead}
-use Rattle.formula.specs.Syllable.{Syllable, bare, finalOf, isNoFinal, isSyllable}
+use Rattle.formula.specs.Syllable.{Syllable, bare, finalOf, isNoFinal}
 use Rattle.formula.specs.Row.{Row}
-use Rattle.rows.specs.Kept.{endOf, KeptOk}
+use Rattle.rows.specs.Kept.{KeptOk}
 use Rattle.transitions.specs.State.{stateOf, stateNumber}
 use Rattle.steps.proofs.Branches.{when-equal, when-unequal}
-use Rattle.keying.specs.Packed.{packed, weighingOf, gainOf, packedTop, packedBelow}
+use Rattle.keying.specs.Packed.{packed, weighingOf, gainOf}
 use Rattle.keying.specs.Filling.{Fit, closedBy, weightsAfter, WeightsOf}
 use Rattle.keying.specs.declared.fill.Weights.{Weights}
 use Rattle.keying.proofs.Bytes.{packed-small}

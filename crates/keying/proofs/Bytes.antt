@@ -1,9 +1,9 @@
 -- The bytes of the packed weights are the weights, since each is below 256.
 -- Assumes nothing.
-use mathlib.Core.Path.{_≡_, refl}
+use mathlib.Core.Path.{_≡_}
 use mathlib.Core.Bool.{Bool, true, false}
 use mathlib.Core.List.{List, [], _∷_}
-use Prim.Native.Nat.{ℕ, suc, _+_, _-_, _*_, _/_, _%_, _≤_, _<_}
+use Prim.Native.Nat.{ℕ, suc, _+_, _*_, _/_, _%_, _≤_, _<_}
 use native.Mathlib.Omega.{arith}
 use lib.Dec.{T, leb, leb→le}
 use lib.ListN.{set}
@@ -11,10 +11,10 @@ use lib.Seq.{sets}
 use Rattle.letters.specs.Choice.{pick}
 use Rattle.letters.specs.Letters.{within, isConsonant, isIndependentVowel, isDigit, isStop, isSign}
 use Rattle.letters.specs.Marks.{MedialGroup, Vowel, ToneMark, no-tone, dot, visarga}
-use Rattle.letters.specs.Weights.{headWeight, independentVowelWeight, medialWeight, finalWeight, vowelWeight, toneWeight}
+use Rattle.letters.specs.Weights.{headWeight, independentVowelWeight, medialWeight, vowelWeight, toneWeight}
 use Rattle.formula.specs.Syllable.{Final, no-final, plain, stacked, kinzi, great-sa, Syllable, syllable, isFinal, isSyllable}
 use Rattle.formula.specs.Weighing.{finalWeightOf, weightsOf}
-use Rattle.formula.proofs.Lists.{both-left, every}
+use Rattle.formula.proofs.Lists.{both-left}
 use Rattle.rows.proofs.Sound.{apart}
 use Rattle.rows.proofs.Complete.{high}
 use Rattle.steps.proofs.Tests.{each-vowel, each-medial}

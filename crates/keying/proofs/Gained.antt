@@ -5,30 +5,31 @@ use mathlib.Core.Path.{_≡_, refl, ap, sym, subst, _∙_}
 use mathlib.Core.Bool.{Bool, true, false, not, _&&_, _||_}
 use mathlib.Core.List.{List, [], _∷_}
 use mathlib.Core.Option.{Option, none, some}
-use Prim.Native.Nat.{ℕ, suc, _+_, _-_, _*_, _%_, _^_, _≤_, _<_}
+use Prim.Native.Nat.{ℕ, suc, _+_, _-_, _*_, _%_, _^_, _≤_}
 use native.Mathlib.Nat.{zero-div}
 use native.Mathlib.Omega.{arith}
 use lib.Dec.{T, eqb, leb, eqb→eq, leb→le}
 use borrow.Author.Tests.{lt-leb}
 use Rattle.letters.specs.Choice.{pick}
-use Rattle.letters.specs.Letters.{within, isConsonant, isMedial, isVowelMark, isTone, isKiller, kindOf}
+use Rattle.letters.specs.Letters.{isConsonant, isMedial, isVowelMark, isTone, isKiller, kindOf}
 use Rattle.letters.specs.Marks.{neither, ya, ra, MedialGroup, group, medialGroups, Vowel, no-vowel, vowel-aa, vowel-i, vowel-ii, vowel-u, vowel-uu, vowel-e, vowel-ai, vowel-e-aa, vowel-e-aa-killer, vowel-am, vowel-i-u, vowel-u-am, vowels, ToneMark, no-tone, dot, visarga}
 use Rattle.letters.specs.Weights.{isHead, isFinalLetter, headWeight, independentVowelWeight, finalWeight, medialWeight, vowelWeight, toneWeight}
 use Rattle.letters.specs.declared.kind.Kind.{Kind}
 use Rattle.letters.specs.declared.kind.Kind.the-variants.{Consonant, IndependentVowel, Medial, VowelMark, Tone, Killer, Stacker, GreatSa, Digit, Stop, Sign, Foreign}
 use Rattle.letters.proofs.Table.{upTo, below}
-use Rattle.letters.proofs.Counted.{on-chart}
 use Rattle.formula.specs.Syllable.{Final, no-final, plain, stacked, kinzi, great-sa, Syllable, syllable, bare, finalOf, carriesMarks, carriesFinal, isNoMedial, isNoVowel, isNoFinal, isNoTone, isClosed}
 use Rattle.formula.specs.Row.{Row}
 use Rattle.formula.specs.Weighing.{finalWeightOf}
 use Rattle.formula.proofs.Lists.{both-left, both-right, every}
-use Rattle.rows.specs.Kept.{medialAnd, vowelAnd, toneOf, when, onto, endOf, isOpen, isBare, admits, stepHead, stepMedial, stepVowel, stepTone, stepGreatSa, close, killed, stepKiller, stacks, stepStacker, act, step}
+use Rattle.rows.specs.Kept.{medialAnd, vowelAnd, toneOf, when, onto, endOf, isOpen, isBare, admits, stepHead, stepMedial, stepVowel, stepTone, stepGreatSa, close, killed, stepKiller, stepStacker, act, step}
 use Rattle.rows.proofs.Sound.{or-left}
 use Rattle.rows.proofs.Complete.{is-true, low, high, final-consonant}
 use Rattle.steps.proofs.Classes.{inClass, kind-class, head-of}
 use Rattle.steps.proofs.Pieces.{mark-bounds}
-use Rattle.steps.proofs.Tests.{each-vowel, each-medial, vowel-test, medial-test, tone-test}
-use Rattle.transitions.specs.State.{State, done, plain-final, nga-final, waiting, head-stays, head-closes, head-nga, after-ya-ra, after-wa, after-both, after-ha, with-e, with-e-aa, with-i, with-u, with-vowel, headState, medialState, vowelState, finalState, toneState, isOpenTop, stateOf, stateNumber}
+use Rattle.steps.proofs.Tests.{each-vowel, each-medial}
+use Rattle.transitions.proofs.Tested.{in-class}
+use Rattle.transitions.proofs.Entered.{state-small}
+use Rattle.transitions.specs.State.{State, plain-final, nga-final, head-stays, head-closes, head-nga, after-ya-ra, after-wa, after-both, after-ha, headState, medialState, vowelState, isOpenTop, stateOf, stateNumber}
 use Rattle.keying.specs.Packed.{packed, headFor, weighingOf, gainBy, gainOf}
 
 -- what the value x makes of what is kept, by packed weights
@@ -62,7 +63,7 @@ onto-weighs : {A : Type 0} (x : ℕ) (kept : Row) (put : A → Row) (f : A → B
 onto-weighs x kept put f none t g = tt
 onto-weighs x kept put f (some a) t g = g a t
 
--- a test of every mark of a class
+-- a test where another passes
 abbrev implies : Bool → Bool → Bool
 implies true b = b
 implies false b = true
@@ -70,10 +71,6 @@ implies false b = true
 implied : (a b : Bool) → T (implies a b) → T a → T b
 implied true b t s = t
 implied false b t s = absurd s
-
-marked : (class f : ℕ → Bool) → T (upTo (λ (i : ℕ). implies (class (0x1000 + i)) (f (0x1000 + i))) 80) → (x : ℕ) → (0x1000 ≤ x) × (x ≤ 0x104F)
-    → T (class x) → T (f x)
-marked class f t x b c = implied (class x) (f x) (on-chart (λ (y : ℕ). implies (class y) (f y)) t x (b .0) (b .1)) c
 
 -- the states of a head alone, and those before a vowel
 abbrev heads : List State
@@ -162,8 +159,7 @@ medial-test-at : (x : ℕ) (m : MedialGroup) → T (isMedial x) → T (medialTes
 unfolding gainBy weighingOf headFor packed pick
 medial-test-at x m c =
     each-medial (medialTest x)
-    (marked isMedial (λ (y : ℕ). every (medialTest y) medialGroups) tt x
-    (let l = low 0x103B 0x103E x c in let u = high 0x103B 0x103E x c in (omega arith, omega arith)) c) m
+    (in-class isMedial (λ (y : ℕ). every (medialTest y) medialGroups) tt x c (let l = low 0x103B 0x103E x c in let u = high 0x103B 0x103E x c in (omega arith, omega arith))) m
 
 medial-weighs : (x h : ℕ) (m : MedialGroup) (v : Vowel) (f : Final) (t : ToneMark) (kept : Row) → T (isMedial x)
     → Weighs x (syllable h m v f t ∷ kept) (stepMedial x (syllable h m v f t ∷ kept))
@@ -198,7 +194,7 @@ isVowelEnd x = isVowelMark x || isKiller x
 
 vowel-test-at : (x : ℕ) (v : Vowel) → (0x1000 ≤ x) × (x ≤ 0x104F) → T (isVowelEnd x) → T (vowelTest x v)
 unfolding gainBy weighingOf headFor packed pick
-vowel-test-at x v b c = each-vowel (vowelTest x) (marked isVowelEnd (λ (y : ℕ). every (vowelTest y) vowels) tt x b c) v
+vowel-test-at x v b c = each-vowel (vowelTest x) (in-class isVowelEnd (λ (y : ℕ). every (vowelTest y) vowels) tt x c b) v
 
 module _ (x h : ℕ) (m : MedialGroup) (v : Vowel) (f : Final) (t : ToneMark) (kept : Row) (q : T (carriesMarks h && isOpen f t)) where
   vowel-moves : (n : Vowel) → T (every (vowelGains x v n) opens) → Moved x (syllable h m v f t ∷ kept) (syllable h m n f t ∷ kept)
@@ -229,25 +225,7 @@ toneTest x = passes (λ (n : ToneMark). upTo (toneGains x n) 15) (toneOf x)
 
 tone-test-at : (x : ℕ) → T (isTone x) → T (toneTest x)
 unfolding gainBy weighingOf headFor packed pick
-tone-test-at x c = marked isTone toneTest tt x (let l = low 0x1037 0x1038 x c in let u = high 0x1037 0x1038 x c in (omega arith, omega arith)) c
-
-pub state-small : (q : State) → stateNumber q < 16
-state-small done = omega arith
-state-small plain-final = omega arith
-state-small nga-final = omega arith
-state-small waiting = omega arith
-state-small head-stays = omega arith
-state-small head-closes = omega arith
-state-small head-nga = omega arith
-state-small after-ya-ra = omega arith
-state-small after-wa = omega arith
-state-small after-both = omega arith
-state-small after-ha = omega arith
-state-small with-e = omega arith
-state-small with-e-aa = omega arith
-state-small with-i = omega arith
-state-small with-u = omega arith
-state-small with-vowel = omega arith
+tone-test-at x c = in-class isTone toneTest tt x c (let l = low 0x1037 0x1038 x c in let u = high 0x1037 0x1038 x c in (omega arith, omega arith))
 
 no-tone-weight : (t : ToneMark) → T (isNoTone t) → toneWeight t ≡ 0
 no-tone-weight no-tone o = refl
@@ -288,7 +266,7 @@ tone-weighs x h m v f t kept c = when-weighs x _ (carriesFinal h && (isClosed f 
         let z = no-tone-weight t o in
         let s = stateNumber (stateOf (syllable h m v f t ∷ kept)) in
         let first : 1 ≤ s = toned-state h m v f t kept (both-left (carriesFinal h) _ q) (both-left (isClosed f) (isNoTone t) r) o in
-        let last : s < 16 = state-small (stateOf (syllable h m v f t ∷ kept)) in
+        let last : s ≤ 15 = leb→le s 15 (state-small (stateOf (syllable h m v f t ∷ kept))) in
         let d : suc (s - 1) ≡ s = omega arith in
         onto-weighs x _ _ (λ (n : ToneMark). upTo (toneGains x n) 15) (toneOf x) (tone-test-at x c)
         (λ (n : ToneMark) (p : T (upTo (toneGains x n) 15)).

@@ -1,36 +1,31 @@
 -- One value more of the pass that reads a word and makes its key, and what the pass has found where it stops.
 -- Assumes nothing.
 use mathlib.Core.Path.{_≡_, refl, ap, sym, subst, _∙_}
-use mathlib.Core.List.{List, [], _∷_, _++_, append-nil, reverse, reverse-reverse}
+use mathlib.Core.List.{List, [], _++_, append-nil, reverse, reverse-reverse}
 use mathlib.Core.Option.{none, some, Option·some-injective}
-use Prim.Native.Nat.{ℕ, suc, _+_, _-_, _*_, _/_, _%_, _≤_, _<_}
+use Prim.Native.Nat.{ℕ, suc, _+_, _-_, _/_, _%_, _≤_, _<_}
 use native.Mathlib.Numerals.{add-one}
 use native.Mathlib.Omega.{arith}
-use lib.Dec.{T}
+use lib.Dec.{leb→le}
 use lib.ListN.{length, getD, take, length-reverse}
 use lib.Seq.{take-all}
 use Rattle.formula.specs.Limits.{limit}
 use Rattle.formula.specs.Row.{Row, Gives, Viable}
-use Rattle.rows.specs.Kept.{endOf, KeptOk, isNotGreatSa, step, run}
-use Rattle.rows.proofs.Sound.{RunOut, run-out}
+use Rattle.rows.specs.Kept.{KeptOk, step, run}
 use Rattle.rows.proofs.Viable.{read-back, stops, goes-on}
 use Rattle.transitions.specs.State.{stateOf, stateNumber}
 use Rattle.transitions.specs.Tables.{entryOf}
-use Rattle.transitions.proofs.Entered.{Enters, enters}
+use Rattle.transitions.proofs.Entered.{Enters, state-small, enters}
 use Rattle.reading.specs.Answer.{Outcome, accepts, refuses}
-use Rattle.reading.specs.Walked.{Walked, WalkStopped}
+use Rattle.reading.specs.Walked.{WalkStopped}
+use Rattle.reading.proofs.Reach.{kept-right}
 use Rattle.weighing.specs.Keys.{keyLimit, usedBytes, zeros, keyOf, keyBytes}
-use Rattle.keying.specs.Packed.{keptKey}
 use Rattle.keying.specs.Filling.{Fit, weightsAfter, putLast, bytesAfter, WeightsOf, KeyOf, Filled}
 use Rattle.keying.specs.Filled.{KeyIfRead}
 use Rattle.keying.specs.declared.fill.Weights.{Weights}
-use Rattle.keying.proofs.Gained.{Moved, pushed, changed, closed, doubled, moves, state-small}
+use Rattle.keying.proofs.Gained.{Moved, pushed, changed, closed, doubled, moves}
 use Rattle.keying.proofs.After.{weights-move, weights-fit}
 use Rattle.keying.proofs.Placed.{key-start, key-length, key-move, key-end, kept-key, put-length}
-
--- what the machine's row is after the values before `at`
-kept-right : (word : List ℕ) (at : ℕ) (kept : Row) → run (take at word) [] ≡ some kept → RunOut [] (take at word) (some kept)
-kept-right word at kept e = subst (RunOut [] (take at word)) e (run-out (take at word) [] tt)
 
 pub at-start : (word : List ℕ) → Filled word 0 0 0 (record { last = 0; before = 0 }) (zeros keyLimit)
 at-start word =
@@ -53,7 +48,7 @@ module _ (word : List ℕ) (at state count : ℕ) (w : Weights) (bytes : List �
   kept = r .walked .kept
 
   pub small : state < 16
-  small = omega (arith, r .walked .state-is, state-small (stateOf kept))
+  small = let h : stateNumber (stateOf kept) ≤ 15 = leb→le _ 15 (state-small (stateOf kept)) in omega (arith, r .walked .state-is)
 
   pub sized : length bytes ≡ keyLimit
   sized = key-length kept bytes (r .key-of)

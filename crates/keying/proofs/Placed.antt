@@ -1,24 +1,24 @@
 -- The bytes of the key while a word is read: a syllable is put when the next one begins, and the last at the end.
 -- Assumes nothing.
 use mathlib.Core.Path.{_≡_, refl, ap, sym, subst, _∙_}
-use mathlib.Core.Bool.{Bool, true, false, not}
+use mathlib.Core.Bool.{Bool, true, false}
 use mathlib.Core.List.{List, [], _∷_, _++_, append-assoc, append-nil, reverse, reverseAux}
-use Prim.Native.Nat.{ℕ, zero, suc, _+_, _-_, _*_, _≤_, _<_}
+use Prim.Native.Nat.{ℕ, zero, suc, _+_, _-_, _*_, _<_}
 use native.Mathlib.Nat.{zero-add, suc-add}
 use native.Mathlib.Omega.{arith}
 use lib.Dec.{T, eqb}
-use lib.ListN.{length, take, drop, length-append, length-replicate}
+use lib.ListN.{length, drop, length-append, length-replicate}
 use lib.Seq.{take-at, drop-at, drop-append-add, sets, sets-eq, length-sets}
 use Rattle.letters.specs.Choice.{pick}
 use Rattle.letters.specs.Weights.{isHead}
 use Rattle.formula.specs.Limits.{limit}
-use Rattle.formula.specs.Syllable.{Syllable, syllable, bare, finalOf, isNoFinal, isSyllable}
+use Rattle.formula.specs.Syllable.{Syllable, syllable, bare, isSyllable}
 use Rattle.formula.specs.Row.{Row}
 use Rattle.formula.specs.Weighing.{weightsOf}
-use Rattle.rows.specs.Kept.{endOf, KeptOk}
+use Rattle.rows.specs.Kept.{KeptOk}
 use Rattle.steps.proofs.Branches.{when-equal, when-unequal}
 use Rattle.weighing.specs.Keys.{keyLimit, usedBytes, zeros, keyOf}
-use Rattle.keying.specs.Packed.{packed, fiveBytes, packedTop, keptKey}
+use Rattle.keying.specs.Packed.{packed, fiveBytes, keptKey}
 use Rattle.keying.specs.Filling.{weightsAfter, putLast, bytesAfter, belowLast, WeightsOf, KeyOf}
 use Rattle.keying.specs.declared.fill.Weights.{Weights}
 use Rattle.keying.proofs.Bytes.{packed-bytes}

@@ -3,7 +3,7 @@
 use mathlib.Core.Path.{_≡_, refl, ap, sym, subst, _∙_}
 use mathlib.Core.Bool.{Bool, true, false, _||_}
 use mathlib.Core.List.{List, [], _∷_, _++_, map, reverse, append-nil}
-use Prim.Native.Nat.{ℕ, suc, _+_, _-_, _*_, _/_, _%_, _^_, _≤_, _<_}
+use Prim.Native.Nat.{ℕ, _+_, _-_, _*_, _/_, _%_, _^_, _≤_, _<_}
 use native.Mathlib.Decide.{decLt}
 use native.Mathlib.Nat.{mul-le-mul, pow-le-pow-right, mod-eq-of-lt}
 use native.Mathlib.Omega.{arith}
@@ -16,7 +16,7 @@ use Rattle.letters.specs.Weights.{isHead}
 use Rattle.letters.proofs.Arms.{inArms, InNone, in-none}
 use Rattle.letters.proofs.Counted.{on-chart}
 use Rattle.formula.specs.Syllable.{bare}
-use Rattle.steps.proofs.Branches.{when-equal, when-unequal}
+use Rattle.steps.proofs.Branches.{when-unequal}
 use Rattle.steps.proofs.Classes.{either, head-bounds}
 use Rattle.keying.specs.Packed.{packed, marks, headFor, weighingOf, gainBy}
 

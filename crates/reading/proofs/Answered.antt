@@ -3,7 +3,7 @@
 use mathlib.Core.Path.{_≡_, refl, ap, sym, subst, _∙_}
 use mathlib.Core.Bool.{Bool, true, false, not}
 use mathlib.Core.List.{List, [], _∷_, _++_, map, append-assoc, append-nil, reverse, reverseAux, reverse-reverse}
-use mathlib.Core.Option.{none, some, Option·some-injective}
+use mathlib.Core.Option.{some, Option·some-injective}
 use Prim.Native.Nat.{ℕ, _-_, _≤_, _<_}
 use native.Mathlib.Decide.{decLt}
 use native.Mathlib.Omega.{arith}
@@ -19,7 +19,7 @@ use Rattle.formula.specs.Record.{linkOf}
 use Rattle.formula.specs.Numbers.{numbersOf}
 use Rattle.formula.specs.declared.Syllable.{Syllable as Numbers}
 use Rattle.formula.specs.declared.Window.{Window}
-use Rattle.rows.specs.Kept.{endOf, isNotGreatSa, step, run}
+use Rattle.rows.specs.Kept.{endOf, isNotGreatSa, run}
 use Rattle.rows.proofs.Sound.{sound}
 use Rattle.rows.proofs.Admitted.{run-admitted}
 use Rattle.rows.proofs.Viable.{read-back, only-row, unfinished, alive, stops, longest}

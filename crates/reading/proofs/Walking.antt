@@ -3,7 +3,7 @@
 use mathlib.Core.Path.{_≡_, refl, ap, sym, subst, _∙_}
 use mathlib.Core.List.{List, []}
 use mathlib.Core.Option.{none, some}
-use Prim.Native.Nat.{ℕ, suc, _+_, _-_, _/_, _%_, _≤_, _<_}
+use Prim.Native.Nat.{ℕ, _+_, _-_, _/_, _%_, _≤_, _<_}
 use native.Mathlib.Numerals.{add-one}
 use native.Mathlib.Omega.{arith}
 use lib.Dec.{eqb, leb→le}
@@ -41,9 +41,7 @@ module _ (word : List ℕ) (at state count : ℕ) (w : Walked word at state coun
     module _ (inside : at < length word) (q : entry ≡ 48 → ⊥) where
       moved : (b : Row) × (step (w .kept) (getD word at 0) ≡ some b) × (entry % 16 ≡ stateNumber (stateOf b))
           × (length b + 1 ≡ length (w .kept) + entry / 16)
-      moved =
-          subst (λ (n : ℕ). (b : Row) × (step (w .kept) (getD word at 0) ≡ some b) × (n % 16 ≡ stateNumber (stateOf b)) × (length b + 1 ≡ length (w .kept) + n / 16))
-          (sym e) (entered .moves (λ z. q (e ∙ z)))
+      moved = subst (λ (n : ℕ). Enters n (w .kept) (step (w .kept) (getD word at 0))) (sym e) entered .moves q
 
       -- a value never takes the last syllable away
       pub some-left : 1 ≤ count + entry / 16
@@ -54,7 +52,9 @@ module _ (word : List ℕ) (at state count : ℕ) (w : Walked word at state coun
           let l : length (moved .0) + 1 ≡ length (w .kept) + entry / 16 = moved .3 in
           record {
             kept = moved .0;
-            came = subst (λ (n : ℕ). run (take n word) [] ≡ some (moved .0)) (sym (add-one at)) (goes-on word at (w .kept) (moved .0) inside (w .came) (moved .1));
+            came =
+                subst (λ (n : ℕ). run (take n word) [] ≡ some (moved .0)) (sym (add-one at))
+                (goes-on word at (w .kept) (moved .0) inside (w .came) (moved .1));
             state-is = moved .2;
             count-is = omega (arith, w .count-is);
           }

@@ -4,7 +4,6 @@ use crate::read::answer_where;
 use formula::Word;
 use refusals::Refusal;
 use transitions::tables::next;
-ghost use mathlib.Core.Path.{_≡_};
 ghost use Prim.Native.Nat.{_≤_};
 ghost use lib.ListN.{length};
 ghost use Rattle.formula.specs.Limits.{limit};

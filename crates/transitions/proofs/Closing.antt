@@ -4,7 +4,7 @@ use mathlib.Core.Path.{_≡_, refl, sym, subst, _∙_}
 use mathlib.Core.Bool.{Bool, true, false, not, _&&_, _||_}
 use mathlib.Core.List.{[], _∷_}
 use mathlib.Core.Option.{Option, none, some}
-use Prim.Native.Nat.{ℕ, _-_}
+use Prim.Native.Nat.{ℕ}
 use native.Mathlib.Omega.{arith}
 use lib.Dec.{T, eqb}
 use Rattle.letters.specs.Choice.{pick}
@@ -21,7 +21,7 @@ use Rattle.transitions.specs.State.{State, done, plain-final, nga-final,
 use Rattle.transitions.specs.Turn.{Turn, refuse, to, is, isOpenState, onKiller, onStacker, Agrees}
 use Rattle.transitions.proofs.Tested.{each-open, same, same-equal}
 use Rattle.transitions.proofs.Known.{and-false, carried, opened}
-use Rattle.transitions.proofs.Marked.{changed, if-open, on-open, refused, shut}
+use Rattle.transitions.proofs.Marked.{Turns, changed, if-open, on-open, refused, shut}
 
 -- 103A and 1039 on a head alone: it is the final g of the syllable before, where that is open and the letter may be one
 close-none : (p : Bool) → when p none ≡ none
@@ -123,9 +123,9 @@ bare-cases P m v at-bare at-rest = go (isNoMedial m && isNoVowel v) refl
     go false e = at-rest e
 
 killer-open : (h : ℕ) (m : MedialGroup) (v : Vowel) (f : Final) (t : ToneMark) (a : Row) → T (carriesMarks h) → T (isOpen f t)
-    → Agrees (onKiller (stateOf (syllable h m v f t ∷ a))) (syllable h m v f t ∷ a) (stepKiller (syllable h m v f t ∷ a))
+    → Turns onKiller stepKiller (syllable h m v f t ∷ a)
 killer-open h m v no-final no-tone a c o =
-    bare-cases (λ (n : MedialGroup). λ (u : Vowel). Agrees (onKiller (stateOf (syllable h n u no-final no-tone ∷ a))) (syllable h n u no-final no-tone ∷ a) (stepKiller (syllable h n u no-final no-tone ∷ a)))
+    bare-cases (λ (n : MedialGroup). λ (u : Vowel). Turns onKiller stepKiller (syllable h n u no-final no-tone ∷ a))
     m v
     (on-open onKiller _ h (group neither false false) no-vowel a (λ (b : Bool). when (isFinalLetter h) (close (plain h) a)) c refl
     (close-turned onKiller h (plain h) (isFinalLetter h) killer-stays (killer-moves (isFinalLetter h) (eqb h 0x1004)) (λ s. refl) a))
@@ -140,11 +140,11 @@ killer-none none h m v f t a e =
     rw (no-closing (isConsonant h) (isOpen f t) (isNoMedial m) (isNoVowel v) (isFinalLetter h) e (no-letter h)) refl
 killer-none (some n) h m v f t a e = rw e refl
 
-pub killer-turned : (kept : Row) → Agrees (onKiller (stateOf kept)) kept (stepKiller kept)
+pub killer-turned : (kept : Row) → Turns onKiller stepKiller kept
 unfolding carriesMarks carriesFinal
 killer-turned [] = refused (onKiller done) [] none (shut 0 done tt .killer) refl
 killer-turned (syllable h m v f t ∷ a) =
-    if-open onKiller h m v f t a (stepKiller (syllable h m v f t ∷ a)) (λ n. shut 0 (stateOf (syllable h m v f t ∷ a)) n .killer)
+    if-open onKiller stepKiller h m v f t a (λ n. shut 0 (stateOf (syllable h m v f t ∷ a)) n .killer)
     (killer-none (vowelAnd 0x103A v) h m v f t a) (killer-open h m v f t a)
 
 -- the stacker on a syllable with marks does nothing
@@ -156,14 +156,14 @@ unfolding pick
 stacker-right m v b h = each-open stackerRight tt m v b h
 
 stacker-open : (h : ℕ) (m : MedialGroup) (v : Vowel) (a : Row) → T (carriesMarks h)
-    → Agrees (onStacker (stateOf (syllable h m v no-final no-tone ∷ a))) (syllable h m v no-final no-tone ∷ a)
-    (stepStacker (syllable h m v no-final no-tone ∷ a))
+    → Turns onStacker stepStacker (syllable h m v no-final no-tone ∷ a)
 stacker-open h m v a c =
-    bare-cases (λ (n : MedialGroup). λ (u : Vowel). Agrees (onStacker (stateOf (syllable h n u no-final no-tone ∷ a))) (syllable h n u no-final no-tone ∷ a) (stepStacker (syllable h n u no-final no-tone ∷ a)))
+    bare-cases (λ (n : MedialGroup). λ (u : Vowel). Turns onStacker stepStacker (syllable h n u no-final no-tone ∷ a))
     m v
     (on-open onStacker _ h (group neither false false) no-vowel a
     (λ (b : Bool). when (isFinalLetter h && not (eqb h 0x1004)) (close (stacked h) a)) c refl
-    (close-turned onStacker h (stacked h) (isFinalLetter h && not (eqb h 0x1004)) stacker-stays (stacker-moves (isFinalLetter h) (eqb h 0x1004)) (λ s. refl) a))
+    (close-turned onStacker h (stacked h) (isFinalLetter h && not (eqb h 0x1004)) stacker-stays
+    (stacker-moves (isFinalLetter h) (eqb h 0x1004)) (λ s. refl) a))
     (λ e. on-open onStacker refuse h m v a (λ (b : Bool). stepStacker (syllable h m v no-final no-tone ∷ a)) c
     (same-equal _ _ (at-marks (isNoMedial m && isNoVowel v) _ e (stacker-right m v (isOpenTop a) h)))
     (rw (not-bare (isNoMedial m) (isNoVowel v) (isFinalLetter h && not (eqb h 0x1004)) e) refl))
@@ -206,17 +206,18 @@ or-false : (b : Bool) → T (b || false) → T b
 or-false true t = tt
 or-false false t = t
 
-pub stacker-turned : (kept : Row) → KeptOk kept → Agrees (onStacker (stateOf kept)) kept (stepStacker kept)
+pub stacker-turned : (kept : Row) → KeptOk kept → Turns onStacker stepStacker kept
 unfolding carriesMarks carriesFinal pick
 stacker-turned [] k = refused (onStacker done) [] none (stack-refused true no-tone done tt) refl
 stacker-turned (syllable h m v no-final t ∷ a) k =
-    if-open onStacker h m v no-final t a (stepStacker (syllable h m v no-final t ∷ a))
+    if-open onStacker stepStacker h m v no-final t a
     (toned-refused (isConsonant h) t _ (opened m v (isOpenTop a) h))
-    (λ e. rw (no-closing (isConsonant h) (isNoTone t) (isNoMedial m) (isNoVowel v) (isFinalLetter h && not (eqb h 0x1004)) e (λ i. rw (no-letter h i) refl)) refl)
+    (λ e. rw (no-closing (isConsonant h) (isNoTone t) (isNoMedial m) (isNoVowel v) (isFinalLetter h && not (eqb h 0x1004)) e
+    (λ i. rw (no-letter h i) refl)) refl)
     (stack-open t)
   where
     stack-open : (t : ToneMark) → T (isConsonant h) → T (isNoTone t)
-        → Agrees (onStacker (stateOf (syllable h m v no-final t ∷ a))) (syllable h m v no-final t ∷ a) (stepStacker (syllable h m v no-final t ∷ a))
+        → Turns onStacker stepStacker (syllable h m v no-final t ∷ a)
     stack-open no-tone c o = stacker-open h m v a c
 stacker-turned (syllable h m v (plain c) t ∷ a) k =
     kinzi-turned (eqb c 0x1004) (isConsonant h) h m v c t a (or-false (isConsonant h) (apart h m v (plain c) t (k .1) .closing)) refl

@@ -4,7 +4,7 @@ use mathlib.Core.Path.{_≡_, refl, ap, sym, subst, _∙_}
 use mathlib.Core.Bool.{Bool, true, false, not, _&&_}
 use mathlib.Core.List.{[], _∷_}
 use mathlib.Core.Option.{Option, none, some}
-use Prim.Native.Nat.{ℕ, _+_, _-_}
+use Prim.Native.Nat.{ℕ, _+_}
 use native.Mathlib.Omega.{arith}
 use lib.Dec.{T}
 use lib.ListN.{length}
@@ -56,20 +56,23 @@ not-open false p o e = refl
 pub refused : (t : Turn) (kept : Row) (o : Option Row) → t ≡ refuse → o ≡ none → Agrees t kept o
 refused t kept o e i = rw e i
 
+-- what this does to the state is what that does to the row
+abbrev pub Turns : (State → Turn) → (Row → Option Row) → Row → Type 0
+Turns turned step kept = Agrees (turned (stateOf kept)) kept (step kept)
+
 -- the two cases of a mark that only an open syllable takes
-pub if-open : (turned : State → Turn) (h : ℕ) (m : MedialGroup) (v : Vowel) (f : Final) (t : ToneMark) (a : Row) (o : Option Row)
-    → (T (not (isOpenState (stateOf (syllable h m v f t ∷ a)))) → turned (stateOf (syllable h m v f t ∷ a)) ≡ refuse) → ((carriesFinal h && isOpen f t) ≡ false → o ≡ none)
-    → (T (carriesFinal h) → T (isOpen f t) → Agrees (turned (stateOf (syllable h m v f t ∷ a))) (syllable h m v f t ∷ a) o)
-    → Agrees (turned (stateOf (syllable h m v f t ∷ a))) (syllable h m v f t ∷ a) o
-if-open turned h m v f t a o no-turn no-step at-open = go (carriesFinal h && isOpen f t) refl
+pub if-open : (turned : State → Turn) (step : Row → Option Row) (h : ℕ) (m : MedialGroup) (v : Vowel) (f : Final) (t : ToneMark) (a : Row)
+    → (T (not (isOpenState (stateOf (syllable h m v f t ∷ a)))) → turned (stateOf (syllable h m v f t ∷ a)) ≡ refuse)
+    → ((carriesFinal h && isOpen f t) ≡ false → step (syllable h m v f t ∷ a) ≡ none)
+    → (T (carriesFinal h) → T (isOpen f t) → Turns turned step (syllable h m v f t ∷ a)) → Turns turned step (syllable h m v f t ∷ a)
+if-open turned step h m v f t a no-turn no-step at-open = go (carriesFinal h && isOpen f t) refl
   where
-    go : (b : Bool) → (carriesFinal h && isOpen f t) ≡ b
-        → Agrees (turned (stateOf (syllable h m v f t ∷ a))) (syllable h m v f t ∷ a) o
+    go : (b : Bool) → (carriesFinal h && isOpen f t) ≡ b → Turns turned step (syllable h m v f t ∷ a)
     go true e =
         let i : T (carriesFinal h && isOpen f t) = subst T (sym e) tt in
         at-open (both-left (carriesFinal h) (isOpen f t) i) (both-right (carriesFinal h) (isOpen f t) i)
     go false e =
-        refused (turned (stateOf (syllable h m v f t ∷ a))) (syllable h m v f t ∷ a) o
+        refused (turned (stateOf (syllable h m v f t ∷ a))) (syllable h m v f t ∷ a) (step (syllable h m v f t ∷ a))
         (no-turn (subst (λ (b : Bool). T (not b)) (sym (known h m v f t a .0 ∙ e)) tt)) (no-step e)
 
 -- what is shown of the state of an open syllable and of what the machine does where the head carries marks
@@ -95,19 +98,20 @@ medial-right x m v b h i =
     each-open (medialRight x) (in-class isMedial (λ (y : ℕ). everywhere (medialRight y)) tt x i (omega arith)) m v b h
 
 medial-open : (x h : ℕ) (m : MedialGroup) (v : Vowel) (f : Final) (t : ToneMark) (a : Row) → T (isMedial x) → T (carriesMarks h) → T (isOpen f t)
-    → Agrees (onMedial x (stateOf (syllable h m v f t ∷ a))) (syllable h m v f t ∷ a) (stepMedial x (syllable h m v f t ∷ a))
+    → Turns (onMedial x) (stepMedial x) (syllable h m v f t ∷ a)
 medial-open x h m v no-final no-tone a i c o =
     on-open (onMedial x) _ h m v a
     (λ (b : Bool). when (b && (isNoVowel v && true)) (onto (λ (n : MedialGroup). syllable h n v no-final no-tone ∷ a) (medialAnd x m))) c
     (same-equal _ _ (medial-right x m v (isOpenTop a) h i))
-    (changed-agrees (λ (n : MedialGroup). vowelState v (medialState n (headState (isOpenTop a) h))) (λ (n : MedialGroup). syllable h n v no-final no-tone ∷ a)
+    (changed-agrees (λ (n : MedialGroup). vowelState v (medialState n (headState (isOpenTop a) h)))
+    (λ (n : MedialGroup). syllable h n v no-final no-tone ∷ a)
     (syllable h m v no-final no-tone ∷ a) (isNoVowel v && true) (medialAnd x m) (λ n. carried (carriesMarks h) _ c) (λ n. refl))
 
-pub medial-turned : (x : ℕ) (kept : Row) → T (isMedial x) → Agrees (onMedial x (stateOf kept)) kept (stepMedial x kept)
+pub medial-turned : (x : ℕ) (kept : Row) → T (isMedial x) → Turns (onMedial x) (stepMedial x) kept
 unfolding carriesMarks carriesFinal
 medial-turned x [] i = refused _ [] none (shut x done tt .medial) refl
 medial-turned x (syllable h m v f t ∷ a) i =
-    if-open (onMedial x) h m v f t a (stepMedial x (syllable h m v f t ∷ a)) (λ n. shut x (stateOf (syllable h m v f t ∷ a)) n .medial)
+    if-open (onMedial x) (stepMedial x) h m v f t a (λ n. shut x (stateOf (syllable h m v f t ∷ a)) n .medial)
     (λ e. rw (not-open (isConsonant h) (isNoVowel v) (isOpen f t) e) refl) (medial-open x h m v f t a i)
 
 -- vowels
@@ -121,7 +125,7 @@ vowel-right x m v b h i =
     each-open (vowelRight x) (in-class isVowelMark (λ (y : ℕ). everywhere (vowelRight y)) tt x i (omega arith)) m v b h
 
 vowel-open : (x h : ℕ) (m : MedialGroup) (v : Vowel) (f : Final) (t : ToneMark) (a : Row) → T (isVowelMark x) → T (carriesMarks h) → T (isOpen f t)
-    → Agrees (onVowel x (stateOf (syllable h m v f t ∷ a))) (syllable h m v f t ∷ a) (stepVowel x (syllable h m v f t ∷ a))
+    → Turns (onVowel x) (stepVowel x) (syllable h m v f t ∷ a)
 unfolding pick
 vowel-open x h m v no-final no-tone a i c o =
     on-open (onVowel x) _ h m v a (λ (b : Bool). when (b && true) (onto (λ (n : Vowel). syllable h m n no-final no-tone ∷ a) (vowelAnd x v))) c
@@ -129,8 +133,9 @@ vowel-open x h m v no-final no-tone a i c o =
     (changed-agrees (λ (n : Vowel). vowelState n (medialState m (headState (isOpenTop a) h))) (λ (n : Vowel). syllable h m n no-final no-tone ∷ a)
     (syllable h m v no-final no-tone ∷ a) true (vowelAnd x v) (λ n. carried (carriesMarks h) _ c) (λ n. refl))
 
-pub vowel-turned : (x : ℕ) (kept : Row) → T (isVowelMark x) → Agrees (onVowel x (stateOf kept)) kept (stepVowel x kept)
+pub vowel-turned : (x : ℕ) (kept : Row) → T (isVowelMark x) → Turns (onVowel x) (stepVowel x) kept
 unfolding carriesMarks carriesFinal
 vowel-turned x [] i = refused _ [] none (shut x done tt .vowel) refl
 vowel-turned x (syllable h m v f t ∷ a) i =
-    if-open (onVowel x) h m v f t a (stepVowel x (syllable h m v f t ∷ a)) (λ n. shut x (stateOf (syllable h m v f t ∷ a)) n .vowel) (λ e. rw e refl) (vowel-open x h m v f t a i)
+    if-open (onVowel x) (stepVowel x) h m v f t a (λ n. shut x (stateOf (syllable h m v f t ∷ a)) n .vowel) (λ e. rw e refl)
+    (vowel-open x h m v f t a i)

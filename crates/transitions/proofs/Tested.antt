@@ -2,7 +2,7 @@
 -- Assumes nothing.
 use mathlib.Core.Path.{_≡_, refl, ap, sym, _∙_}
 use mathlib.Core.Bool.{Bool, true, false, not, _&&_, _||_}
-use Prim.Native.Nat.{ℕ, _+_, _-_, _≤_}
+use Prim.Native.Nat.{ℕ, _+_, _≤_}
 use lib.Dec.{T, eqb, eqb→eq}
 use Rattle.letters.specs.Choice.{pick}
 use Rattle.letters.specs.Marks.{MedialGroup, medialGroups, Vowel, vowels}

@@ -4,7 +4,7 @@ use mathlib.Core.Path.{_≡_, refl, ap, sym}
 use mathlib.Core.Bool.{Bool, true, false, not}
 use mathlib.Core.List.{[], _∷_}
 use mathlib.Core.Option.{Option, none, some}
-use Prim.Native.Nat.{ℕ, _-_}
+use Prim.Native.Nat.{ℕ}
 use native.Mathlib.Omega.{arith}
 use lib.Dec.{T}
 use Rattle.letters.specs.Choice.{pick}
@@ -21,7 +21,7 @@ use Rattle.transitions.specs.State.{State, done, head-stays, headState, 
 use Rattle.transitions.specs.Turn.{refuse, to, isOpenState, takesHead, onHead, onTone, onGreatSa, turn, Agrees}
 use Rattle.transitions.proofs.Tested.{in-class}
 use Rattle.transitions.proofs.Known.{admits-is, and-false, known, open-is}
-use Rattle.transitions.proofs.Marked.{medial-turned, vowel-turned}
+use Rattle.transitions.proofs.Marked.{Turns, medial-turned, vowel-turned}
 use Rattle.transitions.proofs.Closing.{killer-turned, stacker-turned}
 
 pushed : (x : ℕ) (kept : Row) (p q o : Bool) → q ≡ p → o ≡ isOpenTop kept
@@ -30,11 +30,13 @@ unfolding pick
 pushed x kept true q o e i = rw (e, i) (bare x ∷ kept, refl, refl, omega arith)
 pushed x kept false q o e i = rw e refl
 
-head-turned : (x : ℕ) (kept : Row) → KeptOk kept → T (isNotGreatSa (endOf kept)) → Agrees (onHead x (stateOf kept)) kept (stepHead x kept)
-head-turned x kept k n = pushed x kept (takesHead x (stateOf kept)) (admits (endOf kept) x) (isOpenState (stateOf kept)) (admits-is x kept k n) (open-is kept)
+head-turned : (x : ℕ) (kept : Row) → KeptOk kept → T (isNotGreatSa (endOf kept)) → Turns (onHead x) (stepHead x) kept
+head-turned x kept k n =
+    pushed x kept (takesHead x (stateOf kept)) (admits (endOf kept) x) (isOpenState (stateOf kept)) (admits-is x kept k n) (open-is kept)
 
 -- 103F
-great-sa-shut : (y h : ℕ) (m : MedialGroup) (v : Vowel) (t : ToneMark) (a : Row) → headState (isOpenTop (syllable h m v great-sa t ∷ a)) y ≡ head-stays
+great-sa-shut : (y h : ℕ) (m : MedialGroup) (v : Vowel) (t : ToneMark) (a : Row)
+    → headState (isOpenTop (syllable h m v great-sa t ∷ a)) y ≡ head-stays
 great-sa-shut y h m v t a = ap (λ (b : Bool). headState b y) (and-false (carriesFinal h) false refl)
 
 great-sa-on : (p q : Bool) (h : ℕ) (m : MedialGroup) (v : Vowel) (f : Final) (t : ToneMark) (a : Row) → p ≡ q
@@ -43,7 +45,7 @@ unfolding pick carriesMarks
 great-sa-on p true h m v f t a e = rw e (bare 0x101E ∷ syllable h m v great-sa t ∷ a, refl, sym (great-sa-shut 0x101E h m v t a), omega arith)
 great-sa-on p false h m v f t a e = rw e refl
 
-great-sa-turned : (kept : Row) → Agrees (onGreatSa (stateOf kept)) kept (stepGreatSa kept)
+great-sa-turned : (kept : Row) → Turns onGreatSa stepGreatSa kept
 unfolding pick
 great-sa-turned [] = refl
 great-sa-turned (syllable h m v f t ∷ a) = great-sa-on _ _ h m v f t a (known h m v f t a .0)
@@ -72,13 +74,13 @@ tone-on p true (some n) h m v f t a e i = rw e (syllable h m v f n ∷ a, refl, 
 tone-on p true none h m v f t a e i = absurd i
 tone-on p false o h m v f t a e i = rw e refl
 
-tone-turned : (x : ℕ) (kept : Row) → T (isTone x) → Agrees (onTone (stateOf kept)) kept (stepTone x kept)
+tone-turned : (x : ℕ) (kept : Row) → T (isTone x) → Turns onTone (stepTone x) kept
 unfolding pick
 tone-turned x [] i = refl
 tone-turned x (syllable h m v f t ∷ a) i = tone-on _ _ (toneOf x) h m v f t a (known h m v f t a .2) (tone-found x i)
 
 -- every value
-turned-by : (j : Kind) (x : ℕ) (kept : Row) → Fits j x → KeptOk kept → T (isNotGreatSa (endOf kept)) → Agrees (turn j x (stateOf kept)) kept (act j x kept)
+turned-by : (j : Kind) (x : ℕ) (kept : Row) → Fits j x → KeptOk kept → T (isNotGreatSa (endOf kept)) → Turns (turn j x) (act j x) kept
 turned-by Consonant x kept i k n = head-turned x kept k n
 turned-by IndependentVowel x kept i k n = head-turned x kept k n
 turned-by Medial x kept i k n = medial-turned x kept i

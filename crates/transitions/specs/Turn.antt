@@ -34,12 +34,15 @@ isOpenState state = among head-stays with-vowel state
 abbrev pub isHeadState : State → Bool
 isHeadState state = among head-stays head-nga state
 
+-- after a stacked final or kinzi the next head is a letter 1000 to 1020
 abbrev pub takesHead : ℕ → State → Bool
 takesHead x state = not (is waiting state) || isFinalLetter x
 
+-- medials stand in the order Y R W H, each once, and not Y with R
 abbrev pub takesMedial : ℕ → State → Bool
 takesMedial x state = isHeadState state || ((is after-ya-ra state && leb 0x103D x) || (among after-wa after-both state && eqb x 0x103E))
 
+-- what is open takes a tone, and so does a plain final
 abbrev pub takesToneState : State → Bool
 takesToneState state = isOpenState state || among plain-final nga-final state
 
@@ -50,12 +53,14 @@ medialAfter x state = pick (eqb x 0x103E) after-ha (pick (eqb x 0x103D) (pick (i
 abbrev pub vowelBegun : ℕ → State
 vowelBegun x = pick (eqb x 0x102D) with-i (pick (eqb x 0x102F) with-u (pick (eqb x 0x1031) with-e with-vowel))
 
+-- a letter, an I, N, P or S begins a syllable
 abbrev pub onHead : ℕ → State → Turn
 onHead x state = pick (takesHead x state) (to 2 (pick (carriesMarks x) (headState (isOpenState state) x) done)) refuse
 
 abbrev pub onMedial : ℕ → State → Turn
 onMedial x state = pick (takesMedial x state) (to 1 (medialAfter x state)) refuse
 
+-- the first mark of a vowel, or the next one of 1031 AA, 102D 102F or 102F 1036
 abbrev pub onVowel : ℕ → State → Turn
 onVowel x state =
     pick (among head-stays after-ha state) (to 1 (vowelBegun x))
@@ -65,13 +70,16 @@ onVowel x state =
 abbrev pub onTone : State → Turn
 onTone state = pick (takesToneState state) (to 1 done) refuse
 
+-- 103A makes the letter a plain final of the syllable before, or ends the vowel 1031 AA 103A
 abbrev pub onKiller : State → Turn
 onKiller state =
     pick (is head-closes state) (to 0 plain-final) (pick (is head-nga state) (to 0 nga-final) (pick (is with-e-aa state) (to 1 with-vowel) refuse))
 
+-- 1039 makes the letter a stacked final of the syllable before, or a plain 1004 kinzi
 abbrev pub onStacker : State → Turn
 onStacker state = pick (is head-closes state) (to 0 waiting) (pick (is nga-final state) (to 1 waiting) refuse)
 
+-- 103F is the final of an open syllable and the head of its own
 abbrev pub onGreatSa : State → Turn
 onGreatSa state = pick (isOpenState state) (to 2 head-stays) refuse
 

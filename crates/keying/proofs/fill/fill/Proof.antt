@@ -1,7 +1,7 @@
 -- `keying::fill::fill` meets its contract: before each turn the weights and the bytes are those of what the machine has kept of the values
 -- read. The measure is what is left of the word. Assumes nothing.
 use mathlib.Core.Path.{ap, sym, subst}
-use Prim.Native.Nat.{_-_, _≤_, _<_}
+use Prim.Native.Nat.{_-_, _≤_}
 use native.Mathlib.Omega.{arith}
 use lib.ListN.{length}
 use Rattle.reading.specs.Answer.{outcomeOf, too-long}
@@ -19,7 +19,7 @@ abbrev μ-loop : tie.MeasureT-loop
 returns : tie.Need-returns Inv-loop μ-loop
 returns c =
     record {
-      answers = too-long (c .if1 .taken);
+      answers = too-long (omega (arith, c .if1 .taken));
       key = tt;
       size = ap length (c .before .before .pre);
     }

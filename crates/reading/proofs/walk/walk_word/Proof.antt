@@ -1,6 +1,6 @@
 -- `reading::walk::walk_word` meets its contract: before each turn the state and the count are those of what the machine has kept of the
 -- values read. The measure is what is left of the word. Assumes nothing.
-use Prim.Native.Nat.{_-_, _≤_, _<_}
+use Prim.Native.Nat.{_-_, _≤_}
 use native.Mathlib.Omega.{arith}
 use lib.ListN.{length}
 use Rattle.reading.specs.Walked.{Walked}

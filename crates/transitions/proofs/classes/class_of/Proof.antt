@@ -1,11 +1,11 @@
 -- `transitions::classes::class_of` meets its contract: all values of an arm have its class, and a value of the chart that no arm has is foreign.
 -- Assumes nothing.
-use mathlib.Core.Path.{_≡_, refl, sym}
+use mathlib.Core.Path.{refl, sym}
 use mathlib.Core.List.{List, [], _∷_, reverse}
 use Prim.Native.Nat.{ℕ}
 use lib.ListN.{getD}
 use Rattle.letters.specs.Choice.{pick}
-use Rattle.letters.proofs.Arms.{same-at, InNone}
+use Rattle.letters.proofs.Arms.{same-at}
 use Rattle.transitions.specs.Tables.{classOf}
 use Rattle.transitions.proofs.Entered.{none-foreign}
 use Rattle.transitions.proofs.classes.class_of.Statement.{statement}
@@ -169,4 +169,8 @@ unfolding arms
 returns-30 c = sym (none-foreign (reverse arms) tt (c .before .args .x) (c .match .rest))
 
 pub class-of-spec : {M : Type 1} → statement M
-class-of-spec = tie.close (tie.spec returns returns-2 returns-3 returns-4 returns-5 returns-6 returns-7 returns-8 returns-9 returns-10 returns-11 returns-12 returns-13 returns-14 returns-15 returns-16 returns-17 returns-18 returns-19 returns-20 returns-21 returns-22 returns-23 returns-24 returns-25 returns-26 returns-27 returns-28 returns-29 returns-30)
+class-of-spec =
+    tie.close
+    (tie.spec returns returns-2 returns-3 returns-4 returns-5 returns-6 returns-7 returns-8 returns-9 returns-10 returns-11
+    returns-12 returns-13 returns-14 returns-15 returns-16 returns-17 returns-18 returns-19 returns-20 returns-21
+    returns-22 returns-23 returns-24 returns-25 returns-26 returns-27 returns-28 returns-29 returns-30)
