@@ -20,7 +20,7 @@ const GREAT_SA: u16 = 0x103F;
 const REFUSED: u8 = 48;
 
 // The packed weights of the last syllable and of the one before it.
-pub struct Weights {
+pub(crate) struct Weights {
     pub last: u64,
     pub before: u64,
 }

@@ -4,7 +4,7 @@ ghost use Prim.Native.Nat.{_<_};
 ghost use Rattle.keying.specs.Packed.{weighingOf, gainBy};
 
 // The packed weights of a head, or the bits of a mark: what it adds in each state. Each arm has one value, so that the compiler makes a table.
-pub fn weighing(x: u16) -> u64
+pub(crate) fn weighing(x: u16) -> u64
     ensures { λ r. ⌜ r ≡ weighingOf x ⌝ }
 {
     match x {
@@ -87,7 +87,7 @@ pub fn weighing(x: u16) -> u64
 }
 
 // What a mark with these bits adds to the packed weights in a state.
-pub fn gain(state: usize, bits: u64) -> u64
+pub(crate) fn gain(state: usize, bits: u64) -> u64
     requires { ⌜ state < 16 ⌝ }
     ensures { λ r. ⌜ (r ≡ gainBy state bits) × (r < 0x1000000000000000) ⌝ }
 {
