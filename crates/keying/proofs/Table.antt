@@ -38,7 +38,8 @@ arms = map (λ (x : ℕ). x ∷ []) values
 -- past its end a list has nothing
 past-end : (l : List ℕ) (n : ℕ) → length l ≤ n → getD l n 0 ≡ 0
 past-end l n h =
-    ap (λ (k : List ℕ). getD k n 0) (sym (append-nil l)) ∙ ap (λ (k : ℕ). getD (l ++ []) k 0) (let e : n ≡ length l + (n - length l) = omega arith in e)
+    ap (λ (k : List ℕ). getD k n 0) (sym (append-nil l))
+    ∙ ap (λ (k : ℕ). getD (l ++ []) k 0) (let e : n ≡ length l + (n - length l) = omega arith in e)
     ∙ getD-append-add l [] (n - length l) 0
 
 left-out : (a b : Bool) → T (a || b) → a ≡ false → T b
@@ -109,4 +110,8 @@ shift q bits = (bits / 2 ^ (4 * q) % 16) * 2 ^ (8 * (bits % 8)) % 0x100000000000
 
 pub shifted : (q bits : ℕ) → (shift q bits ≡ gainBy q bits) × (shift q bits < 0x1000000000000000)
 unfolding gainBy
-shifted q bits = let g = gain-small q bits in let e = mod-eq-of-lt {m = 0x10000000000000000} (let h : gainBy q bits < 0x10000000000000000 = omega arith in h) in (e, omega arith)
+shifted q bits =
+    let g = gain-small q bits in
+    let h : gainBy q bits < 0x10000000000000000 = omega arith in
+    let e = mod-eq-of-lt {m = 0x10000000000000000} h in
+    (e, omega arith)

@@ -26,7 +26,8 @@ returns c =
 
 loop-holds : tie.Need-loop-holds Inv-loop μ-loop
 loop-holds c =
-    (omega arith, subst (Filled (c .before .before .args .word .now) 0 0 0 (record { last = 0; before = 0 })) (sym (c .before .before .pre)) (at-start (c .before .before .args .word .now)))
+    let s = c .before .before in
+    (omega arith, subst (Filled (s .args .word .now) 0 0 0 (record { last = 0; before = 0 })) (sym (s .pre)) (at-start (s .args .word .now)))
 
 mul-x : tie.Need-mul-x Inv-loop μ-loop
 mul-x c = omega arith
@@ -84,7 +85,8 @@ sub-count : tie.Need-sub-count Inv-loop μ-loop
 sub-count c =
     let n = c .before .before .before in
     let l = n .before .before .before in
-    some-left (l .loop .inv .1) (n .next .result) (n .next .ensures) (c .before .before .if2 .left) (n .before .before .loop-test .taken) (l .before .if1 .left)
+    some-left (l .loop .inv .1) (n .next .result) (n .next .ensures)
+    (c .before .before .if2 .left) (n .before .before .loop-test .taken) (l .before .if1 .left)
 
 cast-state : tie.Need-cast-state Inv-loop μ-loop
 cast-state c = omega arith
@@ -100,7 +102,8 @@ loop-again c =
     let n = c .before .before .before in
     let l = n .before .before .before in (
       omega arith,
-      next (l .loop .inv .1) (n .next .result) (n .next .ensures) (c .before .before .if2 .left) (n .before .before .loop-test .taken) (l .before .if1 .left)
+      next (l .loop .inv .1) (n .next .result) (n .next .ensures)
+          (c .before .before .if2 .left) (n .before .before .loop-test .taken) (l .before .if1 .left)
           (c .weights-after .result) (c .weights-after .ensures .0) (c .weights-after .last .0) (c .weights-after .ensures .1),
     )
 
@@ -121,8 +124,12 @@ returns-3 c =
     let l = c .before .before .before .before in
     record {
       answers = c .answer-at2 .ensures;
-      key = key-whole (l .loop .inv .1) (l .before .if1 .left) (l .loop .inv .0) (c .before .before .before .loop-test .left) (c .before .put-last .last .0) (c .before .put-last .ensures) (outcomeOf (c .answer-at2 .result));
-      size = size-whole (l .loop .inv .1) (l .before .if1 .left) (l .loop .inv .0) (c .before .before .before .loop-test .left) (c .before .put-last .last .0) (c .before .put-last .ensures);
+      key =
+          key-whole (l .loop .inv .1) (l .before .if1 .left) (l .loop .inv .0) (c .before .before .before .loop-test .left)
+          (c .before .put-last .last .0) (c .before .put-last .ensures) (outcomeOf (c .answer-at2 .result));
+      size =
+          size-whole (l .loop .inv .1) (l .before .if1 .left) (l .loop .inv .0) (c .before .before .before .loop-test .left)
+          (c .before .put-last .last .0) (c .before .put-last .ensures);
     }
 
 pub fill-spec : {M : Type 1} → statement M
