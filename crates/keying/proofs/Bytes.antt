@@ -107,7 +107,8 @@ packed-small (syllable h m v f t) ok =
 
 -- five stores one after the other
 pub stores-five : (l : List ℕ) (at n : ℕ)
-    → set (set (set (set (set l at (n % 256)) (at + 1) (n / 0x100 % 256)) (at + 2) (n / 0x10000 % 256)) (at + 3) (n / 0x1000000 % 256)) (at + 4) (n / 0x100000000 % 256)
+    → set (set (set (set (set l at (n % 256)) (at + 1) (n / 0x100 % 256)) (at + 2) (n / 0x10000 % 256)) (at + 3) (n / 0x1000000 % 256)) (at + 4)
+    (n / 0x100000000 % 256)
     ≡ sets l at (fiveBytes n)
 unfolding fiveBytes
 stores-five l at n =

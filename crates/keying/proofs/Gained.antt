@@ -159,7 +159,8 @@ medial-test-at : (x : ℕ) (m : MedialGroup) → T (isMedial x) → T (medialTes
 unfolding gainBy weighingOf headFor packed pick
 medial-test-at x m c =
     each-medial (medialTest x)
-    (in-class isMedial (λ (y : ℕ). every (medialTest y) medialGroups) tt x c (let l = low 0x103B 0x103E x c in let u = high 0x103B 0x103E x c in (omega arith, omega arith))) m
+    (in-class isMedial (λ (y : ℕ). every (medialTest y) medialGroups) tt x c
+    (let l = low 0x103B 0x103E x c in let u = high 0x103B 0x103E x c in (omega arith, omega arith))) m
 
 medial-weighs : (x h : ℕ) (m : MedialGroup) (v : Vowel) (f : Final) (t : ToneMark) (kept : Row) → T (isMedial x)
     → Weighs x (syllable h m v f t ∷ kept) (stepMedial x (syllable h m v f t ∷ kept))
@@ -291,10 +292,14 @@ great-weighs x h m v f t kept e =
 
 -- a head alone that is a final letter weighs its head weight, 13 to 45
 no-medial-weight : (m : MedialGroup) → T (isNoMedial m) → medialWeight m ≡ 0
-no-medial-weight m o = eqb→eq _ 0 (implied (isNoMedial m) (eqb (medialWeight m) 0) (each-medial (λ (g : MedialGroup). implies (isNoMedial g) (eqb (medialWeight g) 0)) tt m) o)
+no-medial-weight m o =
+    eqb→eq _ 0
+    (implied (isNoMedial m) (eqb (medialWeight m) 0) (each-medial (λ (g : MedialGroup). implies (isNoMedial g) (eqb (medialWeight g) 0)) tt m) o)
 
 no-vowel-weight : (v : Vowel) → T (isNoVowel v) → vowelWeight v ≡ 0
-no-vowel-weight v o = eqb→eq _ 0 (implied (isNoVowel v) (eqb (vowelWeight v) 0) (each-vowel (λ (u : Vowel). implies (isNoVowel u) (eqb (vowelWeight u) 0)) tt v) o)
+no-vowel-weight v o =
+    eqb→eq _ 0
+    (implied (isNoVowel v) (eqb (vowelWeight v) 0) (each-vowel (λ (u : Vowel). implies (isNoVowel u) (eqb (vowelWeight u) 0)) tt v) o)
 
 letter-head : (h : ℕ) → T (isFinalLetter h) → headWeight h ≡ h - 0x1000 + 13
 unfolding pick
@@ -345,7 +350,8 @@ killer-weighs h m v f t kept = go (vowelAnd 0x103A v) (vowel-test-at 0x103A v (o
         → Weighs 0x103A (syllable h m v f t ∷ kept) (killed o (syllable h m v f t) kept)
     go none p =
         when-weighs 0x103A _ (isBare m v f t && isFinalLetter h) _
-        (λ q. close-weighs 0x103A h m v f t (plain h) (both-left (isBare m v f t) (isFinalLetter h) q) (both-right (isBare m v f t) (isFinalLetter h) q)
+        (λ q. close-weighs 0x103A h m v f t (plain h) (both-left (isBare m v f t) (isFinalLetter h) q)
+        (both-right (isBare m v f t) (isFinalLetter h) q)
         refl tt kept)
     go (some n) p = when-weighs 0x103A _ (carriesMarks h && isOpen f t) _ (λ q. vowel-moves 0x103A h m v f t kept q n p)
 
@@ -385,10 +391,12 @@ kind-weighs Tone x [] c = tt
 kind-weighs Tone x (syllable h m v f t ∷ kept) c = tone-weighs x h m v f t kept c
 kind-weighs Killer x [] c = tt
 kind-weighs Killer x (syllable h m v f t ∷ kept) c =
-    subst (λ (y : ℕ). Weighs y (syllable h m v f t ∷ kept) (stepKiller (syllable h m v f t ∷ kept))) (sym (eqb→eq x 0x103A c)) (killer-weighs h m v f t kept)
+    subst (λ (y : ℕ). Weighs y (syllable h m v f t ∷ kept) (stepKiller (syllable h m v f t ∷ kept))) (sym (eqb→eq x 0x103A c))
+    (killer-weighs h m v f t kept)
 kind-weighs Stacker x [] c = tt
 kind-weighs Stacker x (syllable h m v f t ∷ kept) c =
-    subst (λ (y : ℕ). Weighs y (syllable h m v f t ∷ kept) (stepStacker (syllable h m v f t ∷ kept))) (sym (eqb→eq x 0x1039 c)) (stacker-weighs h m v f t kept)
+    subst (λ (y : ℕ). Weighs y (syllable h m v f t ∷ kept) (stepStacker (syllable h m v f t ∷ kept))) (sym (eqb→eq x 0x1039 c))
+    (stacker-weighs h m v f t kept)
 kind-weighs GreatSa x [] c = tt
 kind-weighs GreatSa x (syllable h m v f t ∷ kept) c = great-weighs x h m v f t kept (eqb→eq x 0x103F c)
 kind-weighs Digit x kept c = head-weighs x kept (head-of Digit x c tt)

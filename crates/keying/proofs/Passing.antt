@@ -43,7 +43,7 @@ one-more x _ _ (changed g f) = omega arith
 one-more x _ _ (closed t r g f) = omega arith
 one-more x _ _ (doubled y g) = omega arith
 
-module _ (word : List ℕ) (at state count : ℕ) (w : Weights) (bytes : List ℕ) (r : Filled word at state count w bytes) where
+module _ {word : List ℕ} {at state count : ℕ} {w : Weights} {bytes : List ℕ} (r : Filled word at state count w bytes) where
   abbrev kept : Row
   kept = r .walked .kept
 
@@ -93,7 +93,8 @@ module _ (word : List ℕ) (at state count : ℕ) (w : Weights) (bytes : List �
       room = let b = r .bounded in omega arith
 
       -- one value more
-      pub next : (u : Weights) → u ≡ weightsAfter (e / 16) state (getD word at 0) w → (new : List ℕ) → new ≡ bytesAfter (e / 16) count (u .before) bytes
+      pub next : (u : Weights) → u ≡ weightsAfter (e / 16) state (getD word at 0) w → (new : List ℕ)
+          → new ≡ bytesAfter (e / 16) count (u .before) bytes
           → Filled word (at + 1) (e % 16) (count + e / 16 - 1) u new
       unfolding after
       next u f new g =
@@ -140,7 +141,8 @@ module _ (word : List ℕ) (at state count : ℕ) (w : Weights) (bytes : List �
   -- at the end of the word
   module _ (short : length word ≤ limit) (within : at ≤ length word) (end : length word ≤ at) where
     pub stopped-end : WalkStopped word at state count
-    stopped-end = record { short = short; within = within; walked = r .walked; refused = λ (h : at < length word). let z : ⊥ = omega arith in absurd z }
+    stopped-end =
+        record { short = short; within = within; walked = r .walked; refused = λ (h : at < length word). let z : ⊥ = omega arith in absurd z }
 
     kept-is : (row : Row) → Gives row word → row ≡ reverse kept
     kept-is row g =

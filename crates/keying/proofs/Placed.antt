@@ -76,15 +76,17 @@ put-at t s rest bytes k i p e =
     ∙ sym (append-assoc (keptKey rest) (weightsOf s) (zeros (k .rest)))
 
 -- another syllable begins on it
-begun : (y t s : Syllable) (rest : Row) (bytes : List ℕ) → KeyOf (t ∷ rest) bytes → T (isSyllable s) → suc (length rest) < limit → (p : ℕ) → p ≡ packed s
-    → KeyOf (y ∷ s ∷ rest) (putLast (suc (length rest)) p bytes)
+begun : (y t s : Syllable) (rest : Row) (bytes : List ℕ) → KeyOf (t ∷ rest) bytes → T (isSyllable s) → suc (length rest) < limit
+    → (p : ℕ) → p ≡ packed s → KeyOf (y ∷ s ∷ rest) (putLast (suc (length rest)) p bytes)
 begun y t s rest bytes k i h p e =
     let z = k .size in
     let r : k .rest ≡ 5 + (k .rest - 5) = omega arith in
     record {
       place = zeros 5;
       rest = k .rest - 5;
-      is = put-at t s rest bytes k i p e ∙ ap (λ (n : ℕ). keptKey (s ∷ rest) ++ zeros n) r ∙ ap (λ (l : List ℕ). keptKey (s ∷ rest) ++ l) (sym (zeros-add 5 (k .rest - 5)));
+      is =
+          put-at t s rest bytes k i p e ∙ ap (λ (n : ℕ). keptKey (s ∷ rest) ++ zeros n) r
+          ∙ ap (λ (l : List ℕ). keptKey (s ∷ rest) ++ l) (sym (zeros-add 5 (k .rest - 5)));
       five = refl;
       size = omega arith;
       fresh = λ _. refl;
@@ -146,7 +148,8 @@ pub key-end : (kept : Row) (bytes : List ℕ) → KeptOk kept → (w : Weights) 
 unfolding putLast pick
 key-end [] bytes o w g k =
     let z = k .size in
-    k .is ∙ ap (λ (u : List ℕ). u ++ zeros (k .rest)) (k .fresh tt) ∙ zeros-add 5 (k .rest) ∙ ap zeros (let e : 5 + k .rest ≡ keyLimit = omega arith in e)
+    k .is ∙ ap (λ (u : List ℕ). u ++ zeros (k .rest)) (k .fresh tt) ∙ zeros-add 5 (k .rest)
+    ∙ ap zeros (let e : 5 + k .rest ≡ keyLimit = omega arith in e)
 key-end (s ∷ rest) bytes o w g k =
     let z = k .size in
     put-at s s rest bytes k (o .1) (w .last) (g .last)

@@ -15,7 +15,8 @@ use Rattle.formula.specs.Weighing.{finalWeightOf, weightsOf}
 -- a byte for each weight, that of the head lowest
 unfoldable pub packed : Syllable → ℕ
 packed (syllable h m v f t) =
-    headWeight h + 0x100 * medialWeight m + 0x10000 * finalWeightOf f + 0x1000000 * (independentVowelWeight h + vowelWeight v) + 0x100000000 * toneWeight t
+    headWeight h + 0x100 * medialWeight m + 0x10000 * finalWeightOf f + 0x1000000 * (independentVowelWeight h + vowelWeight v)
+    + 0x100000000 * toneWeight t
 
 -- the five lowest bytes of a number
 unfoldable pub fiveBytes : ℕ → List ℕ

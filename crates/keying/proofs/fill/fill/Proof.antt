@@ -26,7 +26,8 @@ returns c =
 
 loop-holds : tie.Need-loop-holds Inv-loop μ-loop
 loop-holds c =
-    (omega arith, subst (Filled (c .before .before .args .word .now) 0 0 0 (record { last = 0; before = 0 })) (sym (c .before .before .pre)) (at-start (c .before .before .args .word .now)))
+    let s = c .before .before in
+    (omega arith, subst (Filled (s .args .word .now) 0 0 0 (record { last = 0; before = 0 })) (sym (s .pre)) (at-start (s .args .word .now)))
 
 mul-x : tie.Need-mul-x Inv-loop μ-loop
 mul-x c = omega arith
@@ -37,14 +38,14 @@ shared-slice-read-x c = omega arith
 next-requires : tie.Need-next-requires Inv-loop μ-loop
 next-requires c κs =
     let l = c .before .before in
-    small (l .before .before .before .args .word .now) (l .loop .at) (l .loop .state) (l .loop .count) (l .loop .weights) (l .loop .bytes) (l .loop .inv .1)
+    small (l .loop .inv .1)
 
 answer-at-requires : tie.Need-answer-at-requires Inv-loop μ-loop
 answer-at-requires c κs =
     let n = c .before in
     let l = n .before .before .before in
-    stopped-short (l .before .before .before .args .word .now) (l .loop .at) (l .loop .state) (l .loop .count) (l .loop .weights) (l .loop .bytes) (l .loop .inv .1) (l .before .if1 .left) (n .before .before .loop-test .taken)
-    (refused (l .before .before .before .args .word .now) (l .loop .at) (l .loop .state) (l .loop .count) (l .loop .weights) (l .loop .bytes) (l .loop .inv .1) (n .next .result) (n .next .ensures) (c .if2 .taken))
+    stopped-short (l .loop .inv .1) (l .before .if1 .left) (n .before .before .loop-test .taken)
+    (refused (l .loop .inv .1) (n .next .result) (n .next .ensures) (c .if2 .taken))
 
 returns-2 : tie.Need-returns-2 Inv-loop μ-loop
 returns-2 c =
@@ -53,9 +54,9 @@ returns-2 c =
     record {
       answers = c .answer-at .ensures;
       key =
-          key-short (l .before .before .before .args .word .now) (l .loop .at) (l .loop .state) (l .loop .count) (l .loop .weights) (l .loop .bytes) (l .loop .inv .1) (l .before .if1 .left) (n .before .before .loop-test .taken)
-          (refused (l .before .before .before .args .word .now) (l .loop .at) (l .loop .state) (l .loop .count) (l .loop .weights) (l .loop .bytes) (l .loop .inv .1) (n .next .result) (n .next .ensures) (c .before .if2 .taken)) (outcomeOf (c .answer-at .result));
-      size = sized (l .before .before .before .args .word .now) (l .loop .at) (l .loop .state) (l .loop .count) (l .loop .weights) (l .loop .bytes) (l .loop .inv .1);
+          key-short (l .loop .inv .1) (l .before .if1 .left) (n .before .before .loop-test .taken)
+          (refused (l .loop .inv .1) (n .next .result) (n .next .ensures) (c .before .if2 .taken)) (outcomeOf (c .answer-at .result));
+      size = sized (l .loop .inv .1);
     }
 
 weights-after-requires : tie.Need-weights-after-requires Inv-loop μ-loop
@@ -65,8 +66,8 @@ weights-after-requires c κs =
     let b = l .loop .inv .1 .bounded in
     let i = l .loop .inv .0 in (
       omega (arith, l .before .if1 .left),
-      small (l .before .before .before .args .word .now) (l .loop .at) (l .loop .state) (l .loop .count) (l .loop .weights) (l .loop .bytes) (l .loop .inv .1),
-      fits (l .before .before .before .args .word .now) (l .loop .at) (l .loop .state) (l .loop .count) (l .loop .weights) (l .loop .bytes) (l .loop .inv .1) (n .next .result) (n .next .ensures) (c .before .if2 .left) (n .before .before .loop-test .taken) (l .before .if1 .left),
+      small (l .loop .inv .1),
+      fits (l .loop .inv .1) (n .next .result) (n .next .ensures) (c .before .if2 .left) (n .before .before .loop-test .taken) (l .before .if1 .left),
     )
 
 cast-count : tie.Need-cast-count Inv-loop μ-loop
@@ -84,7 +85,8 @@ sub-count : tie.Need-sub-count Inv-loop μ-loop
 sub-count c =
     let n = c .before .before .before in
     let l = n .before .before .before in
-    some-left (l .before .before .before .args .word .now) (l .loop .at) (l .loop .state) (l .loop .count) (l .loop .weights) (l .loop .bytes) (l .loop .inv .1) (n .next .result) (n .next .ensures) (c .before .before .if2 .left) (n .before .before .loop-test .taken) (l .before .if1 .left)
+    some-left (l .loop .inv .1) (n .next .result) (n .next .ensures)
+    (c .before .before .if2 .left) (n .before .before .loop-test .taken) (l .before .if1 .left)
 
 cast-state : tie.Need-cast-state Inv-loop μ-loop
 cast-state c = omega arith
@@ -100,7 +102,8 @@ loop-again c =
     let n = c .before .before .before in
     let l = n .before .before .before in (
       omega arith,
-      next (l .before .before .before .args .word .now) (l .loop .at) (l .loop .state) (l .loop .count) (l .loop .weights) (l .loop .bytes) (l .loop .inv .1) (n .next .result) (n .next .ensures) (c .before .before .if2 .left) (n .before .before .loop-test .taken) (l .before .if1 .left)
+      next (l .loop .inv .1) (n .next .result) (n .next .ensures)
+          (c .before .before .if2 .left) (n .before .before .loop-test .taken) (l .before .if1 .left)
           (c .weights-after .result) (c .weights-after .ensures .0) (c .weights-after .last .0) (c .weights-after .ensures .1),
     )
 
@@ -114,15 +117,19 @@ put-last-requires c κs =
 answer-at-requires-2 : tie.Need-answer-at-requires-2 Inv-loop μ-loop
 answer-at-requires-2 c κs =
     let l = c .before .before .before in
-    stopped-end (l .before .before .before .args .word .now) (l .loop .at) (l .loop .state) (l .loop .count) (l .loop .weights) (l .loop .bytes) (l .loop .inv .1) (l .before .if1 .left) (l .loop .inv .0) (c .before .before .loop-test .left)
+    stopped-end (l .loop .inv .1) (l .before .if1 .left) (l .loop .inv .0) (c .before .before .loop-test .left)
 
 returns-3 : tie.Need-returns-3 Inv-loop μ-loop
 returns-3 c =
     let l = c .before .before .before .before in
     record {
       answers = c .answer-at2 .ensures;
-      key = key-whole (l .before .before .before .args .word .now) (l .loop .at) (l .loop .state) (l .loop .count) (l .loop .weights) (l .loop .bytes) (l .loop .inv .1) (l .before .if1 .left) (l .loop .inv .0) (c .before .before .before .loop-test .left) (c .before .put-last .last .0) (c .before .put-last .ensures) (outcomeOf (c .answer-at2 .result));
-      size = size-whole (l .before .before .before .args .word .now) (l .loop .at) (l .loop .state) (l .loop .count) (l .loop .weights) (l .loop .bytes) (l .loop .inv .1) (l .before .if1 .left) (l .loop .inv .0) (c .before .before .before .loop-test .left) (c .before .put-last .last .0) (c .before .put-last .ensures);
+      key =
+          key-whole (l .loop .inv .1) (l .before .if1 .left) (l .loop .inv .0) (c .before .before .before .loop-test .left)
+          (c .before .put-last .last .0) (c .before .put-last .ensures) (outcomeOf (c .answer-at2 .result));
+      size =
+          size-whole (l .loop .inv .1) (l .before .if1 .left) (l .loop .inv .0) (c .before .before .before .loop-test .left)
+          (c .before .put-last .last .0) (c .before .put-last .ensures);
     }
 
 pub fill-spec : {M : Type 1} → statement M

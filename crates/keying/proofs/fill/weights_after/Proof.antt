@@ -37,7 +37,8 @@ returns-2 : tie.Need-returns-2
 returns-2 c =
     let w = c .before .before .before in
     let a = w .before .args in (
-      after-gain (a .weights) (a .change) (a .state) (a .x) _ (c .before .if2 .taken) (c .gain .ensures .0 ∙ ap (gainBy (a .state)) (w .weighing .ensures)),
+      after-gain (a .weights) (a .change) (a .state) (a .x) _ (c .before .if2 .taken)
+          (c .gain .ensures .0 ∙ ap (gainBy (a .state)) (w .weighing .ensures)),
       not-begun (a .change) (a .count) (a .weights .before) (a .bytes .now) (c .before .before .if1 .left),
     )
 
