@@ -6,6 +6,7 @@ use reading::read::ReadAnswer;
 use reading::walk::answer_at;
 use refusals::Refusal;
 use transitions::tables::next;
+use transitions::tables::rules_of;
 ghost use mathlib.Core.Path.{_≡_};
 ghost use Prim.Native.Nat.{_+_, _≤_, _<_};
 ghost use lib.Seq.{sets};
@@ -109,7 +110,7 @@ pub fn fill(word: &[u16], bytes: &mut [u8; 320]) -> ReadAnswer
     let mut at = 0;
     while at < word.len() {
         let x = word[at];
-        let entry = next(state, x);
+        let entry = next(state, rules_of(x));
         if entry == REFUSED {
             return answer_at(word, at, state, count);
         }

@@ -4,6 +4,7 @@ use crate::read::answer_where;
 use formula::Word;
 use refusals::Refusal;
 use transitions::tables::next;
+use transitions::tables::rules_of;
 ghost use Prim.Native.Nat.{_≤_};
 ghost use lib.ListN.{length};
 ghost use Rattle.formula.specs.Limits.{limit};
@@ -30,7 +31,7 @@ pub(crate) fn walk_word(word: &[u16]) -> Walk
     let mut count = 0;
     let mut at = 0;
     while at < word.len() {
-        let entry = next(state, word[at]);
+        let entry = next(state, rules_of(word[at]));
         if entry == REFUSED {
             return Walk { at, state, count };
         }

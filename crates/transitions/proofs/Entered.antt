@@ -4,7 +4,7 @@ use mathlib.Core.Path.{_≡_, refl, ap, sym, subst, _∙_}
 use mathlib.Core.Bool.{Bool, true, false, not, _||_}
 use mathlib.Core.List.{List, [], _∷_}
 use mathlib.Core.Option.{Option, none, some}
-use Prim.Native.Nat.{ℕ, zero, suc, _+_, _*_, _/_, _%_, _^_, _≤_, _<_}
+use Prim.Native.Nat.{ℕ, zero, suc, _+_, _*_, _/_, _%_, _≤_, _<_}
 use native.Mathlib.Decide.{decLt}
 use native.Mathlib.Nat.{le-of-suc-le-suc, not-suc-le-zero}
 use native.Mathlib.Omega.{arith}
@@ -22,7 +22,7 @@ use Rattle.formula.specs.Row.{Row}
 use Rattle.rows.specs.Kept.{endOf, KeptOk, isNotGreatSa, step}
 use Rattle.transitions.specs.State.{State, done, plain-final, nga-final, waiting, head-stays, head-closes, head-nga, after-ya-ra, after-wa, after-both, after-ha, with-e, with-e-aa, with-i, with-u, with-vowel, stateOf, stateNumber}
 use Rattle.transitions.specs.Turn.{Turn, refuse, to, turn, Agrees}
-use Rattle.transitions.specs.Tables.{stateAt, entry, entryOf, classIn, classOf, examples, turnsOf, countsOf}
+use Rattle.transitions.specs.Tables.{stateAt, entry, entryOf, classIn, classOf, examples, turnsOf, countsOf, bits, rulesOf, entryBy}
 use Rattle.transitions.proofs.Tested.{numbered}
 use Rattle.transitions.proofs.Turned.{turned}
 
@@ -104,10 +104,6 @@ pub no-counts : (class : ℕ) → InNone classArms class → countsOf class ≡ 
 unfolding countsOf pick
 no-counts class n = rw (no-example class n) refl
 
--- the four bits for a state
-abbrev pub bits : ℕ → ℕ → ℕ
-bits n state = n / 2 ^ (state * 4) % 16
-
 abbrev read : ℕ → ℕ → ℕ
 read class state = bits (countsOf class) state * 16 + bits (turnsOf class) state
 
@@ -122,7 +118,8 @@ refusing : (q : ℕ) → q < 16 → T (eqb (read 3 q) 48)
 unfolding turnsOf countsOf pick
 refusing q h = below (λ (k : ℕ). eqb (read 3 k) 48) 16 tt q h
 
-pub next-entry : (q x : ℕ) → q < 16 → bits (countsOf (classOf x)) q * 16 + bits (turnsOf (classOf x)) q ≡ entryOf q x
+-- what the rules of a value say at a state is what the value does there
+pub next-entry : (q x : ℕ) → q < 16 → entryBy q (rulesOf x) ≡ entryOf q x
 unfolding entryRight
 next-entry q x h =
     chart-or-foreign (λ (y : ℕ). read (classOf y) q ≡ entryOf q y)

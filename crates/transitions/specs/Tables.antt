@@ -1,7 +1,7 @@
 -- The tables of the code: a class for the values that do the same, and for each class what it does to the sixteen states.
 -- Inner contracts cite it; no public promise does. Assumes nothing.
 use mathlib.Core.List.{List, [], _∷_, map}
-use Prim.Native.Nat.{ℕ, _+_, _-_, _*_}
+use Prim.Native.Nat.{ℕ, _+_, _-_, _*_, _/_, _%_, _^_}
 use lib.Dec.{eqb, leb}
 use lib.ListN.{getD}
 use Rattle.letters.specs.Choice.{pick}
@@ -10,6 +10,7 @@ use Rattle.letters.specs.declared.kind.Kind.{Kind}
 use Rattle.letters.specs.declared.kind.Kind.the-variants.{Consonant, IndependentVowel, Medial, VowelMark, Tone, Killer, Stacker, GreatSa, Digit, Stop, Sign, Foreign}
 use Rattle.transitions.specs.State.{State, done, plain-final, nga-final, waiting, head-stays, head-closes, head-nga, after-ya-ra, after-wa, after-both, after-ha, with-e, with-e-aa, with-i, with-u, with-vowel, stateNumber}
 use Rattle.transitions.specs.Turn.{Turn, refuse, to, turn}
+use Rattle.transitions.specs.declared.tables.Rules.{Rules}
 
 -- the sixteen states in the order of their numbers
 abbrev pub states : List State
@@ -110,3 +111,15 @@ turnsOf class = packed (map nextOf (turnsAt (getD examples class 0)))
 
 unfoldable pub countsOf : ℕ → ℕ
 countsOf class = packed (map countOf (turnsAt (getD examples class 0)))
+
+-- what a value does at each state, as the code looks it up
+abbrev pub rulesOf : ℕ → Rules
+rulesOf x = record { states = turnsOf (classOf x); changes = countsOf (classOf x) }
+
+-- the four bits for a state
+abbrev pub bits : ℕ → ℕ → ℕ
+bits n state = n / 2 ^ (state * 4) % 16
+
+-- what the rules say at a state
+abbrev pub entryBy : ℕ → Rules → ℕ
+entryBy state rules = bits (rules .changes) state * 16 + bits (rules .states) state

@@ -3,7 +3,7 @@
 use crate::classes::class_of;
 ghost use mathlib.Core.Path.{_≡_};
 ghost use Prim.Native.Nat.{_<_};
-ghost use Rattle.transitions.specs.Tables.{turnsOf, countsOf, entryOf};
+ghost use Rattle.transitions.specs.Tables.{turnsOf, countsOf, rulesOf, entryBy};
 
 // The state after a value of the class: four bits for each state before it, the first lowest; 0 where the value is refused.
 pub fn turns(class: u8) -> u64
@@ -67,17 +67,30 @@ pub fn counts(class: u8) -> u64
     }
 }
 
-// What becomes of the count, times 16, and the state after the value x; 48 where it is refused. Nothing stands between the three look-ups,
-// so that the compiler makes of them two tables by value.
-pub fn next(state: usize, x: u16) -> u8
-    requires { ⌜ state < 16 ⌝ }
-    ensures { λ r. ⌜ r ≡ entryOf state x ⌝ }
+// What a value does at each state, four bits a state: the state after it, and what becomes of the count.
+pub struct Rules {
+    pub states: u64,
+    pub changes: u64,
+}
+
+// The rules of a value. Nothing stands between the three look-ups, so that the compiler makes of them two tables by value.
+pub fn rules_of(x: u16) -> Rules
+    ensures { λ r. ⌜ r ≡ rulesOf x ⌝ }
 {
     let class = class_of(x);
     let states = turns(class);
     let changes = counts(class);
+    Rules { states, changes }
+}
+
+// What becomes of the count, times 16, and the state after a value with these rules; 48 where it is refused. The rules are looked up
+// apart from the state, so that no look-up waits for the one before it.
+pub fn next(state: usize, rules: Rules) -> u8
+    requires { ⌜ state < 16 ⌝ }
+    ensures { λ r. ⌜ r ≡ entryBy state rules ⌝ }
+{
     let shift = state * 4;
-    let to = (states >> shift) % 16;
-    let count = (changes >> shift) % 16;
+    let to = (rules.states >> shift) % 16;
+    let count = (rules.changes >> shift) % 16;
     (count * 16 + to) as u8
 }

@@ -1,9 +1,12 @@
 -- `keying::fill::fill` meets its contract: before each turn the weights and the bytes are those of what the machine has kept of the values
 -- read. The measure is what is left of the word. Assumes nothing.
-use mathlib.Core.Path.{ap, sym, subst}
+use mathlib.Core.Path.{_≡_, ap, sym, subst, _∙_}
 use Prim.Native.Nat.{_-_, _≤_}
 use native.Mathlib.Omega.{arith}
-use lib.ListN.{length}
+use lib.ListN.{length, getD}
+use borrow.Author.Needs.{needs}
+use Rattle.transitions.specs.Tables.{entryOf, entryBy}
+use Rattle.transitions.proofs.Entered.{next-entry}
 use Rattle.reading.specs.Answer.{outcomeOf, too-long}
 use Rattle.keying.specs.Filling.{Filled}
 use Rattle.keying.proofs.Passing.{at-start, small, sized, refused, fits, some-left, next, stopped-short, key-short, stopped-end, key-whole, size-whole}
@@ -35,39 +38,49 @@ mul-x c = omega arith
 shared-slice-read-x : tie.Need-shared-slice-read-x Inv-loop μ-loop
 shared-slice-read-x c = omega arith
 
+rules-of-requires : tie.Need-rules-of-requires Inv-loop μ-loop
+rules-of-requires c κs = search needs
+
 next-requires : tie.Need-next-requires Inv-loop μ-loop
 next-requires c κs =
-    let l = c .before .before in
+    let l = c .before .before .before in
     small (l .loop .inv .1)
+
+-- the entry is what the value does at the state
+entered : (c : tie.After-next Inv-loop μ-loop) → let l = c .before .before .before .before in
+    c .next .result ≡ entryOf (l .loop .state) (getD (l .before .before .before .args .word .now) (l .loop .at) 0)
+entered c =
+    let l = c .before .before .before .before in
+    c .next .ensures ∙ ap (entryBy (l .loop .state)) (c .before .rules-of .ensures) ∙ next-entry (l .loop .state) _ (small (l .loop .inv .1))
 
 answer-at-requires : tie.Need-answer-at-requires Inv-loop μ-loop
 answer-at-requires c κs =
     let n = c .before in
-    let l = n .before .before .before in
-    stopped-short (l .loop .inv .1) (l .before .if1 .left) (n .before .before .loop-test .taken)
-    (refused (l .loop .inv .1) (n .next .result) (n .next .ensures) (c .if2 .taken))
+    let l = n .before .before .before .before in
+    stopped-short (l .loop .inv .1) (l .before .if1 .left) (n .before .before .before .loop-test .taken)
+    (refused (l .loop .inv .1) (n .next .result) (entered n) (c .if2 .taken))
 
 returns-2 : tie.Need-returns-2 Inv-loop μ-loop
 returns-2 c =
     let n = c .before .before in
-    let l = n .before .before .before in
+    let l = n .before .before .before .before in
     record {
       answers = c .answer-at .ensures;
       key =
-          key-short (l .loop .inv .1) (l .before .if1 .left) (n .before .before .loop-test .taken)
-          (refused (l .loop .inv .1) (n .next .result) (n .next .ensures) (c .before .if2 .taken)) (outcomeOf (c .answer-at .result));
+          key-short (l .loop .inv .1) (l .before .if1 .left) (n .before .before .before .loop-test .taken)
+          (refused (l .loop .inv .1) (n .next .result) (entered n) (c .before .if2 .taken)) (outcomeOf (c .answer-at .result));
       size = sized (l .loop .inv .1);
     }
 
 weights-after-requires : tie.Need-weights-after-requires Inv-loop μ-loop
 weights-after-requires c κs =
     let n = c .before .before in
-    let l = n .before .before .before in
+    let l = n .before .before .before .before in
     let b = l .loop .inv .1 .bounded in
     let i = l .loop .inv .0 in (
       omega (arith, l .before .if1 .left),
       small (l .loop .inv .1),
-      fits (l .loop .inv .1) (n .next .result) (n .next .ensures) (c .before .if2 .left) (n .before .before .loop-test .taken) (l .before .if1 .left),
+      fits (l .loop .inv .1) (n .next .result) (entered n) (c .before .if2 .left) (n .before .before .before .loop-test .taken) (l .before .if1 .left),
     )
 
 cast-count : tie.Need-cast-count Inv-loop μ-loop
@@ -76,7 +89,7 @@ cast-count c = omega arith
 add-count : tie.Need-add-count Inv-loop μ-loop
 add-count c =
     let n = c .before .before .before in
-    let l = n .before .before .before in
+    let l = n .before .before .before .before in
     let b = l .loop .inv .1 .bounded in
     let i = l .loop .inv .0 in
     omega (arith, l .before .if1 .left)
@@ -84,9 +97,9 @@ add-count c =
 sub-count : tie.Need-sub-count Inv-loop μ-loop
 sub-count c =
     let n = c .before .before .before in
-    let l = n .before .before .before in
-    some-left (l .loop .inv .1) (n .next .result) (n .next .ensures)
-    (c .before .before .if2 .left) (n .before .before .loop-test .taken) (l .before .if1 .left)
+    let l = n .before .before .before .before in
+    some-left (l .loop .inv .1) (n .next .result) (entered n)
+    (c .before .before .if2 .left) (n .before .before .before .loop-test .taken) (l .before .if1 .left)
 
 cast-state : tie.Need-cast-state Inv-loop μ-loop
 cast-state c = omega arith
@@ -100,10 +113,10 @@ loop-less c = omega arith
 loop-again : tie.Need-loop-again Inv-loop μ-loop
 loop-again c =
     let n = c .before .before .before in
-    let l = n .before .before .before in (
+    let l = n .before .before .before .before in (
       omega arith,
-      next (l .loop .inv .1) (n .next .result) (n .next .ensures)
-          (c .before .before .if2 .left) (n .before .before .loop-test .taken) (l .before .if1 .left)
+      next (l .loop .inv .1) (n .next .result) (entered n)
+          (c .before .before .if2 .left) (n .before .before .before .loop-test .taken) (l .before .if1 .left)
           (c .weights-after .result) (c .weights-after .ensures .0) (c .weights-after .last .0) (c .weights-after .ensures .1),
     )
 
@@ -142,6 +155,7 @@ fill-spec =
     loop-holds
     mul-x
     shared-slice-read-x
+    rules-of-requires
     next-requires
     answer-at-requires
     returns-2

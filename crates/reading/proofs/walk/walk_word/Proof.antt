@@ -1,8 +1,12 @@
 -- `reading::walk::walk_word` meets its contract: before each turn the state and the count are those of what the machine has kept of the
 -- values read. The measure is what is left of the word. Assumes nothing.
+use mathlib.Core.Path.{_≡_, ap, _∙_}
 use Prim.Native.Nat.{_-_, _≤_}
 use native.Mathlib.Omega.{arith}
-use lib.ListN.{length}
+use lib.ListN.{length, getD}
+use borrow.Author.Needs.{needs}
+use Rattle.transitions.specs.Tables.{entryOf, entryBy}
+use Rattle.transitions.proofs.Entered.{next-entry}
 use Rattle.reading.specs.Walked.{Walked}
 use Rattle.reading.proofs.Walking.{walk-start, state-bound, count-within, walk-refused, some-left, walk-on}
 use Rattle.reading.proofs.walk.walk_word.Statement.{statement}
@@ -17,26 +21,38 @@ abbrev μ-loop : tie.MeasureT-loop
 loop-holds : tie.Need-loop-holds Inv-loop μ-loop
 loop-holds c = (omega arith, walk-start (c .before .args .word .now))
 
-mul-next : tie.Need-mul-next Inv-loop μ-loop
-mul-next c = omega arith
+mul-rules-of : tie.Need-mul-rules-of Inv-loop μ-loop
+mul-rules-of c = omega arith
 
-shared-slice-read-next : tie.Need-shared-slice-read-next Inv-loop μ-loop
-shared-slice-read-next c = omega arith
+shared-slice-read-rules-of : tie.Need-shared-slice-read-rules-of Inv-loop μ-loop
+shared-slice-read-rules-of c = omega arith
+
+rules-of-requires : tie.Need-rules-of-requires Inv-loop μ-loop
+rules-of-requires c κs = search needs
 
 next-requires : tie.Need-next-requires Inv-loop μ-loop
 next-requires c κs =
-    let l = c .before .before in
+    let l = c .before .before .before in
     state-bound (l .before .before .args .word .now) (l .loop .at) (l .loop .state) (l .loop .count) (l .loop .inv .1)
+
+-- the entry is what the value does at the state
+entered : (c : tie.After-next Inv-loop μ-loop) → let l = c .before .before .before .before in
+    c .next .result ≡ entryOf (l .loop .state) (getD (l .before .before .args .word .now) (l .loop .at) 0)
+entered c =
+    let l = c .before .before .before .before in
+    c .next .ensures ∙ ap (entryBy (l .loop .state)) (c .before .rules-of .ensures)
+    ∙ next-entry (l .loop .state) _
+    (state-bound (l .before .before .args .word .now) (l .loop .at) (l .loop .state) (l .loop .count) (l .loop .inv .1))
 
 returns : tie.Need-returns Inv-loop μ-loop
 returns c =
-    let l = c .before .before .before .before in
+    let l = c .before .before .before .before .before in
     let word = l .before .before .args .word .now in
     record {
       short = l .before .before .pre;
       within = l .loop .inv .0;
       walked = l .loop .inv .1;
-      refused = λ _. walk-refused word (l .loop .at) (l .loop .state) (l .loop .count) (l .loop .inv .1) (c .before .next .result) (c .before .next .ensures) (c .if1 .taken);
+      refused = λ _. walk-refused word (l .loop .at) (l .loop .state) (l .loop .count) (l .loop .inv .1) (c .before .next .result) (entered (c .before)) (c .if1 .taken);
     }
 
 cast-state : tie.Need-cast-state Inv-loop μ-loop
@@ -47,14 +63,14 @@ cast-count c = omega arith
 
 add-count : tie.Need-add-count Inv-loop μ-loop
 add-count c =
-    let l = c .before .before .before .before in
+    let l = c .before .before .before .before .before in
     let n = count-within (l .before .before .args .word .now) (l .loop .at) (l .loop .state) (l .loop .count) (l .loop .inv .1) in
     omega arith
 
 sub-count : tie.Need-sub-count Inv-loop μ-loop
 sub-count c =
-    let l = c .before .before .before .before in
-    some-left (l .before .before .args .word .now) (l .loop .at) (l .loop .state) (l .loop .count) (l .loop .inv .1) (c .before .next .result) (c .before .next .ensures) (c .before .before .before .loop-test .taken) (c .if1 .left)
+    let l = c .before .before .before .before .before in
+    some-left (l .before .before .args .word .now) (l .loop .at) (l .loop .state) (l .loop .count) (l .loop .inv .1) (c .before .next .result) (entered (c .before)) (c .before .before .before .before .loop-test .taken) (c .if1 .left)
 
 add-at : tie.Need-add-at Inv-loop μ-loop
 add-at c = omega arith
@@ -64,9 +80,9 @@ loop-less c = omega arith
 
 loop-again : tie.Need-loop-again Inv-loop μ-loop
 loop-again c =
-    let l = c .before .before .before .before in (
+    let l = c .before .before .before .before .before in (
       omega arith,
-      walk-on (l .before .before .args .word .now) (l .loop .at) (l .loop .state) (l .loop .count) (l .loop .inv .1) (c .before .next .result) (c .before .next .ensures) (c .before .before .before .loop-test .taken) (c .if1 .left),
+      walk-on (l .before .before .args .word .now) (l .loop .at) (l .loop .state) (l .loop .count) (l .loop .inv .1) (c .before .next .result) (entered (c .before)) (c .before .before .before .before .loop-test .taken) (c .if1 .left),
     )
 
 returns-2 : tie.Need-returns-2 Inv-loop μ-loop
@@ -86,8 +102,9 @@ walk-word-spec =
     Inv-loop
     μ-loop
     loop-holds
-    mul-next
-    shared-slice-read-next
+    mul-rules-of
+    shared-slice-read-rules-of
+    rules-of-requires
     next-requires
     returns
     cast-state
