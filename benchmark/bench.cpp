@@ -11,6 +11,7 @@
 #include <cstdlib>
 #include <cstring>
 #include <fstream>
+#include <functional>
 #include <set>
 #include <string>
 #include <vector>
@@ -31,22 +32,37 @@ using Word = std::vector<uint16_t>;
 static volatile uint64_t sink;
 static int rounds = 15;
 
-// The shortest time of a call of f for each of `count` turns, in ns a turn, over all rounds. One round goes before, to warm up.
-template <typename F> static double best(size_t count, F f)
+// What is timed: a loop of calls, and the shortest time of it so far, in ns a call.
+struct Case {
+    const char *name;
+    std::function<double()> round;
+    double shortest;
+};
+
+// The calls f(0) to f(count - 1).
+template <typename F> static Case timed(const char *name, size_t count, F f)
 {
-    double shortest = 0;
-    for (int round = 0; round <= rounds; round++) {
+    auto round = [=]() mutable {
         auto begin = std::chrono::steady_clock::now();
         uint64_t sum = 0;
         for (size_t i = 0; i < count; i++)
             sum += f(i);
         sink = sum;
         std::chrono::duration<double, std::nano> took = std::chrono::steady_clock::now() - begin;
-        double each = took.count() / double(count);
-        if (round == 1 || (round > 1 && each < shortest))
-            shortest = each;
-    }
-    return shortest;
+        return took.count() / double(count);
+    };
+    return {name, round, 0};
+}
+
+// Each round times every case once, so that a machine that is slower for a while is so for all of them. One round goes before, to warm up.
+static void run(std::vector<Case> &cases)
+{
+    for (int round = 0; round <= rounds; round++)
+        for (Case &each : cases) {
+            double took = each.round();
+            if (round == 1 || (round > 1 && took < each.shortest))
+                each.shortest = took;
+        }
 }
 
 static void need(bool holds, const char *what)
@@ -77,15 +93,6 @@ static std::vector<Word> words_of(const char *path, size_t &refused)
     return words;
 }
 
-struct Figures {
-    double read, spell, normalise, key, compare, compare_next;
-};
-
-static void show(const char *name, double ns, double pass)
-{
-    std::printf("  %-34s %9.1f %8.2f\n", name, ns, ns / pass);
-}
-
 static void aim(const char *name, double ratio, double most)
 {
     std::printf("  %-54s %6.3f  aim %.3f: %s\n", name, ratio, most, ratio <= most ? "met" : "missed");
@@ -112,67 +119,58 @@ static void time_words(const std::vector<Word> &words)
     auto text = [&](size_t i) { return reinterpret_cast<const UChar *>(words[i].data()); };
     auto size = [&](size_t i) { return int32_t(words[i].size()); };
 
-    double pass = best(count, [&](size_t i) {
-        uint64_t sum = 0;
-        for (uint16_t value : words[i])
-            sum += table[value];
-        return sum;
-    });
-    Figures ours, peer;
-    ours.read = best(count, [&](size_t i) { return jogcairn_read(words[i].data(), words[i].size()); });
-    ours.spell = best(count, [&](size_t i) {
-        return jogcairn_spell(words[i].data(), words[i].size(), spelled, JOGCAIRN_SPELLED_LIMIT, starts, JOGCAIRN_WORD_LIMIT) + spelled[i % 8];
-    });
-    ours.normalise = best(count, [&](size_t i) {
-        return jogcairn_normalise(words[i].data(), words[i].size(), form, JOGCAIRN_WORD_LIMIT) + form[i % 8];
-    });
-    ours.key = best(count, [&](size_t i) { return jogcairn_key(words[i].data(), words[i].size(), key, JOGCAIRN_KEY_SIZE) + key[i % 32]; });
     auto ours_compare = [&](size_t i, size_t k) { return jogcairn_compare(words[i].data(), words[i].size(), words[k].data(), words[k].size()); };
-    ours.compare = best(count, [&](size_t i) { return ours_compare(i, far_from(i, count)); });
-    ours.compare_next = best(count, [&](size_t i) { return ours_compare(i, (i + 1) % count); });
-    peer.read = best(count, [&](size_t i) { return peer_read(words[i].data(), words[i].size()); });
-    peer.spell = best(count, [&](size_t i) { return peer_spell(words[i].data(), words[i].size()); });
-    peer.normalise = best(count, [&](size_t i) {
-        return peer_normalise(words[i].data(), words[i].size(), form, JOGCAIRN_WORD_LIMIT) + form[i % 8];
-    });
-    peer.key = best(count, [&](size_t i) { return peer_key(words[i].data(), words[i].size(), i % 32); });
     auto peer_order = [&](size_t i, size_t k) { return peer_compare(words[i].data(), words[i].size(), words[k].data(), words[k].size()); };
-    peer.compare = best(count, [&](size_t i) { return peer_order(i, far_from(i, count)); });
-    peer.compare_next = best(count, [&](size_t i) { return peer_order(i, (i + 1) % count); });
-    double icu_nfc = best(count, [&](size_t i) {
-        UErrorCode error = U_ZERO_ERROR;
-        return uint64_t(unorm2_normalize(nfc, text(i), size(i), reinterpret_cast<UChar *>(spelled), JOGCAIRN_SPELLED_LIMIT, &error));
-    });
-    double icu_key = best(count, [&](size_t i) { return uint64_t(ucol_getSortKey(collator, text(i), size(i), sort_key, sizeof sort_key)); });
     auto icu_order = [&](size_t i, size_t k) { return uint64_t(ucol_strcoll(collator, text(i), size(i), text(k), size(k)) + 1); };
-    double icu_compare = best(count, [&](size_t i) { return icu_order(i, far_from(i, count)); });
-    double icu_compare_next = best(count, [&](size_t i) { return icu_order(i, (i + 1) % count); });
+    enum { PASS, READ, SPELL, NORMALISE, KEY, FAR, NEXT, PEER_READ, PEER_SPELL, PEER_NORMALISE, PEER_KEY, PEER_FAR, PEER_NEXT, NFC, ICU_KEY, ICU_FAR, ICU_NEXT };
+    std::vector<Case> cases = {
+        timed("a plain pass, a table look a value", count,
+              [&](size_t i) {
+                  uint64_t sum = 0;
+                  for (uint16_t value : words[i])
+                      sum += table[value];
+                  return sum;
+              }),
+        timed("read", count, [&](size_t i) { return jogcairn_read(words[i].data(), words[i].size()); }),
+        timed("spell", count,
+              [&](size_t i) {
+                  return jogcairn_spell(words[i].data(), words[i].size(), spelled, JOGCAIRN_SPELLED_LIMIT, starts, JOGCAIRN_WORD_LIMIT) + spelled[i % 8];
+              }),
+        timed("normalise", count,
+              [&](size_t i) { return jogcairn_normalise(words[i].data(), words[i].size(), form, JOGCAIRN_WORD_LIMIT) + form[i % 8]; }),
+        timed("key", count, [&](size_t i) { return jogcairn_key(words[i].data(), words[i].size(), key, JOGCAIRN_KEY_SIZE) + key[i % 32]; }),
+        timed("compare, words far off", count, [&](size_t i) { return ours_compare(i, far_from(i, count)); }),
+        timed("compare, neighbours of the file", count, [&](size_t i) { return ours_compare(i, (i + 1) % count); }),
+        timed("other implementation: read", count, [&](size_t i) { return peer_read(words[i].data(), words[i].size()); }),
+        timed("other implementation: spell", count, [&](size_t i) { return peer_spell(words[i].data(), words[i].size()); }),
+        timed("other implementation: normalise", count,
+              [&](size_t i) { return peer_normalise(words[i].data(), words[i].size(), form, JOGCAIRN_WORD_LIMIT) + form[i % 8]; }),
+        timed("other implementation: key", count, [&](size_t i) { return peer_key(words[i].data(), words[i].size(), i % 32); }),
+        timed("other implementation: far off", count, [&](size_t i) { return peer_order(i, far_from(i, count)); }),
+        timed("other implementation: neighbours", count, [&](size_t i) { return peer_order(i, (i + 1) % count); }),
+        timed("ICU: NFC", count,
+              [&](size_t i) {
+                  UErrorCode error = U_ZERO_ERROR;
+                  return uint64_t(unorm2_normalize(nfc, text(i), size(i), reinterpret_cast<UChar *>(spelled), JOGCAIRN_SPELLED_LIMIT, &error));
+              }),
+        timed("ICU: sort key, Burmese", count,
+              [&](size_t i) { return uint64_t(ucol_getSortKey(collator, text(i), size(i), sort_key, sizeof sort_key)); }),
+        timed("ICU: compare, far off", count, [&](size_t i) { return icu_order(i, far_from(i, count)); }),
+        timed("ICU: compare, neighbours", count, [&](size_t i) { return icu_order(i, (i + 1) % count); }),
+    };
+    run(cases);
     ucol_close(collator);
 
+    auto ns = [&](int which) { return cases[which].shortest; };
     std::printf("  %-34s %9s %8s\n", "a word", "ns", "passes");
-    show("a plain pass, a table look a value", pass, pass);
-    show("read", ours.read, pass);
-    show("spell", ours.spell, pass);
-    show("normalise", ours.normalise, pass);
-    show("key", ours.key, pass);
-    show("compare, words far off", ours.compare, pass);
-    show("compare, neighbours of the file", ours.compare_next, pass);
-    show("other implementation: read", peer.read, pass);
-    show("other implementation: spell", peer.spell, pass);
-    show("other implementation: normalise", peer.normalise, pass);
-    show("other implementation: key", peer.key, pass);
-    show("other implementation: far off", peer.compare, pass);
-    show("other implementation: neighbours", peer.compare_next, pass);
-    show("ICU: NFC", icu_nfc, pass);
-    show("ICU: sort key, Burmese", icu_key, pass);
-    show("ICU: compare, far off", icu_compare, pass);
-    show("ICU: compare, neighbours", icu_compare_next, pass);
+    for (const Case &each : cases)
+        std::printf("  %-34s %9.1f %8.2f\n", each.name, each.shortest, each.shortest / ns(PASS));
     std::printf("\n");
-    aim("key / ICU's sort key", ours.key / icu_key, 1.0 / 6);
-    aim("key / the other implementation's", ours.key / peer.key, 1.2);
-    aim("compare / ICU's, neighbours", ours.compare_next / icu_compare_next, 1);
-    aim("compare / ICU's, words far off", ours.compare / icu_compare, 1);
-    aim("normalise / ICU's NFC", ours.normalise / icu_nfc, 0.5);
+    aim("key / ICU's sort key", ns(KEY) / ns(ICU_KEY), 1.0 / 6);
+    aim("key / the other implementation's", ns(KEY) / ns(PEER_KEY), 1.2);
+    aim("compare / ICU's, neighbours", ns(NEXT) / ns(ICU_NEXT), 1);
+    aim("compare / ICU's, words far off", ns(FAR) / ns(ICU_FAR), 1);
+    aim("normalise / ICU's NFC", ns(NORMALISE) / ns(NFC), 0.5);
 }
 
 // Different words of at most two values, a head or a head and a mark, until the book is full.
@@ -221,31 +219,39 @@ static void time_book(const std::vector<Word> &names, size_t live, size_t record
     size_t turns = 1 + 20000 / (records + 20);
     uint8_t *bytes = book.data();
     size_t length = book.size();
-    double pass = best(turns, [&](size_t) {
-        uint64_t sum = 0;
-        for (uint8_t byte : book)
-            sum = sum * 31 + byte;
-        return sum;
-    });
-    double check = best(turns, [&](size_t) { return jogcairn_book_check(bytes, length); });
-    double find = best(turns, [&](size_t) { return jogcairn_book_find(bytes, length, name.data(), name.size()); });
-    double remove = best(turns, [&](size_t) {
-        uint64_t answer = jogcairn_book_remove(bytes, length, name.data(), name.size());
-        bytes[jogcairn_first(answer) + 1] = 0x57;
-        return answer;
-    });
-    double add = best(turns, [&](size_t) {
-        uint64_t answer = jogcairn_book_add(bytes, length, absent.data(), absent.size(), 7);
-        if (jogcairn_accepted(answer))
-            std::memset(bytes + jogcairn_first(answer), 0, 7 + absent.size());
-        return answer;
-    });
-    double rank = best(turns, [&](size_t i) { return jogcairn_book_rank(bytes, length, i % lives); });
-    double peer_check = best(turns, [&](size_t) { return peer_book_check(bytes, length); });
-    double peer_find = best(turns, [&](size_t) { return peer_book_find(bytes, length, name.data(), name.size()); });
-    double peer_rank = best(turns, [&](size_t i) { return peer_book_rank(bytes, length, i % lives); });
-    std::printf("  %7zu %6zu %8.1f %8.1f %8.1f %8.1f %8.1f %8.1f   %8.1f %8.1f %8.1f\n", records, lives, pass / 1000, check / 1000, find / 1000,
-                add / 1000, remove / 1000, rank / 1000, peer_check / 1000, peer_find / 1000, peer_rank / 1000);
+    std::vector<Case> cases = {
+        timed("pass", turns,
+              [&](size_t) {
+                  uint64_t sum = 0;
+                  for (uint8_t byte : book)
+                      sum = sum * 31 + byte;
+                  return sum;
+              }),
+        timed("check", turns, [&](size_t) { return jogcairn_book_check(bytes, length); }),
+        timed("find", turns, [&](size_t) { return jogcairn_book_find(bytes, length, name.data(), name.size()); }),
+        timed("add", turns,
+              [&](size_t) {
+                  uint64_t answer = jogcairn_book_add(bytes, length, absent.data(), absent.size(), 7);
+                  if (jogcairn_accepted(answer))
+                      std::memset(bytes + jogcairn_first(answer), 0, 7 + absent.size());
+                  return answer;
+              }),
+        timed("remove", turns,
+              [&](size_t) {
+                  uint64_t answer = jogcairn_book_remove(bytes, length, name.data(), name.size());
+                  bytes[jogcairn_first(answer) + 1] = 0x57;
+                  return answer;
+              }),
+        timed("rank", turns, [&](size_t i) { return jogcairn_book_rank(bytes, length, i % lives); }),
+        timed("check", turns, [&](size_t) { return peer_book_check(bytes, length); }),
+        timed("find", turns, [&](size_t) { return peer_book_find(bytes, length, name.data(), name.size()); }),
+        timed("rank", turns, [&](size_t i) { return peer_book_rank(bytes, length, i % lives); }),
+    };
+    run(cases);
+    std::printf("  %7zu %6zu", records, lives);
+    for (const Case &each : cases)
+        std::printf(" %8.1f", each.shortest / 1000);
+    std::printf("\n");
 }
 
 int main(int argc, char **argv)
@@ -265,8 +271,8 @@ int main(int argc, char **argv)
 
     std::vector<Word> names = short_names();
     std::printf("\n  a call on a book of %d bytes, in microseconds; words of one and two values\n", JOGCAIRN_BOOK_LIMIT);
-    std::printf("  %7s %6s %8s %8s %8s %8s %8s %8s   %26s\n", "", "", "plain", "", "", "", "", "", "other implementation");
-    std::printf("  %7s %6s %8s %8s %8s %8s %8s %8s   %8s %8s %8s\n", "records", "live", "pass", "check", "find", "add", "remove", "rank", "check", "find", "rank");
+    std::printf("  %7s %6s %8s %8s %8s %8s %8s %8s %26s\n", "", "", "plain", "", "", "", "", "", "other implementation");
+    std::printf("  %7s %6s %8s %8s %8s %8s %8s %8s %8s %8s %8s\n", "records", "live", "pass", "check", "find", "add", "remove", "rank", "check", "find", "rank");
     for (size_t records : {10, 100, 500})
         time_book(names, records, records);
     time_book(names, names.size(), names.size());

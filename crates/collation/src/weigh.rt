@@ -24,8 +24,9 @@ fn weigh_stored(word: &[u16], bytes: &mut [u8; 320]) -> ReadAnswer
     fill(&values[..count], bytes)
 }
 
-// Fills a key of zeros with the weights of a word's stored form. A row of syllables is its own stored form.
-pub(crate) fn weigh(word: &[u16], bytes: &mut [u8; 320]) -> ReadAnswer
+// Fills a key of zeros with the weights of a word's stored form; with a refusal the bytes are of no use. A row of syllables is its own
+// stored form.
+pub fn weigh(word: &[u16], bytes: &mut [u8; 320]) -> ReadAnswer
     requires { ⌜ now bytes ≡ zeros keyLimit ⌝ }
     ensures { λ r. ⌜ WeighRight (now (word .entry)) r (now (bytes .exit)) ⌝ }
 {

@@ -1,5 +1,5 @@
 // A key and a decoded line, written to lent output.
-use collation::key::key_of;
+use collation::weigh::weigh;
 use lines::LineAnswer;
 use lines::decode;
 use normaliser::copy_out;
@@ -34,15 +34,14 @@ fn copy_key(bytes: &[u8; KEY_SIZE], output: &mut [u8])
 pub(crate) fn put_key(word: &[u16], output: &mut [u8]) -> ReadAnswer
     ensures { λ r. ⌜ KeyWritten (now (word .entry)) (now (output .entry)) (now (output .exit)) (outcomeOf r) ⌝ }
 {
-    let key = key_of(word);
-    let answer = key.answer;
+    let mut bytes = [0; KEY_SIZE];
+    let answer = weigh(word, &mut bytes);
     match answer {
         ReadAnswer::Refused(refusal) => ReadAnswer::Refused(refusal),
         ReadAnswer::Syllables(count) => {
             if output.len() < KEY_SIZE {
                 return ReadAnswer::Refused(Refusal::OutputTooShort(KEY_SIZE));
             }
-            let bytes = key.bytes;
             copy_key(&bytes, output);
             ReadAnswer::Syllables(count)
         }
