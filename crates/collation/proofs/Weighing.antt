@@ -9,14 +9,14 @@ use Rattle.formula.specs.Limits.{limit}
 use Rattle.formula.specs.Row.{Row, Gives}
 use Rattle.refusals.specs.Refusal.{numberOf, placeOf}
 use Rattle.refusals.specs.declared.Refusal.{Refusal}
-use Rattle.reading.specs.Answer.{outcomeOf, Admissible, Answers}
+use Rattle.reading.specs.Answer.{outcomeOf, Answers}
 use Rattle.reading.specs.declared.read.ReadAnswer.{ReadAnswer}
 use Rattle.reading.specs.declared.read.ReadAnswer.the-variants.{Syllables, Refused}
 use Rattle.reading.proofs.Recorded.{count-limit}
 use Rattle.storage.specs.Stored.{storedForm}
 use Rattle.storage.proofs.Rows.{gives-stored}
-use Rattle.normaliser.specs.Normal.{StoreRefusedWith, outcome, Stores, StoreAnswers}
-use Rattle.normaliser.proofs.Storing.{reads-stores}
+use Rattle.normaliser.specs.Normal.{StoreRefusedWith, Stores, StoreAnswers, HandedIn}
+use Rattle.normaliser.proofs.Storing.{word-admissible, refused-right, reads-stores}
 use Rattle.weighing.specs.Keys.{keyLimit, usedBytes}
 use Rattle.weighing.specs.Order.{inTurn, orderValues}
 use Rattle.keying.specs.Filled.{KeyIfRead, FillRight}
@@ -38,21 +38,35 @@ row-weighed word answer bytes right n e =
       room = right .size;
     }
 
--- the weights of a stored form, whose answer is the word's
-pub form-weighed : (word values : List ℕ) → Admissible word → values ≡ storedForm word → (answer : ReadAnswer) (bytes : List ℕ)
-    → FillRight values answer bytes → WeighRight word answer bytes
-form-weighed word values admissible e answer bytes right = go answer (subst (λ (l : List ℕ). FillRight l answer bytes) e right)
-  where
-    go : (a : ReadAnswer) → FillRight (storedForm word) a bytes → WeighRight word a bytes
-    go (Syllables n) r =
-        record { answers = record { admissible = admissible; reads = r .answers }; weighed = r .key; room = r .size }
-    go (Refused refusal) r = record { answers = outcome admissible (r .answers); weighed = tt; room = r .size }
+-- what a word's stored form, with at most as many values as a word has, gives when it is read and weighed
+module _ (word values : List ℕ) (short : length word ≤ limit) (e : values ≡ storedForm word) (answer : ReadAnswer) (bytes : List ℕ)
+    (right : FillRight values answer bytes) where
+  at-form : FillRight (storedForm word) answer bytes
+  at-form = subst (λ (l : List ℕ). FillRight l answer bytes) e right
 
--- a refusal goes with any bytes
-pub refused-weighed : (word : List ℕ) (answer : ReadAnswer) (bytes : List ℕ) → StoreAnswers word (outcomeOf answer) → (refusal : Refusal)
-    → answer ≡ Refused refusal → length bytes ≡ keyLimit → WeighRight word answer bytes
-refused-weighed word answer bytes answers refusal e room =
-    record { answers = answers; weighed = subst (λ (a : ReadAnswer). WeighedFor word (outcomeOf a) bytes) (sym e) tt; room = room }
+  pub form-weighed : (n : ℕ) → answer ≡ Syllables n → WeighRight word answer bytes
+  form-weighed n f =
+      let reads = subst (λ (a : ReadAnswer). Answers (storedForm word) (outcomeOf a)) f (at-form .answers) in
+      record {
+        answers =
+            subst (λ (a : ReadAnswer). StoreAnswers word (outcomeOf a)) (sym f)
+            (record { admissible = word-admissible word short (reads .admissible); reads = reads });
+        weighed =
+            subst (λ (a : ReadAnswer). WeighedFor word (outcomeOf a) bytes) (sym f)
+            (subst (λ (a : ReadAnswer). KeyIfRead (storedForm word) (outcomeOf a) bytes) f (at-form .key));
+        room = right .size;
+      }
+
+  -- a refusal goes with any bytes
+  pub form-refused : (refusal told : Refusal) → answer ≡ Refused refusal → HandedIn word refusal told → WeighRight word (Refused told) bytes
+  form-refused refusal told f h =
+      record {
+        answers =
+            refused-right word short refusal told
+            (subst (λ (a : ReadAnswer). Answers (storedForm word) (outcomeOf a)) f (at-form .answers)) h;
+        weighed = tt;
+        room = right .size;
+      }
 
 pub weighed-refused : (word : List ℕ) (answer : ReadAnswer) (bytes : List ℕ) → WeighRight word answer bytes → (refusal : Refusal)
     → answer ≡ Refused refusal → StoreRefusedWith word (numberOf refusal) (placeOf refusal)

@@ -1,7 +1,9 @@
 // The weights of a word that is normalised first.
+use formula::Word;
 use keying::fill::fill;
-use normaliser::normal_form;
+use normaliser::as_handed_in;
 use reading::read::ReadAnswer;
+use refusals::Refusal;
 ghost use mathlib.Core.Path.{_≡_};
 ghost use lib.ListN.{length};
 ghost use Rattle.weighing.specs.Keys.{keyLimit, zeros};
@@ -12,16 +14,18 @@ fn weigh_stored(word: &[u16], bytes: &mut [u8; 320]) -> ReadAnswer
     requires { ⌜ length (now bytes) ≡ keyLimit ⌝ }
     ensures { λ r. ⌜ WeighRight (now (word .entry)) r (now (bytes .exit)) ⌝ }
 {
-    let normal = normal_form(word);
-    let answer = normal.answer;
-    if let ReadAnswer::Refused(_) = answer {
-        return answer;
+    if Word::LIMIT < word.len() {
+        return ReadAnswer::Refused(Refusal::TooLong);
     }
     *bytes = [0; 320];
-    let form = normal.word;
+    let form = storage::stored(word);
     let count = form.count;
     let values = form.values;
-    fill(&values[..count], bytes)
+    let answer = fill(&values[..count], bytes);
+    if let ReadAnswer::Refused(refusal) = answer {
+        return ReadAnswer::Refused(as_handed_in(word, refusal));
+    }
+    answer
 }
 
 // Fills a key of zeros with the weights of a word's stored form; with a refusal the bytes are of no use. A row of syllables is its own

@@ -24,7 +24,7 @@ fn refused(refusal: Refusal) -> Normalised
 }
 
 // A refusal of the stored form as one of the word: the place of a foreign value is that in the word as handed in.
-fn as_handed_in(word: &[u16], refusal: Refusal) -> Refusal
+pub fn as_handed_in(word: &[u16], refusal: Refusal) -> Refusal
     ensures { λ r. ⌜ HandedIn (now (word .entry)) refusal r ⌝ }
 {
     if let Refusal::Foreign(_) = refusal {

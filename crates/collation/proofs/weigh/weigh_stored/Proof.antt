@@ -3,66 +3,67 @@
 use borrow.Author.Needs.{needs}
 use Rattle.formula.proofs.Held.{held-front, held-fits, held-length}
 use Rattle.storage.specs.Stored.{storedForm}
-use Rattle.normaliser.proofs.Storing.{stores, held-form}
-use Rattle.collation.proofs.Weighing.{form-weighed, refused-weighed}
+use Rattle.normaliser.specs.Normal.{too-long}
+use Rattle.collation.proofs.Weighing.{form-weighed, form-refused}
 use Rattle.collation.proofs.weigh.weigh_stored.Statement.{statement}
 use Rattle.collation.proofs.weigh.weigh_stored.Tie as tie
 
-normal-form-requires : tie.Need-normal-form-requires
-normal-form-requires c κs = search needs
-
-enum-told : tie.Need-enum-told
-enum-told c = search needs
-
 returns : tie.Need-returns
-returns c =
-    let a = c .before .before in
-    let s = a .before .before in
-    refused-weighed (s .args .word .now) (a .normal-form .result .answer) (s .args .bytes .now) (a .normal-form .ensures .answers) (c .enum-told .given .0 .0)
-    (c .enum-told .given .1) (s .pre)
+returns c = record { answers = too-long (c .if1 .taken); weighed = tt; room = c .before .before .pre }
 
-enum-told-2 : tie.Need-enum-told-2
-enum-told-2 c = search needs
+stored-requires : tie.Need-stored-requires
+stored-requires c κs = search needs
 
 array-share-prefix-values : tie.Need-array-share-prefix-values
 array-share-prefix-values c =
-    let e = c .before .before .before in
-    let a = e .before .before in
-    let word = a .before .before .args .word .now in
-    held-fits (a .normal-form .result .word) (storedForm word)
-    (held-form word (a .normal-form .result) (a .normal-form .ensures) (e .enum-told2 .given .0 .0) (e .enum-told2 .given .1))
+    let f = c .before in
+    held-fits (f .stored .result) (storedForm (f .before .before .before .before .args .word .now)) (f .stored .ensures)
 
 slice-aggregate-fill : tie.Need-slice-aggregate-fill
 slice-aggregate-fill c =
-    let e = c .before .before .before .before in
-    let a = e .before .before in
-    let word = a .before .before .args .word .now in
-    held-length (a .normal-form .result .word) (storedForm word)
-    (held-form word (a .normal-form .result) (a .normal-form .ensures) (e .enum-told2 .given .0 .0) (e .enum-told2 .given .1))
+    let f = c .before .before in
+    held-length (f .stored .result) (storedForm (f .before .before .before .before .args .word .now)) (f .stored .ensures)
 
 fill-requires : tie.Need-fill-requires
 fill-requires c κs = search needs
 
+enum-known-answer : tie.Need-enum-known-answer
+enum-known-answer c = search needs
+
+as-handed-in-requires : tie.Need-as-handed-in-requires
+as-handed-in-requires c κs = search needs
+
 returns-2 : tie.Need-returns-2
 returns-2 c =
-    let e = c .before .before .before .before .before .before in
-    let a = e .before .before in
-    let word = a .before .before .args .word .now in
-    let n = e .enum-told2 .given .0 .0 in
-    let d = e .enum-told2 .given .1 in
-    form-weighed word _ (stores word (a .normal-form .result) (a .normal-form .ensures) n d .admissible)
-    (held-front (a .normal-form .result .word) (storedForm word) (held-form word (a .normal-form .result) (a .normal-form .ensures) n d))
-    (c .fill .result) _ (c .fill .ensures)
+    let a = c .before .before in
+    let b = a .before .before in
+    let f = b .before .before .before .before in
+    let word = f .before .before .before .before .args .word .now in
+    form-refused word _ (f .before .before .if1 .left) (held-front (f .stored .result) (storedForm word) (f .stored .ensures)) (b .fill .result) _ (b .fill .ensures)
+    (a .answer .given .0 .0) (c .as-handed-in .result) (a .answer .given .1) (c .as-handed-in .ensures)
+
+enum-told : tie.Need-enum-told
+enum-told c = search needs
+
+returns-3 : tie.Need-returns-3
+returns-3 c =
+    let b = c .before .before in
+    let f = b .before .before .before .before in
+    let word = f .before .before .before .before .args .word .now in
+    form-weighed word _ (f .before .before .if1 .left) (held-front (f .stored .result) (storedForm word) (f .stored .ensures)) (b .fill .result) _ (b .fill .ensures)
+    (c .enum-told .given .0 .0) (c .enum-told .given .1)
 
 pub weigh-stored-spec : {M : Type 1} → statement M
 weigh-stored-spec =
     tie.close
     (tie.spec
-    normal-form-requires
-    enum-told
     returns
-    enum-told-2
+    stored-requires
     array-share-prefix-values
     slice-aggregate-fill
     fill-requires
-    returns-2)
+    enum-known-answer
+    as-handed-in-requires
+    returns-2
+    enum-told
+    returns-3)
