@@ -16,7 +16,8 @@ ghost use Rattle.interface.specs.Outputs.{KeyWritten, DecodeWritten};
 pub extern "C" fn jogcairn_read(word: &[u16]) -> u64
     ensures { λ r. ⌜ Packed (Answers (now (word .entry))) readNumbers r ⌝ }
 {
-    packing::of_reading(reading::walk::answer_of(word))
+    let answer = reading::walk::answer_of(word);
+    packing::of_reading(answer)
 }
 
 // The record of the syllable `number`, from 0.
