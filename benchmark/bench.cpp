@@ -110,8 +110,8 @@ static void time_words(const std::vector<Word> &words)
     static uint8_t table[65536];
     for (int i = 0; i < 65536; i++)
         table[i] = uint8_t(i * 7);
-    uint16_t form[JOGCAIRN_WORD_LIMIT], spelled[JOGCAIRN_SPELLED_LIMIT], starts[JOGCAIRN_WORD_LIMIT];
-    uint8_t key[JOGCAIRN_KEY_SIZE], sort_key[4096];
+    static uint16_t form[JOGCAIRN_WORD_LIMIT], spelled[JOGCAIRN_SPELLED_LIMIT], starts[JOGCAIRN_WORD_LIMIT];
+    static uint8_t key[JOGCAIRN_KEY_SIZE], sort_key[4096];
     UErrorCode status = U_ZERO_ERROR;
     UCollator *collator = ucol_open("my", &status);
     const UNormalizer2 *nfc = unorm2_getNFCInstance(&status);
