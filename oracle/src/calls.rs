@@ -8,32 +8,32 @@
 
 mod damages;
 mod fillings;
+mod play;
 mod ranks;
 mod refusals;
-mod session;
 mod turns;
 mod words;
 
-pub use session::{checksum, Answer, Call, Session, ARRAY_SIZE};
+pub use play::{checksum, Answer, Call, Play, ARRAY_SIZE};
 
 /// All calls, with what must be printed for them.
-pub fn all() -> Session {
-    let mut session = Session::new();
-    session.scene("lengths", fillings::lengths);
-    session.scene("exact fits", fillings::exact_fits);
-    session.scene("filled", fillings::filled);
-    session.scene("filled to the limit", fillings::filled_to_the_limit);
-    session.scene("many records", fillings::many_records);
-    session.scene("refused words", refusals::refused_words);
-    session.scene("order of tests", refusals::order_of_tests);
-    session.scene("turns", turns::turns);
-    session.scene("spellings", turns::spellings);
-    session.scene("mark orders", turns::mark_orders);
-    session.scene("stock numbers", turns::stock_numbers);
-    session.scene("damaged bytes", damages::damaged_bytes);
-    session.scene("made by hand", damages::made_by_hand);
-    session.scene("any damage", damages::any_damage);
-    session.scene("ranks", ranks::ranks);
-    session.scene("deep ranks", ranks::deep_ranks);
-    session
+pub fn all() -> Play {
+    let mut play = Play::new();
+    play.scene("lengths", fillings::lengths);
+    play.scene("exact fits", fillings::exact_fits);
+    play.scene("filled", fillings::filled);
+    play.scene("filled to the limit", fillings::filled_to_the_limit);
+    play.scene("many records", fillings::many_records);
+    play.scene("refused words", refusals::refused_words);
+    play.scene("order of tests", refusals::order_of_tests);
+    play.scene("turns", turns::turns);
+    play.scene("spellings", turns::spellings);
+    play.scene("mark orders", turns::mark_orders);
+    play.scene("stock numbers", turns::stock_numbers);
+    play.scene("damaged bytes", damages::damaged_bytes);
+    play.scene("made by hand", damages::made_by_hand);
+    play.scene("any damage", damages::any_damage);
+    play.scene("ranks", ranks::ranks);
+    play.scene("deep ranks", ranks::deep_ranks);
+    play
 }

@@ -1,10 +1,10 @@
 //! The calls hold what their names say, and are small enough.
 
-use oracle::calls::{all, checksum, Session};
+use oracle::calls::{all, checksum, Play};
 use std::collections::BTreeSet;
 use std::sync::LazyLock;
 
-static CALLS: LazyLock<Session> = LazyLock::new(all);
+static CALLS: LazyLock<Play> = LazyLock::new(all);
 
 #[test]
 fn the_calls_are_of_the_right_size() {

@@ -22,10 +22,10 @@ fn main() -> ExitCode {
 
 fn make_calls(folder: &Path) -> io::Result<()> {
     fs::create_dir_all(folder)?;
-    let session = oracle::calls::all();
-    for ((scene, kind), count) in &session.counts {
+    let play = oracle::calls::all();
+    for ((scene, kind), count) in &play.counts {
         println!("{scene:22} {kind:14} {count:6}");
     }
-    fs::write(folder.join("stdin"), &session.input)?;
-    fs::write(folder.join("stdout"), &session.expected)
+    fs::write(folder.join("stdin"), &play.input)?;
+    fs::write(folder.join("stdout"), &play.expected)
 }

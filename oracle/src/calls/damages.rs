@@ -1,88 +1,88 @@
 //! Books that are none: one byte changed, records put together by hand, and bytes
 //! changed by chance.
 
-use super::session::Session;
+use super::play::Play;
 use super::words::{respelled, short, stock};
 use crate::random::Random;
 
 /// Each byte of a small book, changed and put back.
-pub fn damaged_bytes(session: &mut Session, random: &mut Random) {
+pub fn damaged_bytes(play: &mut Play, random: &mut Random) {
     let words: [&[u16]; 4] =
         [&[0x1000], &[0x1000, 0x1014, 0x103A, 0x1037], &[0x1025], &[0x1000, 0x102C]];
-    session.new_book(60);
+    play.new_book(60);
     for word in words {
-        let _ = session.add(word, stock(random));
+        let _ = play.add(word, stock(random));
     }
-    let _ = session.remove(words[2]);
+    let _ = play.remove(words[2]);
     // Starts 0, 8, 19 and 27; the first free byte is 36.
     for start in [0, 8, 19, 27] {
         for byte in [0x00, 0x01, 0x4C, 0x4E, 0x57, 0xFF] {
-            changed(session, random, start, byte);
+            changed(play, random, start, byte);
         }
         for byte in [0x00, 0x2C, 0x2D, 0x2E, 0x4D, 0x56, 0x57, 0x58, 0xFF] {
-            changed(session, random, start + 1, byte);
+            changed(play, random, start + 1, byte);
         }
-        let count = session.byte(start + 2);
+        let count = play.byte(start + 2);
         for byte in [0, 1, 2, 3, 4, 5, 64, 65, 128, 255, count + 8, count + 9] {
-            changed(session, random, start + 2, byte);
+            changed(play, random, start + 2, byte);
         }
         for place in start + 3..start + 7 {
-            changed(session, random, place, 0x57);
+            changed(play, random, place, 0x57);
         }
         for place in start + 7..start + 7 + usize::from(count) {
             for byte in [0x00, 0x14, 0x21, 0x22, 0x2C, 0x37, 0x39, 0x3A, 0x3F, 0x40, 0x50, 0xFF] {
-                changed(session, random, place, byte);
+                changed(play, random, place, byte);
             }
         }
     }
     for place in [36, 37, 38, 43, 44, 58, 59] {
         for byte in [0x01, 0x2D, 0x4D, 0x57] {
-            changed(session, random, place, byte);
+            changed(play, random, place, byte);
         }
     }
 }
 
 /// Changes a byte, plays calls on what is there then, and puts the byte back.
-fn changed(session: &mut Session, random: &mut Random, place: usize, byte: u8) {
-    let before = session.byte(place);
-    session.poke(place, byte);
-    let _ = session.check();
+fn changed(play: &mut Play, random: &mut Random, place: usize, byte: u8) {
+    let before = play.byte(place);
+    play.poke(place, byte);
+    let _ = play.check();
     if random.chance(40) {
         let _ = match random.below(4) {
-            0 => session.find(&[0x1000, 0x102C]),
-            1 => session.find(&[0x1025]),
-            2 => session.rank(random.below(5) as u32),
-            _ => session.find(&[0x1000]),
+            0 => play.find(&[0x1000, 0x102C]),
+            1 => play.find(&[0x1025]),
+            2 => play.rank(random.below(5) as u32),
+            _ => play.find(&[0x1000]),
         };
     }
     // An add or a remove that is refused changes nothing, so the byte can be put back.
-    let answer = session.find(&[0x1000, 0x1014, 0x1037, 0x103A]);
+    let answer = play.find(&[0x1000, 0x1014, 0x1037, 0x103A]);
     if answer.is_err() && random.chance(50) {
-        let _ = session.remove(&[0x1000, 0x1014, 0x1037, 0x103A]);
+        let _ = play.remove(&[0x1000, 0x1014, 0x1037, 0x103A]);
     }
     if answer.is_err_and(|refusal| refusal.number == 11) && random.chance(50) {
-        let _ = session.add(&[0x1020], stock(random));
+        let _ = play.add(&[0x1020], stock(random));
     }
-    session.poke(place, before);
+    play.poke(place, before);
 }
 
 /// Buffers put together by hand: marks, counts and words of every wrong kind, each
 /// alone, and each behind a record that is right.
-pub fn made_by_hand(session: &mut Session, random: &mut Random) {
+pub fn made_by_hand(play: &mut Play, random: &mut Random) {
     let right = record(b"MW", 2, &[0x05, 0x2C]);
     for bytes in hand_made() {
         for before in [&[][..], &right, &record(b"M-", 1, &[0x26])] {
             for behind in [0, 1, 9] {
                 let whole = [before, &bytes].concat();
-                session.new_book(whole.len() + behind);
-                session.poke_all(0, &whole);
-                let _ = session.check();
+                play.new_book(whole.len() + behind);
+                play.poke_all(0, &whole);
+                let _ = play.check();
                 let _ = match random.below(3) {
-                    0 => session.find(&[0x1005, 0x102C]),
-                    1 => session.remove(&[0x1000]),
-                    _ => session.add(&[0x1000], stock(random)),
+                    0 => play.find(&[0x1005, 0x102C]),
+                    1 => play.remove(&[0x1000]),
+                    _ => play.add(&[0x1000], stock(random)),
                 };
-                let _ = session.rank(random.below(3) as u32);
+                let _ = play.rank(random.below(3) as u32);
             }
         }
     }
@@ -158,30 +158,30 @@ fn hand_made() -> Vec<Vec<u8>> {
 }
 
 /// Books with bytes changed by chance, mostly such as stand in books.
-pub fn any_damage(session: &mut Session, random: &mut Random) {
+pub fn any_damage(play: &mut Play, random: &mut Random) {
     for _ in 0..60 {
         let size = random.between(30, 200);
-        session.new_book(size);
+        play.new_book(size);
         let words: Vec<Vec<u16>> = (0..random.between(2, 7)).map(|_| short(random)).collect();
         for word in &words {
-            let _ = session.add(word, stock(random));
+            let _ = play.add(word, stock(random));
         }
         for _ in 0..6 {
             let place = random.below(size);
             let byte = random.pick(&[0x00, 0x01, 0x2D, 0x3A, 0x4D, 0x57, 0x1E, 0x40, 0xFF]);
-            let before = session.byte(place);
-            session.poke(place, byte);
+            let before = play.byte(place);
+            play.poke(place, byte);
             let chosen = random.below(words.len());
             let word = respelled(random, &words[chosen]);
-            let _ = session.check();
+            let _ = play.check();
             let _ = match random.below(4) {
-                0 => session.add(&word, stock(random)),
-                1 => session.remove(&word),
-                2 => session.find(&word),
-                _ => session.rank(random.below(words.len()) as u32),
+                0 => play.add(&word, stock(random)),
+                1 => play.remove(&word),
+                2 => play.find(&word),
+                _ => play.rank(random.below(words.len()) as u32),
             };
             if random.chance(70) {
-                session.poke(place, before);
+                play.poke(place, before);
             }
         }
     }

@@ -1,6 +1,6 @@
 //! Ranks of every number and beyond, among words that are hard to tell apart.
 
-use super::session::Session;
+use super::play::Play;
 use super::words::{short, stock};
 use crate::random::Random;
 
@@ -32,9 +32,9 @@ const CLOSE: [&[u16]; 22] = [
 ];
 
 /// Books of close words and of any words, some of them removed.
-pub fn ranks(session: &mut Session, random: &mut Random) {
+pub fn ranks(play: &mut Play, random: &mut Random) {
     for round in 0..16 {
-        session.new_book(600);
+        play.new_book(600);
         let mut words: Vec<Vec<u16>> = if round % 2 == 0 {
             CLOSE.map(<[u16]>::to_vec).to_vec()
         } else {
@@ -42,33 +42,33 @@ pub fn ranks(session: &mut Session, random: &mut Random) {
         };
         random.shuffle(&mut words);
         for word in &words {
-            let _ = session.add(word, stock(random));
+            let _ = play.add(word, stock(random));
         }
         for word in &words {
             if random.chance(round * 4) {
-                let _ = session.remove(word);
+                let _ = play.remove(word);
             }
         }
         for rank in 0..words.len() + 2 {
-            let _ = session.rank(rank as u32);
+            let _ = play.rank(rank as u32);
         }
-        let _ = session.rank(u32::MAX);
-        let _ = session.check();
+        let _ = play.rank(u32::MAX);
+        let _ = play.check();
     }
 }
 
 /// Long words that differ only at their ends, or in their length.
-pub fn deep_ranks(session: &mut Session, random: &mut Random) {
+pub fn deep_ranks(play: &mut Play, random: &mut Random) {
     let ends = CLOSE.iter().filter(|end| end.len() <= 2 && end[0] != 0x1000);
     let mut words: Vec<Vec<u16>> = ends.map(|end| [&[0x1000; 62], *end].concat()).collect();
     words.extend([0x102B, 0x102C].map(|mark| [&[0x1000; 62][..], &[mark]].concat()));
     words.extend((60..=64).map(|length| vec![0x1000; length]));
     random.shuffle(&mut words);
-    session.new_book(71 * words.len());
+    play.new_book(71 * words.len());
     for word in &words {
-        let _ = session.add(word, stock(random));
+        let _ = play.add(word, stock(random));
     }
     for rank in 0..=words.len() {
-        let _ = session.rank(rank as u32);
+        let _ = play.rank(rank as u32);
     }
 }

@@ -1,30 +1,30 @@
 //! Add and remove in turn, with words in every spelling.
 
-use super::session::Session;
+use super::play::Play;
 use super::words::{respelled, short, stock, STOCKS};
 use crate::random::Random;
 
 /// A few words that come and go, until the book is full and beyond.
-pub fn turns(session: &mut Session, random: &mut Random) {
+pub fn turns(play: &mut Play, random: &mut Random) {
     for size in [60, 150, 400, 400, 700, 1000] {
-        session.new_book(size);
+        play.new_book(size);
         let words: Vec<Vec<u16>> = (0..random.between(3, 9)).map(|_| short(random)).collect();
         for _ in 0..130 {
             let word = &words[random.below(words.len())];
             let word = respelled(random, word);
             let _ = match random.below(10) {
-                0..4 => session.add(&word, stock(random)),
-                4..7 => session.remove(&word),
-                7 => session.rank(random.below(words.len() + 1) as u32),
-                8 => session.find(&word),
-                _ => session.check(),
+                0..4 => play.add(&word, stock(random)),
+                4..7 => play.remove(&word),
+                7 => play.rank(random.below(words.len() + 1) as u32),
+                8 => play.find(&word),
+                _ => play.check(),
             };
         }
     }
 }
 
 /// One word in many spellings: it is there once.
-pub fn spellings(session: &mut Session, random: &mut Random) {
+pub fn spellings(play: &mut Play, random: &mut Random) {
     let words: [&[u16]; 8] = [
         &[0x1000, 0x1014, 0x103A, 0x1037],
         &[0x1026],
@@ -36,23 +36,23 @@ pub fn spellings(session: &mut Session, random: &mut Random) {
         &[0x1015, 0x103C, 0x103F, 0x1014, 0x102C],
     ];
     for word in words {
-        session.new_book(7 + word.len());
-        let _ = session.add(&respelled(random, word), stock(random));
+        play.new_book(7 + word.len());
+        let _ = play.add(&respelled(random, word), stock(random));
         for _ in 0..8 {
-            let _ = session.find(&respelled(random, word));
-            let _ = session.add(&respelled(random, word), stock(random));
+            let _ = play.find(&respelled(random, word));
+            let _ = play.add(&respelled(random, word), stock(random));
         }
-        let _ = session.remove(&respelled(random, word));
-        let _ = session.remove(&respelled(random, word));
-        let _ = session.find(word);
-        let _ = session.check();
+        let _ = play.remove(&respelled(random, word));
+        let _ = play.remove(&respelled(random, word));
+        let _ = play.find(word);
+        let _ = play.check();
     }
 }
 
 /// A word with its four marks in each of their 24 orders.
-pub fn mark_orders(session: &mut Session, random: &mut Random) {
-    session.new_book(40);
-    let _ = session.add(&[0x1000, 0x102C, 0x1031, 0x103D, 0x103B], stock(random));
+pub fn mark_orders(play: &mut Play, random: &mut Random) {
+    play.new_book(40);
+    let _ = play.add(&[0x1000, 0x102C, 0x1031, 0x103D, 0x103B], stock(random));
     let marks = [0x103B, 0x103D, 0x1031, 0x102C];
     for order in 0..24 {
         let mut left = marks.to_vec();
@@ -60,24 +60,24 @@ pub fn mark_orders(session: &mut Session, random: &mut Random) {
         for place in [order / 6, order / 2 % 3, order % 2, 0] {
             word.push(left.remove(place));
         }
-        let _ = session.find(&word);
+        let _ = play.find(&word);
     }
 }
 
 /// Stock numbers at their limits, written and found again.
-pub fn stock_numbers(session: &mut Session, _: &mut Random) {
-    session.new_book(BOOKED);
+pub fn stock_numbers(play: &mut Play, _: &mut Random) {
+    play.new_book(BOOKED);
     for (place, stock) in STOCKS.into_iter().enumerate() {
         let word = [0x1000 + place as u16, 0x102C];
-        let _ = session.add(&word, stock);
-        let _ = session.find(&word);
+        let _ = play.add(&word, stock);
+        let _ = play.find(&word);
     }
     for place in 0..STOCKS.len() {
         let word = [0x1000 + place as u16, 0x102C];
-        let _ = session.find(&word);
-        let _ = session.rank(place as u32);
+        let _ = play.find(&word);
+        let _ = play.rank(place as u32);
     }
-    let _ = session.check();
+    let _ = play.check();
 }
 
 /// Room for each stock number with a word of two values.

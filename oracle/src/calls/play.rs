@@ -32,7 +32,7 @@ pub enum Call {
 pub type Answer = Result<(usize, u32), Refusal>;
 
 /// The calls so far, what must be printed for them, and the array as they left it.
-pub struct Session {
+pub struct Play {
     /// The calls as text.
     pub input: String,
     /// What must be printed.
@@ -44,10 +44,10 @@ pub struct Session {
     length: usize,
 }
 
-impl Session {
+impl Play {
     /// Nothing played yet.
-    pub fn new() -> Session {
-        Session {
+    pub fn new() -> Play {
+        Play {
             input: String::new(),
             expected: String::new(),
             counts: BTreeMap::new(),
@@ -58,7 +58,7 @@ impl Session {
     }
 
     /// Plays a scene, with random numbers of its own.
-    pub fn scene(&mut self, name: &'static str, play: fn(&mut Session, &mut Random)) {
+    pub fn scene(&mut self, name: &'static str, play: fn(&mut Play, &mut Random)) {
         self.scene = name;
         play(self, &mut Random::of(name));
     }
@@ -154,9 +154,9 @@ impl Session {
     }
 }
 
-impl Default for Session {
-    fn default() -> Session {
-        Session::new()
+impl Default for Play {
+    fn default() -> Play {
+        Play::new()
     }
 }
 
