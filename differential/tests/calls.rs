@@ -8,8 +8,8 @@
 use jogcairn::{Book, Found, Refusal, BOOK_LIMIT};
 use oracle::calls::{Call, Play};
 
-const CALLS: &str = include_str!("../../crates/wordbook_calls/stdin");
-const ANSWERS: &str = include_str!("../../crates/wordbook_calls/stdout");
+const CALLS: &str = include_str!("../calls/calls");
+const ANSWERS: &str = include_str!("../calls/answers");
 
 /// An array with room behind the longest book, and how many bytes at its front are the book.
 struct Array {

@@ -1,5 +1,5 @@
 //! Makes the calls on word books, and what must be printed for them: the files
-//! `stdin` and `stdout` in the folder that is named.
+//! `calls` and `answers` in the folder that is named.
 
 use std::path::Path;
 use std::process::ExitCode;
@@ -26,6 +26,6 @@ fn make_calls(folder: &Path) -> io::Result<()> {
     for ((scene, kind), count) in &play.counts {
         println!("{scene:22} {kind:14} {count:6}");
     }
-    fs::write(folder.join("stdin"), &play.input)?;
-    fs::write(folder.join("stdout"), &play.expected)
+    fs::write(folder.join("calls"), &play.input)?;
+    fs::write(folder.join("answers"), &play.expected)
 }
