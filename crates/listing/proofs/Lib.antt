@@ -1,7 +1,3 @@
-pub mod Putting
-pub mod Decimal
-pub mod Keys
-pub mod Answers
 pub mod Cutting
 pub mod Keeping
 pub mod Taking

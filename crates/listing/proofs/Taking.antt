@@ -10,14 +10,14 @@ use lib.ListN.{length, take, drop, length-append, length-take, length-drop, take
 use lib.Seq.{sets, sets-eq, slice, slice-empty, take-all, take-take, take-add, length-take-le, drop-at, drop-drop, drop-append-le, drop-length}
 use borrow.Rule.Slice.PartMut.{midOf, putMid, post-is}
 use Rattle.collation.specs.declared.key.Key.{Key}
-use Rattle.listing.specs.Put.{Put, Written}
-use Rattle.listing.specs.Output.{LineRight, LinePut, printed}
+use Rattle.key_text.specs.Put.{Put, Written}
+use Rattle.printing.specs.Output.{LineRight, LinePut, printed}
 use Rattle.listing.specs.Lines.{Cut, cutFrom, lastLine}
 use Rattle.listing.specs.Taken.{keptLimit, Held, Keeps, EndFound, Prints, none, more, Ready, Printed, Taken, EndReady, EndTaken}
 use Rattle.listing.specs.declared.splitting.Progress.{Progress}
-use Rattle.listing.proofs.Putting.{put-nothing, put-after}
+use Rattle.key_text.proofs.Putting.{put-nothing, put-after}
 use Rattle.listing.proofs.Cutting.{joined, cut-append, still, cut-none, plain-ends}
-use Rattle.listing.proofs.Answers.{line-kept}
+use Rattle.printing.proofs.Answers.{line-kept}
 
 pub prints-append : {number : ℕ} {lines further : List (List ℕ)} {text rest : List ℕ} (next : ℕ) → next ≡ number + length lines
     → Prints number lines text → Prints next further rest → Prints number (lines ++ further) (text ++ rest)
@@ -65,7 +65,7 @@ pub prints-one : (number : ℕ) (line kept : List ℕ) (held : ℕ) (key : Key) 
     → Prints number (line ∷ []) (printed number (key .answer) (key .bytes))
 prints-one number line kept held key h right =
     subst (λ (text : List ℕ). Prints number (line ∷ []) text) (append-nil (printed number (key .answer) (key .bytes)))
-    (more key (line-kept line key (rw (h .bytes) at right)) none)
+    (more key (line-kept keptLimit (omega arith) line key (rw (h .bytes) at right)) none)
 
 -- lines between two places, and lines from there on
 pub printed-more : {line chunk out kept-after out-after kept-last out-last : List ℕ} {start middle last : Progress}

@@ -4,7 +4,7 @@ use mathlib.Core.Path.{_≡_}
 use mathlib.Core.List.{List, [], _++_}
 use Prim.Native.Nat.{ℕ}
 use lib.ListN.{length}
-use Rattle.listing.specs.Put.{Put}
+use Rattle.key_text.specs.Put.{Put}
 use Rattle.listing.specs.Lines.{cutFrom, linesOf}
 use Rattle.listing.specs.Taken.{Held, Prints}
 use Rattle.listing.specs.declared.splitting.Progress.{Progress}

@@ -1,6 +1,3 @@
-pub mod Text
-pub mod Put
-pub mod Output
 pub mod Lines
 pub mod Taken
 pub mod Running

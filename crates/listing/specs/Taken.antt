@@ -7,8 +7,8 @@ use lib.ListN.{length, take, getD}
 use lib.Seq.{slice}
 use Rattle.formula.specs.Limits.{lineLimit}
 use Rattle.collation.specs.declared.key.Key.{Key}
-use Rattle.listing.specs.Put.{Put}
-use Rattle.listing.specs.Output.{LineRight, printed}
+use Rattle.key_text.specs.Put.{Put}
+use Rattle.printing.specs.Output.{LineRight, printed}
 use Rattle.listing.specs.Lines.{Cut, cutFrom, lastLine}
 use Rattle.listing.specs.declared.splitting.Progress.{Progress}
 

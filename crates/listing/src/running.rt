@@ -1,5 +1,4 @@
 // The running of a list: standard input to standard output, each by 64 KiB.
-use crate::answer::ROOM;
 use crate::splitting::KEPT;
 use crate::splitting::Progress;
 use crate::splitting::end_lines;
@@ -7,6 +6,7 @@ use crate::splitting::take_lines;
 use libc::EINTR;
 use libc::STDIN_FILENO;
 use libc::STDOUT_FILENO;
+use printing::ROOM;
 ghost use lib.ListN.{length};
 ghost use Rattle.listing.specs.Taken.{EndReady};
 ghost use Rattle.listing.specs.Running.{InputWithin, PassReady, PassedWithin};

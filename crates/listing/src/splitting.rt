@@ -1,6 +1,6 @@
 // A chunk of input to lines. A line may begin in one chunk and end in another, so its first bytes are kept beside the chunk.
-use crate::answer::ROOM;
-use crate::answer::put_line;
+use printing::ROOM;
+use printing::put_line;
 ghost use Prim.Native.Nat.{_≤_};
 ghost use lib.ListN.{length};
 ghost use Rattle.listing.specs.Taken.{keptLimit, EndFound, Keeps, Ready, Taken, EndReady, EndTaken};

@@ -1,0 +1,81 @@
+// Numbers, keys and single bytes as text, written into a lent list at a place. Each function answers the place behind what it wrote.
+ghost use Prim.Native.Nat.{_+_, _≤_, _<_};
+ghost use mathlib.Core.Path.{_≡_};
+ghost use mathlib.Core.List.{[], _∷_};
+ghost use lib.ListN.{length};
+ghost use Rattle.formula.specs.Limits.{limit};
+ghost use Rattle.key_text.specs.Text.{digitOf, decimalOf, hexadecimalOf, syllableText, keyText};
+ghost use Rattle.key_text.specs.Put.{Put};
+
+// One byte.
+pub fn put(out: &mut [u8], at: usize, byte: u8) -> usize
+    requires { ⌜ at < length (now out) ⌝ }
+    ensures { λ r. ⌜ Put (now (out .entry)) at (byte ∷ []) (now (out .exit)) r ⌝ }
+{
+    out[at] = byte;
+    at + 1
+}
+
+// The byte of a digit below 16, in upper case.
+fn digit(value: u8) -> u8
+    requires { ⌜ value < 16 ⌝ }
+    ensures { λ r. ⌜ r ≡ digitOf value ⌝ }
+{
+    if value < 10 {
+        b'0' + value
+    } else {
+        b'A' + (value - 10)
+    }
+}
+
+// A number in decimal, without leading zeros.
+pub fn put_decimal(out: &mut [u8], at: usize, number: u64) -> usize
+    requires { ⌜ at + 20 ≤ length (now out) ⌝ }
+    ensures { λ r. ⌜ Put (now (out .entry)) at (decimalOf number) (now (out .exit)) r ⌝ }
+{
+    if number < 10 {
+        return put(out, at, digit(number as u8));
+    }
+    let next = put_decimal(out, at, number / 10);
+    put(out, next, digit((number % 10) as u8))
+}
+
+// A byte as two hexadecimal digits.
+fn put_hexadecimal(out: &mut [u8], at: usize, byte: u8) -> usize
+    requires { ⌜ at + 2 ≤ length (now out) ⌝ }
+    ensures { λ r. ⌜ Put (now (out .entry)) at (hexadecimalOf byte) (now (out .exit)) r ⌝ }
+{
+    let next = put(out, at, digit(byte / 16));
+    put(out, next, digit(byte % 16))
+}
+
+// The five weights of a syllable of a key.
+fn put_syllable(out: &mut [u8], at: usize, key: &[u8; 320], syllable: usize) -> usize
+    requires { ⌜ (at + 10 ≤ length (now out)) × (syllable < limit) ⌝ }
+    ensures { λ r. ⌜ Put (now (out .entry)) at (syllableText (now (key .entry)) syllable) (now (out .exit)) r ⌝ }
+{
+    let first = 5 * syllable;
+    let head = put_hexadecimal(out, at, key[first]);
+    let medial = put_hexadecimal(out, head, key[first + 1]);
+    let last = put_hexadecimal(out, medial, key[first + 2]);
+    let vowel = put_hexadecimal(out, last, key[first + 3]);
+    put_hexadecimal(out, vowel, key[first + 4])
+}
+
+// A key of `count` syllables, with hyphens between them.
+pub fn put_key(out: &mut [u8], at: usize, count: usize, key: &[u8; 320]) -> usize
+    requires { ⌜ (at + 704 ≤ length (now out)) × (count ≤ limit) ⌝ }
+    ensures { λ r. ⌜ Put (now (out .entry)) at (keyText count (now (key .entry))) (now (out .exit)) r ⌝ }
+{
+    if count == 0 {
+        return put(out, at, b'-');
+    }
+    let mut next = put_syllable(out, at, key, 0);
+    let mut done = 1;
+    while done < count {
+        next = put(out, next, b'-');
+        next = put_syllable(out, next, key, done);
+        done += 1;
+    }
+    next
+}

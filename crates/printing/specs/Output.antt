@@ -1,0 +1,63 @@
+-- Document 01, "The program `wordlist`": what is printed for a line.
+-- Assumes nothing.
+use mathlib.Core.Path.{_≡_}
+use mathlib.Core.List.{List, [], _∷_, _++_}
+use Prim.Native.Nat.{ℕ, _≤_}
+use lib.ListN.{take}
+use Rattle.formula.specs.Limits.{limit}
+use Rattle.weighing.specs.Keys.{keyLimit, zeros}
+use Rattle.lines.specs.Line.{decodedOf}
+use Rattle.lines.specs.declared.LineAnswer.{LineAnswer}
+use Rattle.lines.specs.declared.LineAnswer.the-variants.{Values, Refused as LineRefused}
+use Rattle.lines.specs.declared.Decoded.{Decoded}
+use Rattle.refusals.specs.Refusal.{numberOf, placeOf}
+use Rattle.refusals.specs.declared.Refusal.{Refusal}
+use Rattle.refusals.specs.declared.Refusal.the-variants.{NoSuchRow}
+use Rattle.reading.specs.declared.read.ReadAnswer.{ReadAnswer}
+use Rattle.reading.specs.declared.read.ReadAnswer.the-variants.{Syllables, Refused}
+use Rattle.collation.specs.Keyed.{KeyRight}
+use Rattle.collation.specs.declared.key.Key.{Key}
+use Rattle.key_text.specs.Text.{decimalOf, keyText}
+use Rattle.key_text.specs.Put.{Written}
+
+-- the refusal of an answer; one that is none is never asked for it
+abbrev pub refusalIn : ReadAnswer → Refusal
+refusalIn (Refused refusal) = refusal
+refusalIn (Syllables count) = NoSuchRow
+
+-- "OK, syllable count, key"
+unfoldable pub acceptedText : ℕ → List ℕ → List ℕ
+acceptedText count key = (0x4F ∷ 0x4B ∷ 0x20 ∷ decimalOf count) ++ (0x20 ∷ keyText count key)
+
+-- "NO, refusal number, place"
+unfoldable pub refusedText : Refusal → List ℕ
+refusedText refusal = (0x4E ∷ 0x4F ∷ 0x20 ∷ decimalOf (numberOf refusal)) ++ (0x20 ∷ decimalOf (placeOf refusal))
+
+abbrev pub answerText : ReadAnswer → List ℕ → List ℕ
+answerText (Syllables count) key = acceptedText count key
+answerText (Refused refusal) key = refusedText refusal
+
+-- "with one space between fields and 0A at the end: line number from 1", and then the answer
+unfoldable pub printed : ℕ → ReadAnswer → List ℕ → List ℕ
+printed number answer key = decimalOf number ++ (0x20 ∷ answerText answer key) ++ (0x0A ∷ [])
+
+-- the answers that a line has: no word has more syllables than values
+abbrev pub Printable : ReadAnswer → Type 0
+Printable (Syllables count) = count ≤ limit
+Printable (Refused refusal) = Unit {0}
+
+-- the key of a line as decoded: that of its values, or all zeros with the refusal of the line
+abbrev pub KeyOfDecoded : Decoded → LineAnswer → Key → Type 0
+KeyOfDecoded decoded Values key = KeyRight (take (decoded .word .count) (decoded .word .values)) key
+KeyOfDecoded decoded (LineRefused refusal) key = (key .answer ≡ Refused refusal) × (key .bytes ≡ zeros keyLimit)
+
+-- the promise of an answer to a line
+pub record LineRight (line : List ℕ) (key : Key) : Type 0 where
+  pub right : KeyOfDecoded (decodedOf line) (decodedOf line .answer) key
+  pub printable : Printable (key .answer)
+
+-- the promise of what is printed for a line
+pub record LinePut (before : List ℕ) (number : ℕ) (line : List ℕ) (after : List ℕ) (used : ℕ) : Type 0 where
+  pub key : Key
+  pub right : LineRight line key
+  pub written : Written before (printed number (key .answer) (key .bytes)) after used

@@ -1,0 +1,100 @@
+// What is printed for a line: its number, and the key of its word or why it is refused.
+use collation::key::Key;
+use collation::key::key_of;
+use key_text::put;
+use key_text::put_decimal;
+use key_text::put_key;
+use lines::LineAnswer;
+use lines::decode;
+use reading::read::ReadAnswer;
+use refusals::Refusal;
+ghost use Prim.Native.Nat.{_+_, _≤_};
+ghost use mathlib.Core.Path.{_≡_};
+ghost use lib.ListN.{length};
+ghost use Rattle.formula.specs.Limits.{limit};
+ghost use Rattle.printing.specs.Output.{refusalIn, acceptedText, refusedText, Printable, printed};
+ghost use Rattle.printing.specs.Output.{LineRight, LinePut};
+ghost use Rattle.key_text.specs.Put.{PutWithin, Written};
+
+// The most bytes that are printed for a line, rounded up.
+pub const ROOM: usize = 1024;
+
+// The key of the word of a line, or why the line or the word is refused.
+pub fn answer_line(line: &[u8]) -> Key
+    ensures { λ r. ⌜ LineRight (now (line .entry)) r ⌝ }
+{
+    let decoded = decode(line);
+    let answer = decoded.answer;
+    if let LineAnswer::Refused(refusal) = answer {
+        return Key {
+            answer: ReadAnswer::Refused(refusal),
+            bytes: [0; 320],
+        };
+    }
+    let word = decoded.word;
+    let values = word.values;
+    let count = word.count;
+    key_of(&values[..count])
+}
+
+// The refusal of an answer that is one.
+fn refusal_in(answer: ReadAnswer) -> Refusal
+    ensures { λ r. ⌜ r ≡ refusalIn answer ⌝ }
+{
+    match answer {
+        ReadAnswer::Refused(refusal) => refusal,
+        ReadAnswer::Syllables(_) => Refusal::NoSuchRow,
+    }
+}
+
+// What follows the number of an accepted line.
+fn put_accepted(out: &mut [u8], at: usize, count: usize, key: &[u8; 320]) -> usize
+    requires { ⌜ (at + 800 ≤ length (now out)) × (count ≤ limit) ⌝ }
+    ensures { λ r. ⌜ PutWithin 800 (now (out .entry)) at (acceptedText count (now (key .entry))) (now (out .exit)) r ⌝ }
+{
+    let first = put(out, at, b'O');
+    let second = put(out, first, b'K');
+    let third = put(out, second, b' ');
+    let counted = put_decimal(out, third, count as u64);
+    let spaced = put(out, counted, b' ');
+    put_key(out, spaced, count, key)
+}
+
+// What follows the number of a refused line.
+fn put_refused(out: &mut [u8], at: usize, refusal: Refusal) -> usize
+    requires { ⌜ at + 800 ≤ length (now out) ⌝ }
+    ensures { λ r. ⌜ PutWithin 800 (now (out .entry)) at (refusedText refusal) (now (out .exit)) r ⌝ }
+{
+    let first = put(out, at, b'N');
+    let second = put(out, first, b'O');
+    let third = put(out, second, b' ');
+    let numbered = put_decimal(out, third, refusal.number() as u64);
+    let spaced = put(out, numbered, b' ');
+    put_decimal(out, spaced, refusal.place() as u64)
+}
+
+// Writes what is printed for a line of this number and this answer to the front of the output, and answers how many bytes that is.
+fn put_answer(out: &mut [u8], number: u64, answer: ReadAnswer, key: &[u8; 320]) -> usize
+    requires { ⌜ (1024 ≤ length (now out)) × Printable answer ⌝ }
+    ensures { λ r. ⌜ Written (now (out .entry)) (printed number answer (now (key .entry))) (now (out .exit)) r ⌝ }
+{
+    let numbered = put_decimal(out, 0, number);
+    let spaced = put(out, numbered, b' ');
+    let ReadAnswer::Syllables(count) = answer else {
+        let refused = put_refused(out, spaced, refusal_in(answer));
+        return put(out, refused, b'\n');
+    };
+    let accepted = put_accepted(out, spaced, count, key);
+    put(out, accepted, b'\n')
+}
+
+// The same for the line itself.
+pub fn put_line(out: &mut [u8], number: u64, line: &[u8]) -> usize
+    requires { ⌜ 1024 ≤ length (now out) ⌝ }
+    ensures { λ r. ⌜ LinePut (now (out .entry)) number (now (line .entry)) (now (out .exit)) r ⌝ }
+{
+    let key = answer_line(line);
+    let answer = key.answer;
+    let bytes = key.bytes;
+    put_answer(out, number, answer, &bytes)
+}
