@@ -2,16 +2,20 @@
 -- Assumes nothing.
 use mathlib.Core.Path.{_≡_, refl, sym, ap, _∙_}
 use mathlib.Core.List.{List, [], _∷_, _++_}
-use Prim.Native.Nat.{ℕ, _+_}
+use Prim.Native.Nat.{ℕ, _+_, _≤_}
+use native.Mathlib.Nat.{zero-add}
 use native.Mathlib.Omega.{arith}
-use lib.ListN.{length, length-append}
-use lib.Seq.{slice}
-use Rattle.listing.specs.Lines.{Cut, cutFrom, linesOf, lastLine}
-use Rattle.listing.specs.Taken.{Held, Prints, none, Taken, EndTaken}
-use Rattle.listing.specs.Following.{Follows, Goes, Comes}
+use lib.ListN.{length, take, drop, length-append}
+use lib.Seq.{sets-eq, slice}
+use Rattle.key_text.specs.Put.{Put, Written}
+use Rattle.key_text.proofs.Putting.{put-nothing}
+use Rattle.printing.specs.Output.{LinePut, printed}
+use Rattle.listing.specs.Lines.{cutFrom, lastLine}
+use Rattle.listing.specs.Taken.{Held, none, Taken}
+use Rattle.listing.specs.Following.{Follows, Goes, Comes, Passes}
 use Rattle.listing.specs.declared.splitting.Progress.{Progress}
 use Rattle.listing.proofs.Cutting.{joined, cut-append, cut-none}
-use Rattle.listing.proofs.Taking.{prints-append}
+use Rattle.listing.proofs.Taking.{prints-append, prints-one}
 
 -- before the first byte
 pub follows-none : (kept : List ℕ) → Follows [] kept 0 0 []
@@ -21,7 +25,7 @@ follows-none kept = record {
   open-line = rw (cut-none []) (record { count = refl; bytes = refl });
 }
 
--- a piece that `take_lines` took
+-- a piece whose lines were taken
 pub follows-more : {bytes text chunk kept out kept-after out-after : List ℕ} {progress after : Progress}
     → Follows bytes kept (progress .kept) (progress .number) text → Taken chunk kept out progress kept-after out-after after
     → Goes bytes (slice (progress .at) (after .at) chunk) text out (progress .used) kept-after out-after after
@@ -38,14 +42,55 @@ follows-more {bytes} {text} {chunk} {kept} {out} {kept-after} {out-after} {progr
       };
     }
 
--- the end that `end_lines` took
-pub follows-end : {bytes text kept out out-after : List ℕ} {progress : Progress} {used : ℕ}
-    → Follows bytes kept (progress .kept) (progress .number) text → EndTaken kept out progress out-after used
-    → Comes bytes text out (progress .used) out-after used
-follows-end {bytes} {text} {kept} {out} {out-after} {progress} {used} f taken =
-    let p = taken .ended (cutFrom [] bytes .open-line) (f .open-line) in
+pub taken-passes : {chunk kept out kept-after out-after : List ℕ} {progress after : Progress} → Taken chunk kept out progress kept-after out-after after
+    → Passes chunk kept out progress kept-after out-after after
+taken-passes {chunk} {kept} {out} {kept-after} {out-after} {progress} {after} taken = record {
+  further = taken .further;
+  within = taken .within;
+  fits = taken .fits;
+  room = taken .room;
+  fewer = taken .fewer;
+  goes = λ bytes text f. follows-more f taken;
+}
+
+-- the line that is open at the end of an input has a byte where one is kept
+last-none : (kept line : List ℕ) → Held kept 0 line → lastLine line ≡ []
+last-none kept [] h = refl
+last-none kept (byte ∷ line) h = let z : ⊥ = omega (arith, h .count) in absurd z
+
+last-one : (kept line : List ℕ) (held : ℕ) → (held ≡ 0 → ⊥) → Held kept held line → lastLine line ≡ line ∷ []
+last-one kept [] held nonzero h = absurd (nonzero (h .count))
+last-one kept (byte ∷ line) held nonzero h = refl
+
+-- what is written at the front of an output lies in it
+pub written-within : {before text after : List ℕ} {used : ℕ} → length after ≡ length before → Written before text after used → used ≤ length before
+written-within {before} {text} {after} {used} same w =
+    let size : length after ≡ length text + length (drop used before) = ap length (w .written) ∙ length-append text _ in
+    omega (arith, same, size, w .count)
+
+-- and is put there
+written-put : {before text after : List ℕ} {used : ℕ} → length after ≡ length before → Written before text after used → Put before 0 text after used
+written-put {before} {text} {after} {used} same w =
+    let front : used ≡ 0 + length text = w .count ∙ sym (zero-add (length text)) in
     record {
-      last = p .text;
-      put = p .put;
-      prints = prints-append (progress .number + 1) (omega (arith, f .count)) (f .prints) (p .prints);
+      written = w .written ∙ ap (λ (n : ℕ). text ++ drop n before) front ∙ sym (sets-eq text before 0 (rw (← front) (written-within same w)));
+      next = front;
     }
+
+module _ {bytes text kept : List ℕ} {held number : ℕ} (f : Follows bytes kept held number text) (out : List ℕ) where
+  pub comes-none : held ≡ 0 → Comes bytes text out 0 out 0
+  comes-none empty = record {
+    last = [];
+    put = put-nothing out 0;
+    prints = prints-append (number + 1) (omega (arith, f .count)) (f .prints) (rw (last-none kept (cutFrom [] bytes .open-line) (rw empty at (f .open-line))) none);
+  }
+
+  pub comes-line : {out-after : List ℕ} {ready : ℕ} → (held ≡ 0 → ⊥) → length out-after ≡ length out
+      → LinePut out (number + 1) (take held kept) out-after ready → Comes bytes text out 0 out-after ready
+  comes-line {out-after} {ready} nonzero same line-put = record {
+    last = printed (number + 1) (line-put .key .answer) (line-put .key .bytes);
+    put = written-put same (line-put .written);
+    prints =
+        prints-append (number + 1) (omega (arith, f .count)) (f .prints)
+        (rw (last-one kept (cutFrom [] bytes .open-line) held nonzero (f .open-line)) (prints-one (number + 1) (cutFrom [] bytes .open-line) kept held (line-put .key) (f .open-line) (line-put .right)));
+  }

@@ -1,99 +1,136 @@
--- A chunk goes by as its lines are taken: what the next line needs holds whenever the output was written in time.
+-- A chunk goes by as its lines are passed: what the next line needs holds whenever the output was written, and what was printed follows the bytes.
 -- Assumes nothing.
-use mathlib.Core.Path.{_≡_, refl, sym, _∙_}
-use mathlib.Core.List.{List}
+use mathlib.Core.Path.{_≡_, refl, ap, sym, _∙_}
+use mathlib.Core.List.{List, [], _++_, append-assoc, append-nil}
 use Prim.Native.Nat.{ℕ, _+_, _*_, _-_, _≤_, _<_, _^_}
 use native.Mathlib.Omega.{arith}
-use lib.ListN.{length, take}
-use lib.Seq.{length-take-le}
-use Rattle.listing.specs.Taken.{keptLimit, Ready, Taken, EndReady}
-use Rattle.listing.specs.Running.{Between, PassReady, Onward}
+use lib.ListN.{length, take, drop, take-append-drop}
+use lib.Seq.{slice, take-all, take-take, length-take-le}
+use Rattle.listing.specs.Taken.{keptLimit, Ready}
+use Rattle.listing.specs.Following.{Follows, Passes}
+use Rattle.listing.specs.Running.{ChunkReady, Answered, Onward, EndReady}
+use Rattle.listing.specs.declared.splitting.OpenLine.{OpenLine}
 use Rattle.listing.specs.declared.splitting.Progress.{Progress}
 
 -- a chunk's beginning
-abbrev pub opening : Progress → Progress
-opening progress = record { at = 0; kept = progress .kept; number = progress .number; used = progress .used }
+abbrev pub opening : OpenLine → Progress
+opening current = record { at = 0; kept = current .kept; number = current .number; used = 0 }
+
+-- after a write nothing is ready
+abbrev pub emptied : Progress → Progress
+emptied reached = record { at = reached .at; kept = reached .kept; number = reached .number; used = 0 }
+
+answered-none : {bytes text kept : List ℕ} {held number : ℕ} → Follows bytes kept held number text → Answered bytes [] text kept held number
+answered-none {bytes} {text} {kept} {held} {number} f = record { written = []; follows = rw (append-nil, append-nil) f }
+
+take-further : (l : List ℕ) (from to : ℕ) → from ≤ to → take from l ++ slice from to l ≡ take to l
+take-further l from to h = ap (λ (m : List ℕ). m ++ drop from (take to l)) (sym (take-take from to l h)) ∙ take-append-drop from (take to l)
+
+-- one more part of a chunk, whose text was written
+answered-more : {bytes text chunk kept out kept-next out-next : List ℕ} {reached next : Progress} → reached .at ≤ next .at
+    → Answered bytes (take (reached .at) chunk) text kept (reached .kept) (reached .number) → Passes chunk kept out reached kept-next out-next next
+    → Answered bytes (take (next .at) chunk) text kept-next (next .kept) (next .number)
+answered-more {bytes} {text} {chunk} {kept} {out} {kept-next} {out-next} {reached} {next} h a passes =
+    let goes = passes .goes _ _ (a .follows) in
+    record {
+      written = a .written ++ goes .more;
+      follows = rw (append-assoc, append-assoc, take-further chunk (reached .at) (next .at) h) at (goes .follows);
+    }
 
 -- how far a chunk is
 pub record Passing (chunk : List ℕ) (kept : List ℕ) (out : List ℕ) (start : Progress) (kept-now : List ℕ) (out-now : List ℕ) (reached : Progress) : Type 0 where
   pub within : reached .at ≤ length chunk
   pub held : reached .kept ≤ keptLimit
-  pub room : reached .used + 1024 ≤ length out-now
+  pub empty : reached .used ≡ 0
   pub fewer : reached .number ≤ start .number + reached .at
   pub same-kept : length kept-now ≡ length kept
   pub same-out : length out-now ≡ length out
+  pub answered : (bytes text : List ℕ) → Follows bytes kept (start .kept) (start .number) text
+      → Answered bytes (take (reached .at) chunk) text kept-now (reached .kept) (reached .number)
 
-pub passing-none : {chunk kept out : List ℕ} {progress : Progress} → PassReady chunk kept out progress
-    → Passing chunk kept out (opening progress) kept out (opening progress)
-passing-none {chunk} {kept} {out} {progress} ready = record {
+pub passing-none : {chunk kept out : List ℕ} {current : OpenLine} → ChunkReady chunk kept out current
+    → Passing chunk kept out (opening current) kept out (opening current)
+passing-none {chunk} {kept} {out} {current} ready = record {
   within = omega arith;
-  held = ready .between .held;
-  room = ready .between .room;
+  held = ready .held;
+  empty = refl;
   fewer = omega arith;
   same-kept = refl;
   same-out = refl;
+  answered = λ bytes text f. answered-none f;
 }
 
-module _ {chunk kept out kept-now out-now : List ℕ} {progress reached : Progress} (ready : PassReady chunk kept out progress) (p : Passing chunk kept out (opening progress) kept-now out-now reached) where
+module _ {chunk kept out kept-now out-now : List ℕ} {current : OpenLine} {reached : Progress} (ready : ChunkReady chunk kept out current) (p : Passing chunk kept out (opening current) kept-now out-now reached) where
   pub passing-ready : Ready chunk kept-now out-now reached
   passing-ready = record {
     place = p .within;
-    fits = omega (arith, p .same-kept, ready .between .fits);
+    fits = omega (arith, p .same-kept, ready .fits);
     held = p .held;
-    room = p .room;
+    room = omega (arith, p .empty, p .same-out, ready .room);
     numbers = omega (arith, p .fewer, ready .numbers);
   }
 
-  pub passing-more : {kept-next out-next : List ℕ} {next : Progress} (used : ℕ) → Taken chunk kept-now out-now reached kept-next out-next next
-      → length kept-next ≡ length kept-now → length out-next ≡ length out-now → used + 1024 ≤ length out-next
-      → Passing chunk kept out (opening progress) kept-next out-next (record { at = next .at; kept = next .kept; number = next .number; used = used })
-  passing-more {kept-next} {out-next} {next} used taken same-kept same-out room = record {
-    within = taken .within;
-    held = taken .fits;
-    room = room;
-    fewer = omega (arith, taken .fewer, p .fewer);
-    same-kept = same-kept ∙ p .same-kept;
-    same-out = same-out ∙ p .same-out;
-  }
+  pub passing-more : {kept-next out-next : List ℕ} {next : Progress} → Passes chunk kept-now out-now reached kept-next out-next next
+      → reached .at < length chunk → length kept-next ≡ length kept-now → length out-next ≡ length out-now
+      → Passing chunk kept out (opening current) kept-next out-next (emptied next)
+  passing-more {kept-next} {out-next} {next} passes inside same-kept same-out =
+      let further : reached .at < next .at = passes .further inside in
+      record {
+        within = passes .within;
+        held = passes .fits;
+        empty = refl;
+        fewer = omega (arith, passes .fewer, p .fewer);
+        same-kept = same-kept ∙ p .same-kept;
+        same-out = same-out ∙ p .same-out;
+        answered = λ bytes text f. answered-more (omega arith) (p .answered bytes text f) passes;
+      }
 
-  pub passing-whole : Onward chunk out progress reached
-  passing-whole = record {
+  pub passing-whole : length chunk ≤ reached .at → Onward chunk kept current kept-now (record { kept = reached .kept; number = reached .number })
+  passing-whole over = record {
     held = p .held;
-    room = omega (arith, p .room, p .same-out);
     numbers = omega (arith, p .fewer, p .within);
+    answered = λ bytes text f. rw (take-all (reached .at) chunk over) at (p .answered bytes text f);
   }
 
--- between two reads: each of the calls that are left brings no more lines than a chunk has bytes
-pub record Going (chunk : List ℕ) (kept : List ℕ) (out : List ℕ) (progress : Progress) (calls : ℕ) : Type 0 where
+-- between two reads: each of the calls that are left brings no more lines than a chunk has bytes, and what was printed follows the bytes so far
+pub record Going (chunk : List ℕ) (kept : List ℕ) (out : List ℕ) (current : OpenLine) (calls : ℕ) : Type 0 where
   pub chunk-size : 65536 ≡ length chunk
   pub kept-size : 193 ≡ length kept
   pub out-size : 65536 ≡ length out
-  pub held : progress .kept ≤ keptLimit
-  pub room : progress .used + 1024 ≤ length out
-  pub numbers : progress .number + 65536 * calls ≤ 2 ^ 62
+  pub held : current .kept ≤ keptLimit
+  pub numbers : current .number + 65536 * calls ≤ 2 ^ 62
+  pub bytes : List ℕ
+  pub text : List ℕ
+  pub follows : Follows bytes kept (current .kept) (current .number) text
 
-module _ {chunk kept out : List ℕ} {progress : Progress} {calls : ℕ} (going : Going chunk kept out progress calls) where
-  pub going-end : EndReady kept out progress
+module _ {chunk kept out : List ℕ} {current : OpenLine} {calls : ℕ} (going : Going chunk kept out current calls) where
+  pub going-end : EndReady kept out current
   going-end = record {
     fits = omega (arith, going .held, going .kept-size);
-    room = going .room;
+    room = omega (arith, going .out-size);
     numbers = omega (arith, going .numbers);
   }
 
   module _ (chunk-next : List ℕ) (count : ℕ) (same : length chunk-next ≡ length chunk) (within : count ≤ length chunk-next) where
-    pub going-ready : PassReady (take count chunk-next) kept out progress
+    pub going-ready : ChunkReady (take count chunk-next) kept out current
     going-ready = record {
-      between = record { fits = omega (arith, going .kept-size); held = going .held; room = going .room };
+      fits = omega (arith, going .kept-size);
+      held = going .held;
+      room = omega (arith, going .out-size);
       numbers = omega (arith, length-take-le count chunk-next within, going .chunk-size, going .numbers);
     }
 
-    pub going-on : {kept-next out-next : List ℕ} {next : Progress} → 0 < calls → Onward (take count chunk-next) out progress next
+    pub going-on : {kept-next out-next : List ℕ} {next : OpenLine} → 0 < calls → Onward (take count chunk-next) kept current kept-next next
         → length kept-next ≡ length kept → length out-next ≡ length out → Going chunk-next kept-next out-next next (calls - 1)
-    going-on {kept-next} {out-next} {next} left onward same-kept same-out = record {
-      chunk-size = going .chunk-size ∙ sym same;
-      kept-size = going .kept-size ∙ sym same-kept;
-      out-size = going .out-size ∙ sym same-out;
-      held = onward .held;
-      room = omega (arith, onward .room);
-      numbers = omega (arith, onward .numbers, length-take-le count chunk-next within, going .chunk-size, going .numbers);
-    }
+    going-on {kept-next} {out-next} {next} left onward same-kept same-out =
+        let answered = onward .answered (going .bytes) (going .text) (going .follows) in
+        record {
+          chunk-size = going .chunk-size ∙ sym same;
+          kept-size = going .kept-size ∙ sym same-kept;
+          out-size = going .out-size ∙ sym same-out;
+          held = onward .held;
+          numbers = omega (arith, onward .numbers, length-take-le count chunk-next within, going .chunk-size, going .numbers);
+          bytes = going .bytes ++ take count chunk-next;
+          text = going .text ++ answered .written;
+          follows = answered .follows;
+        }

@@ -2,18 +2,17 @@
 -- Assumes nothing.
 use mathlib.Core.Path.{_≡_, refl, ap, sym, subst, _∙_}
 use mathlib.Core.List.{List, [], _∷_, _++_, append-assoc, append-nil}
-use Prim.Native.Nat.{ℕ, suc, _+_, _-_, _≤_, _<_}
+use Prim.Native.Nat.{ℕ, _+_, _-_, _≤_, _<_}
 use native.Mathlib.Nat.{add-zero}
 use native.Mathlib.Decide.{decLt}
 use native.Mathlib.Omega.{arith}
 use lib.ListN.{length, take, drop, length-append, length-take, length-drop, take-append-drop}
-use lib.Seq.{sets, sets-eq, slice, slice-empty, take-all, take-take, take-add, length-take-le, drop-at, drop-drop, drop-append-le, drop-length}
+use lib.Seq.{sets-eq, slice, slice-empty, take-all, take-take, take-add, length-take-le, drop-at, drop-drop, drop-append-le, drop-length}
 use borrow.Rule.Slice.PartMut.{midOf, putMid, post-is}
 use Rattle.collation.specs.declared.key.Key.{Key}
 use Rattle.key_text.specs.Put.{Put, Written}
 use Rattle.printing.specs.Output.{LineRight, LinePut, printed}
-use Rattle.listing.specs.Lines.{Cut, cutFrom, lastLine}
-use Rattle.listing.specs.Taken.{keptLimit, Held, Keeps, EndFound, Prints, none, more, Ready, Printed, Taken, EndReady, EndTaken}
+use Rattle.listing.specs.Taken.{keptLimit, Held, Keeps, EndFound, Prints, none, more, Ready, Printed, Taken}
 use Rattle.listing.specs.declared.splitting.Progress.{Progress}
 use Rattle.key_text.proofs.Putting.{put-nothing, put-after}
 use Rattle.listing.proofs.Cutting.{joined, cut-append, still, cut-none, plain-ends}
@@ -209,35 +208,3 @@ module _ {chunk kept out kept-after out-after : List ℕ} {start reached : Progr
           let e : reached .at ≡ start .at = omega (arith, a .forward) in
           let z : ⊥ = omega (arith, a .moved e, full (omega arith), a .same-out, ready .room) in
           absurd z
-
--- the line that is open at the end of an input
-last-none : (kept line : List ℕ) → Held kept 0 line → lastLine line ≡ []
-last-none kept [] h = refl
-last-none kept (byte ∷ line) h = let z : ⊥ = omega (arith, h .count) in absurd z
-
-last-one : (kept line : List ℕ) (held : ℕ) → (held ≡ 0 → ⊥) → Held kept held line → lastLine line ≡ line ∷ []
-last-one kept [] held nonzero h = absurd (nonzero (h .count))
-last-one kept (byte ∷ line) held nonzero h = refl
-
-pub ended-none : (kept out : List ℕ) (progress : Progress) → EndReady kept out progress → progress .kept ≡ 0 → EndTaken kept out progress out (progress .used)
-ended-none kept out progress ready empty = record {
-  room = omega (arith, ready .room);
-  ended = λ line l. record {
-    text = [];
-    prints = rw (last-none kept line (rw empty at l)) none;
-    put = put-nothing out (progress .used);
-  };
-}
-
-pub ended-one : (kept out : List ℕ) (progress : Progress) (rest : List ℕ) (count : ℕ) → EndReady kept out progress → (progress .kept ≡ 0 → ⊥)
-    → length rest ≡ length (midOf (progress .used) (length out - progress .used) out)
-    → LinePut (midOf (progress .used) (length out - progress .used) out) (progress .number + 1) (take (progress .kept) kept) rest count
-    → EndTaken kept out progress (putMid (progress .used) (length out - progress .used) out rest) (progress .used + count)
-ended-one kept out progress rest count ready nonzero same line-put = record {
-  room = part-fits out (progress .used) _ rest count (omega (arith, ready .room)) same (line-put .written);
-  ended = λ line l. record {
-    text = printed (progress .number + 1) (line-put .key .answer) (line-put .key .bytes);
-    prints = rw (last-one kept line (progress .kept) nonzero l) (prints-one (progress .number + 1) line kept (progress .kept) (line-put .key) l (line-put .right));
-    put = part-put out (progress .used) _ rest count (omega (arith, ready .room)) same (line-put .written);
-  };
-}

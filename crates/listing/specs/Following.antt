@@ -2,11 +2,12 @@
 -- Assumes nothing.
 use mathlib.Core.Path.{_≡_}
 use mathlib.Core.List.{List, [], _++_}
-use Prim.Native.Nat.{ℕ}
+use Prim.Native.Nat.{ℕ, _+_, _≤_, _<_}
 use lib.ListN.{length}
+use lib.Seq.{slice}
 use Rattle.key_text.specs.Put.{Put}
 use Rattle.listing.specs.Lines.{cutFrom, linesOf}
-use Rattle.listing.specs.Taken.{Held, Prints}
+use Rattle.listing.specs.Taken.{keptLimit, Held, Prints}
 use Rattle.listing.specs.declared.splitting.Progress.{Progress}
 
 -- "line number from 1": the lines that ended are printed, and what is kept is that of the line that is open
@@ -26,3 +27,13 @@ pub record Comes (bytes : List ℕ) (text : List ℕ) (out : List ℕ) (used : �
   pub last : List ℕ
   pub put : Put out used last out-after used-after
   pub prints : Prints 1 (linesOf bytes) (text ++ last)
+
+-- the promise of passing lines of a chunk, whatever came before it
+pub record Passes (chunk : List ℕ) (kept : List ℕ) (out : List ℕ) (progress : Progress) (kept-after : List ℕ) (out-after : List ℕ) (after : Progress) : Type 0 where
+  pub further : progress .at < length chunk → progress .at < after .at
+  pub within : after .at ≤ length chunk
+  pub fits : after .kept ≤ keptLimit
+  pub room : after .used ≤ length out
+  pub fewer : after .number + progress .at ≤ progress .number + after .at
+  pub goes : (bytes text : List ℕ) → Follows bytes kept (progress .kept) (progress .number) text
+      → Goes bytes (slice (progress .at) (after .at) chunk) text out (progress .used) kept-after out-after after

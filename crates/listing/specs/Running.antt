@@ -1,38 +1,87 @@
--- What the running of a list keeps within bounds. Of the bytes that a call reads or writes no contract can speak.
+-- The running of a list: what the answer of a system call means, and the promises of a chunk and of the end of the input. What a read brings and what a
+-- write takes no contract can say: that the bytes of the reads are the input, and the bytes made ready the output, is not promised.
 -- Assumes nothing.
-use Prim.Native.Nat.{ℕ, _+_, _≤_, _<_, _^_}
-use mathlib.Core.List.{List}
+use mathlib.Core.Path.{_≡_}
+use mathlib.Core.List.{List, _++_}
+use Prim.Native.Nat.{ℕ, zero, suc, _+_, _≤_, _<_, _^_}
+use lib.Dec.{eqb}
 use lib.ListN.{length}
+use lib.IntN.{ℤ, pos, negsuc}
+use Rattle.letters.specs.Choice.{pick}
+use Rattle.io.specs.Counts.{clamped}
+use Rattle.libc.specs.Io.{Moved}
 use Rattle.listing.specs.Taken.{keptLimit}
-use Rattle.listing.specs.declared.splitting.Progress.{Progress}
-use Rattle.listing.specs.declared.running.Input.{Input}
-use Rattle.listing.specs.declared.running.Input.the-variants.{Bytes, End, Failed}
+use Rattle.listing.specs.Following.{Follows, Comes}
+use Rattle.listing.specs.declared.splitting.OpenLine.{OpenLine}
+use Rattle.listing.specs.declared.running.Transfer.{Transfer}
+use Rattle.listing.specs.declared.running.Transfer.the-variants.{Bytes, End, Interrupted, Failed}
 use Rattle.listing.specs.declared.running.Passed.{Passed}
 use Rattle.listing.specs.declared.running.Passed.the-variants.{Whole, Stopped}
 
--- a read brings at most as many bytes as the buffer has
-abbrev pub InputWithin : ℕ → Input → Type 0
-InputWithin size (Bytes count) = count ≤ size
-InputWithin size End = Unit {0}
-InputWithin size Failed = Unit {0}
+-- a call that failed: where the error is 4, EINTR, a signal interrupted it
+unfoldable pub failureOf : ℤ → Transfer
+failureOf (pos error) = pick (eqb error 4) Interrupted Failed
+failureOf (negsuc error) = Failed
 
--- between two chunks: the bytes that are kept fit, and the output has room for a line
-pub record Between (kept : List ℕ) (out : List ℕ) (progress : Progress) : Type 0 where
-  pub fits : keptLimit ≤ length kept
-  pub held : progress .kept ≤ keptLimit
-  pub room : progress .used + 1024 ≤ length out
+-- what the answer of a call means: 0 at the end of the input, a number of bytes, or below 0 with an error
+unfoldable pub transferOf : ℤ → ℤ → ℕ → Transfer
+transferOf (pos zero) error size = End
+transferOf (pos (suc count)) error size = Bytes (clamped (pos (suc count)) size)
+transferOf (negsuc answer) error size = failureOf error
+
+-- the promise of a read into a list of this length: what the answer of some read means, and of none that was interrupted
+pub record Reads (size : ℕ) (input : Transfer) : Type 0 where
+  pub answer : ℤ
+  pub error : ℤ
+  pub moved : Moved size answer
+  pub is : input ≡ transferOf answer error size
+  pub whole : input ≡ Interrupted → ⊥
 
 -- what a chunk needs; it has no more lines than bytes
-pub record PassReady (chunk : List ℕ) (kept : List ℕ) (out : List ℕ) (progress : Progress) : Type 0 where
-  pub between : Between kept out progress
-  pub numbers : progress .number + length chunk < 2 ^ 64
+pub record ChunkReady (chunk : List ℕ) (kept : List ℕ) (out : List ℕ) (current : OpenLine) : Type 0 where
+  pub fits : keptLimit ≤ length kept
+  pub held : current .kept ≤ keptLimit
+  pub room : 1024 ≤ length out
+  pub numbers : current .number + length chunk < 2 ^ 64
 
--- after a chunk: what the next one needs
-pub record Onward (chunk : List ℕ) (out : List ℕ) (progress : Progress) (after : Progress) : Type 0 where
+-- one more piece of the input: what is printed for the lines that ended in it goes on with the text
+pub record Answered (bytes : List ℕ) (piece : List ℕ) (text : List ℕ) (kept-after : List ℕ) (held : ℕ) (number : ℕ) : Type 0 where
+  pub written : List ℕ
+  pub follows : Follows (bytes ++ piece) kept-after held number (text ++ written)
+
+-- the promise of a chunk, whatever came before it
+pub record Onward (chunk : List ℕ) (kept : List ℕ) (current : OpenLine) (kept-after : List ℕ) (after : OpenLine) : Type 0 where
   pub held : after .kept ≤ keptLimit
-  pub room : after .used + 1024 ≤ length out
-  pub numbers : after .number ≤ progress .number + length chunk
+  pub numbers : after .number ≤ current .number + length chunk
+  pub answered : (bytes text : List ℕ) → Follows bytes kept (current .kept) (current .number) text
+      → Answered bytes chunk text kept-after (after .kept) (after .number)
 
-abbrev pub PassedWithin : List ℕ → List ℕ → Progress → Passed → Type 0
-PassedWithin chunk out progress (Whole after) = Onward chunk out progress after
-PassedWithin chunk out progress Stopped = Unit {0}
+-- a write that failed ends the run
+abbrev pub Answers : List ℕ → List ℕ → OpenLine → List ℕ → Passed → Type 0
+Answers chunk kept current kept-after (Whole after) = Onward chunk kept current kept-after after
+Answers chunk kept current kept-after Stopped = Unit {0}
+
+-- what the end of an input needs
+pub record EndReady (kept : List ℕ) (out : List ℕ) (current : OpenLine) : Type 0 where
+  pub fits : current .kept ≤ length kept
+  pub room : 1024 ≤ length out
+  pub numbers : current .number + 1 < 2 ^ 64
+
+-- nothing is ready, and the output is as it was
+pub record Silent (out : List ℕ) (out-after : List ℕ) (ready : ℕ) : Type 0 where
+  pub nothing : ready ≡ 0
+  pub same : out-after ≡ out
+
+-- "a last line without it counts if it has a byte": at the end of the input what is ready completes the text of all lines, whatever came before; where a
+-- read failed, nothing is ready
+abbrev pub Finished : Transfer → List ℕ → List ℕ → OpenLine → List ℕ → ℕ → Type 0
+Finished End kept out current out-after ready =
+    (bytes text : List ℕ) → Follows bytes kept (current .kept) (current .number) text → Comes bytes text out 0 out-after ready
+Finished Failed kept out current out-after ready = Silent out out-after ready
+Finished Interrupted kept out current out-after ready = Silent out out-after ready
+Finished (Bytes count) kept out current out-after ready = Silent out out-after ready
+
+-- the promise at the end of an input
+pub record Finishes (input : Transfer) (kept : List ℕ) (out : List ℕ) (current : OpenLine) (out-after : List ℕ) (ready : ℕ) : Type 0 where
+  pub within : ready ≤ length out
+  pub right : Finished input kept out current out-after ready

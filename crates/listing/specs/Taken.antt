@@ -9,7 +9,7 @@ use Rattle.formula.specs.Limits.{lineLimit}
 use Rattle.collation.specs.declared.key.Key.{Key}
 use Rattle.key_text.specs.Put.{Put}
 use Rattle.printing.specs.Output.{LineRight, printed}
-use Rattle.listing.specs.Lines.{Cut, cutFrom, lastLine}
+use Rattle.listing.specs.Lines.{Cut, cutFrom}
 use Rattle.listing.specs.declared.splitting.Progress.{Progress}
 
 -- the most bytes of a line that are kept: one more than the most of a line that is not refused for its length
@@ -66,20 +66,3 @@ pub record Taken (chunk : List ℕ) (kept : List ℕ) (out : List ℕ) (progress
   pub room : progress-after .used ≤ length out
   pub fewer : progress-after .number + progress .at ≤ progress .number + progress-after .at
   pub printed : (line : List ℕ) → Held kept (progress .kept) line → Printed line chunk out progress kept-after out-after progress-after
-
--- what the end of an input needs
-pub record EndReady (kept : List ℕ) (out : List ℕ) (progress : Progress) : Type 0 where
-  pub fits : progress .kept ≤ length kept
-  pub room : progress .used + 1024 ≤ length out
-  pub numbers : progress .number + 1 < 2 ^ 64
-
--- a last line is printed where it "has a byte"
-pub record Ended (line : List ℕ) (out : List ℕ) (progress : Progress) (out-after : List ℕ) (used : ℕ) : Type 0 where
-  pub text : List ℕ
-  pub prints : Prints (progress .number + 1) (lastLine line) text
-  pub put : Put out (progress .used) text out-after used
-
--- the promise at the end of an input, whatever line is open
-pub record EndTaken (kept : List ℕ) (out : List ℕ) (progress : Progress) (out-after : List ℕ) (used : ℕ) : Type 0 where
-  pub room : used ≤ length out
-  pub ended : (line : List ℕ) → Held kept (progress .kept) line → Ended line out progress out-after used

@@ -1,141 +1,154 @@
 // The running of a list: standard input to standard output, each by 64 KiB.
 use crate::splitting::KEPT;
+use crate::splitting::OpenLine;
 use crate::splitting::Progress;
-use crate::splitting::end_lines;
-use crate::splitting::take_lines;
+use crate::splitting::pass_chunk;
 use libc::EINTR;
 use libc::STDIN_FILENO;
 use libc::STDOUT_FILENO;
-use printing::ROOM;
+use printing::put_line;
+ghost use mathlib.Core.Path.{_≡_};
 ghost use lib.ListN.{length};
-ghost use Rattle.listing.specs.Taken.{EndReady};
-ghost use Rattle.listing.specs.Running.{InputWithin, PassReady, PassedWithin};
+ghost use Rattle.listing.specs.Running.{transferOf, Reads, EndReady, Finishes, ChunkReady, Answers};
 
 // A proved loop has to end, and nothing says that the input does. So the loops over calls count down, from a number that no run uses
 // up: at a microsecond a call it lasts two years.
 const CALLS: u64 = 0x4000_0000_0000;
 
-// What a read brought.
-enum Input {
+// What a read or a write did: it moved bytes, met the end of the input (a write: took nothing), was interrupted by a signal, or failed.
+enum Transfer {
     Bytes(usize),
     End,
+    Interrupted,
     Failed,
 }
 
-// How a chunk ended: with all of its lines taken, or with a write that failed.
+// How a chunk ended: with all that was printed for its lines written, or with a write that failed.
 enum Passed {
-    Whole(Progress),
+    Whole(OpenLine),
     Stopped,
 }
 
-// Whether a call failed only because a signal came.
-fn is_interrupted(moved: isize) -> bool {
-    moved < 0 && os::errno() == EINTR
+// What the answer of a read or a write of these bytes means, where the system's error number is as it was left.
+fn transfer_of(answer: isize, error: i32, bytes: &[u8]) -> Transfer
+    ensures { λ r. ⌜ r ≡ transferOf answer error (length (now (bytes .entry))) ⌝ }
+{
+    if answer == 0 {
+        return Transfer::End;
+    }
+    if 0 < answer {
+        return Transfer::Bytes(io::count(answer, bytes));
+    }
+    if error == EINTR {
+        return Transfer::Interrupted;
+    }
+    Transfer::Failed
 }
 
 // Reads once, and again where a signal interrupted the read.
-fn read_chunk(chunk: &mut [u8]) -> Input
-    ensures { λ r. ⌜ InputWithin (length (now (chunk .exit))) r ⌝ }
+fn read_chunk(chunk: &mut [u8]) -> Transfer
+    ensures { λ r. ⌜ Reads (length (now (chunk .exit))) r ⌝ }
 {
     let mut calls = CALLS;
     while 0 < calls {
-        let got = libc::read(STDIN_FILENO, chunk);
-        if 0 < got {
-            return Input::Bytes(io::count(got, chunk));
-        }
-        if got == 0 {
-            return Input::End;
-        }
-        if !is_interrupted(got) {
-            os::fail(b"standard input");
-            return Input::Failed;
-        }
+        let answer = libc::read(STDIN_FILENO, chunk);
+        let input = transfer_of(answer, os::errno(), chunk);
+        let Transfer::Interrupted = input else {
+            if let Transfer::Failed = input {
+                os::fail(b"standard input");
+            }
+            return input;
+        };
         calls -= 1;
     }
-    Input::Failed
+    Transfer::Failed
 }
 
 // Writes all bytes, going on where a write took only some of them. False where a write failed.
 fn write_whole(bytes: &[u8]) -> bool {
     let mut calls = CALLS;
     let mut done = 0;
-    while done < bytes.len() {
-        if calls == 0 {
-            return false;
+    while done < bytes.len() && 0 < calls {
+        let rest = &bytes[done..];
+        let answer = libc::write(STDOUT_FILENO, rest);
+        match transfer_of(answer, os::errno(), rest) {
+            Transfer::Bytes(count) => done += count,
+            Transfer::Interrupted => {}
+            Transfer::End | Transfer::Failed => {
+                os::fail(b"standard output");
+                return false;
+            }
         }
         calls -= 1;
-        let rest = &bytes[done..];
-        let moved = libc::write(STDOUT_FILENO, rest);
-        let count = io::count(moved, rest);
-        if count == 0 && !is_interrupted(moved) {
-            os::fail(b"standard output");
-            return false;
-        }
-        done += count;
     }
-    true
+    done == bytes.len()
 }
 
-// Takes the lines of a chunk, and writes the output whenever it has no room for one more.
-fn pass_chunk(chunk: &[u8], line: &mut [u8], out: &mut [u8], progress: Progress) -> Passed
-    requires { ⌜ PassReady (now chunk) (now line) (now out) progress ⌝ }
-    ensures { λ r. ⌜ PassedWithin (now (chunk .entry)) (now (out .entry)) progress r ⌝ }
+// Takes all lines of a chunk, and writes what is printed for them.
+fn answer_chunk(chunk: &[u8], line: &mut [u8], out: &mut [u8], current: OpenLine) -> Passed
+    requires { ⌜ ChunkReady (now chunk) (now line) (now out) current ⌝ }
+    ensures { λ r. ⌜ Answers (now (chunk .entry)) (now (line .entry)) current (now (line .exit)) r ⌝ }
 {
     let mut reached = Progress {
         at: 0,
-        kept: progress.kept,
-        number: progress.number,
-        used: progress.used,
+        kept: current.kept,
+        number: current.number,
+        used: 0,
     };
     while reached.at < chunk.len() {
-        reached = take_lines(chunk, line, out, reached);
+        reached = pass_chunk(chunk, line, out, reached);
         let used = reached.used;
-        if out.len() - used < ROOM {
-            if !write_whole(&out[..used]) {
-                return Passed::Stopped;
-            }
-            reached.used = 0;
+        if !write_whole(&out[..used]) {
+            return Passed::Stopped;
         }
+        reached.used = 0;
     }
-    Passed::Whole(reached)
+    Passed::Whole(OpenLine {
+        kept: reached.kept,
+        number: reached.number,
+    })
 }
 
-// Writes what is left when the input is over. A line that a failed read broke off is not printed.
-fn finish(input: Input, line: &[u8], out: &mut [u8], progress: Progress)
-    requires { ⌜ EndReady (now line) (now out) progress ⌝ }
+// Prints the open line at the end of the input, where it has a byte, and answers how many bytes are ready to be written. A line that a
+// failed read broke off is not printed.
+fn finish(input: Transfer, line: &[u8], out: &mut [u8], current: OpenLine) -> usize
+    requires { ⌜ EndReady (now line) (now out) current ⌝ }
+    ensures { λ r. ⌜ Finishes input (now (line .entry)) (now (out .entry)) current (now (out .exit)) r ⌝ }
 {
-    let used = progress.used;
-    let Input::End = input else {
-        write_whole(&out[..used]);
-        return;
+    let kept = current.kept;
+    let Transfer::End = input else {
+        return 0;
     };
-    let ended = end_lines(line, out, progress);
-    write_whole(&out[..ended]);
+    if kept == 0 {
+        return 0;
+    }
+    put_line(out, current.number + 1, &line[..kept])
 }
 
-// Runs a list to its end.
+// Runs a list to its end. What is printed for the lines of a chunk is written before the next read, so that at a terminal and at the
+// other end of a pipe each line is answered at once.
+//
+// What has no promise are the two system calls, since no contract can say what a read brings or a write takes: that the bytes of the
+// reads are those that are passed on, and the bytes made ready those that are written, is to be read here, in `answer_chunk`, in
+// `read_chunk` and in `write_whole`.
 pub fn run() {
     let mut chunk = io::large_buffer();
     let mut line = [0; KEPT];
     let mut out = io::large_buffer();
-    let mut progress = Progress {
-        at: 0,
-        kept: 0,
-        number: 0,
-        used: 0,
-    };
+    let mut current = OpenLine { kept: 0, number: 0 };
     let mut calls = CALLS;
     while 0 < calls {
         let input = read_chunk(&mut chunk);
-        let Input::Bytes(count) = input else {
-            finish(input, &line, &mut out, progress);
+        let Transfer::Bytes(count) = input else {
+            let ready = finish(input, &line, &mut out, current);
+            write_whole(&out[..ready]);
             return;
         };
-        let passed = pass_chunk(&chunk[..count], &mut line, &mut out, progress);
+        let passed = answer_chunk(&chunk[..count], &mut line, &mut out, current);
         let Passed::Whole(next) = passed else {
             return;
         };
-        progress = next;
+        current = next;
         calls -= 1;
     }
 }

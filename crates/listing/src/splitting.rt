@@ -3,13 +3,21 @@ use printing::ROOM;
 use printing::put_line;
 ghost use Prim.Native.Nat.{_≤_};
 ghost use lib.ListN.{length};
-ghost use Rattle.listing.specs.Taken.{keptLimit, EndFound, Keeps, Ready, Taken, EndReady, EndTaken};
+ghost use Rattle.listing.specs.Taken.{keptLimit, EndFound, Keeps, Ready, Taken};
+ghost use Rattle.listing.specs.Following.{Passes};
 
 // The most bytes of a line that are kept: one more than the most of a line that is not refused for its length.
 pub const KEPT: usize = 193;
 
-// How far a list is: the place in the chunk, how many bytes of the open line are kept, the number of the last line that ended, and
-// how many bytes of the output are used.
+// The line that is open between two reads: how many of its bytes are kept, and the number of the last line that ended. All that was
+// printed is written by then, so nothing here counts it.
+pub struct OpenLine {
+    pub kept: usize,
+    pub number: u64,
+}
+
+// How far a chunk is: the place in it, how many bytes of the open line are kept, the number of the last line that ended, and how many
+// bytes of the output are used.
 pub struct Progress {
     pub at: usize,
     pub kept: usize,
@@ -74,33 +82,19 @@ fn take_line(chunk: &[u8], line: &mut [u8], out: &mut [u8], progress: Progress) 
     }
 }
 
-// Takes lines until the chunk is used up or the output has no room for one more.
-pub(crate) fn take_lines(
+// Takes lines from a place of the chunk until the chunk is used up or the output has no room for one more.
+pub(crate) fn pass_chunk(
     chunk: &[u8],
     line: &mut [u8],
     out: &mut [u8],
     progress: Progress,
 ) -> Progress
     requires { ⌜ Ready (now chunk) (now line) (now out) progress ⌝ }
-    ensures { λ r. ⌜ Taken (now (chunk .entry)) (now (line .entry)) (now (out .entry)) progress (now (line .exit)) (now (out .exit)) r ⌝ }
+    ensures { λ r. ⌜ Passes (now (chunk .entry)) (now (line .entry)) (now (out .entry)) progress (now (line .exit)) (now (out .exit)) r ⌝ }
 {
     let mut reached = progress;
     while reached.at < chunk.len() && reached.used + ROOM <= out.len() {
         reached = take_line(chunk, line, out, reached);
     }
     reached
-}
-
-// Prints the open line at the end of a list, where it has a byte.
-pub(crate) fn end_lines(line: &[u8], out: &mut [u8], progress: Progress) -> usize
-    requires { ⌜ EndReady (now line) (now out) progress ⌝ }
-    ensures { λ r. ⌜ EndTaken (now (line .entry)) (now (out .entry)) progress (now (out .exit)) r ⌝ }
-{
-    let used = progress.used;
-    let kept = progress.kept;
-    if kept == 0 {
-        return used;
-    }
-    let printed = put_line(&mut out[used..], progress.number + 1, &line[..kept]);
-    used + printed
 }

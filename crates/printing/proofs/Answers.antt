@@ -1,9 +1,9 @@
 -- What is printed for a line is its fields one behind the other; what a line is answered goes by its decoding.
 -- Assumes nothing.
-use mathlib.Core.Path.{_≡_, refl, ap, sym, _∙_}
+use mathlib.Core.Path.{_≡_, refl}
 use mathlib.Core.Bool.{Bool, true, false}
 use mathlib.Core.List.{List, [], _∷_, _++_}
-use Prim.Native.Nat.{ℕ, zero, suc, _+_, _≤_, _<_, _^_}
+use Prim.Native.Nat.{ℕ, _≤_, _<_, _^_}
 use native.Mathlib.Omega.{arith}
 use native.Mathlib.Decide.{decLe}
 use lib.Dec.{leb}
@@ -28,7 +28,7 @@ use Rattle.collation.specs.Keyed.{KeyRight}
 use Rattle.collation.specs.declared.key.Key.{Key}
 use Rattle.key_text.specs.Text.{decimalOf}
 use Rattle.key_text.specs.Put.{Put, PutWithin, Written}
-use Rattle.printing.specs.Output.{answerText, printed, Printable, KeyOfDecoded, LineRight}
+use Rattle.printing.specs.Output.{answerText, printed, Printable, LineRight}
 use Rattle.key_text.proofs.Putting.{put-after, put-front}
 use Rattle.key_text.proofs.Decimal.{decimal-short}
 

@@ -1,6 +1,5 @@
 -- `printing::answer_line` meets its contract: it answers the refusal of the decoding, or the key of its values.
 -- Assumes nothing.
-use native.Mathlib.Omega.{arith}
 use mathlib.Core.Path.{sym}
 use denote.Ref.{now}
 use lib.Seq.{length-take-le}

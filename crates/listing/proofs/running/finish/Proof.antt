@@ -1,61 +1,53 @@
--- `listing::running::finish` is safe and ends: what is written lies in the output.
+-- `listing::running::finish` meets its contract: at the end of the input a line is open with a byte exactly where a byte is kept.
 -- Assumes nothing.
-use mathlib.Core.Path.{sym}
 use native.Mathlib.Omega.{arith}
+use mathlib.Core.Path.{sym}
 use lib.Seq.{length-take-le}
 use borrow.Author.Needs.{needs}
+use Rattle.listing.proofs.Following.{written-within, comes-none, comes-line}
+use Rattle.listing.proofs.running.Transfers.{finished-other}
 use Rattle.listing.proofs.running.finish.Statement.{statement}
 use Rattle.listing.proofs.running.finish.Tie as tie
 
 enum-told : tie.Need-enum-told
 enum-told c = search needs
 
-slice-reshare-prefix-write-whole : tie.Need-slice-reshare-prefix-write-whole
-slice-reshare-prefix-write-whole c = search needs
+returns : tie.Need-returns
+returns c = finished-other _ _ _ (c .match .keys2)
 
-slice-aggregate-write-whole : tie.Need-slice-aggregate-write-whole
-slice-aggregate-write-whole c = sym (length-take-le _ _ (omega (arith, c .before .before .before .before .pre .room)))
+returns-2 : tie.Need-returns-2
+returns-2 c =
+    rw (c .before .enum-told .given .1) (record { within = omega arith; right = λ bytes text f. comes-none f _ (c .if1 .taken) })
 
-write-whole-requires : tie.Need-write-whole-requires
-write-whole-requires c κs = search needs
+add-put-line : tie.Need-add-put-line
+add-put-line c = search needs
+
+slice-aggregate-put-line : tie.Need-slice-aggregate-put-line
+slice-aggregate-put-line c = sym (length-take-le _ _ (c .before .before .before .before .before .before .before .before .pre .fits))
+
+put-line-requires : tie.Need-put-line-requires
+put-line-requires c κs = search needs
 
 same-length : tie.Need-same-length
 same-length c = search needs
 
-returns : tie.Need-returns
-returns c = search needs
-
-end-lines-requires : tie.Need-end-lines-requires
-end-lines-requires c κs = search needs
-
-slice-reshare-prefix-write-whole-2 : tie.Need-slice-reshare-prefix-write-whole-2
-slice-reshare-prefix-write-whole-2 c = search needs
-
-slice-aggregate-write-whole-2 : tie.Need-slice-aggregate-write-whole-2
-slice-aggregate-write-whole-2 c = sym (length-take-le _ _ (omega (arith, c .before .before .before .end-lines .ensures .room, c .before .before .before .end-lines .kept .1 .0)))
-
-write-whole-requires-2 : tie.Need-write-whole-requires-2
-write-whole-requires-2 c κs = search needs
-
-same-length-2 : tie.Need-same-length-2
-same-length-2 c = search needs
-
-returns-2 : tie.Need-returns-2
-returns-2 c = search needs
+returns-3 : tie.Need-returns-3
+returns-3 c =
+    rw (c .before .before .before .before .before .before .before .enum-told .given .1)
+    (record {
+      within = written-within (c .before .before .put-line .kept .0) (c .before .before .put-line .ensures .written);
+      right = λ bytes text f. comes-line f _ (c .before .before .before .before .before .before .if1 .left) (c .before .before .put-line .kept .0) (c .before .before .put-line .ensures);
+    })
 
 pub finish-spec : {M : Type 1} → statement M
 finish-spec =
     tie.close
     (tie.spec
     enum-told
-    slice-reshare-prefix-write-whole
-    slice-aggregate-write-whole
-    write-whole-requires
-    same-length
     returns
-    end-lines-requires
-    slice-reshare-prefix-write-whole-2
-    slice-aggregate-write-whole-2
-    write-whole-requires-2
-    same-length-2
-    returns-2)
+    returns-2
+    add-put-line
+    slice-aggregate-put-line
+    put-line-requires
+    same-length
+    returns-3)

@@ -1,18 +1,23 @@
--- `listing::running::run` is safe and ends. The loop's invariant is `Going`: the line numbers do not run out before the calls do. The measure is the number of calls that are left.
+-- `listing::running::run` is safe and ends. The loop's invariant is `Going`: what was printed follows the bytes that were read, and the line numbers do not run out before the calls do. The measure is the number of calls that are left.
 -- Assumes nothing.
-use mathlib.Core.Path.{refl, sym}
+use mathlib.Core.Path.{refl, sym, _∙_}
 use native.Mathlib.Omega.{arith}
 use borrow.Author.Needs.{needs}
+use Prim.Native.Nat.{_≤_}
+use mathlib.Core.List.{[]}
+use lib.ListN.{length}
 use lib.Seq.{length-take-le}
+use Rattle.listing.proofs.Following.{follows-none}
 use Rattle.listing.proofs.Passing.{Going, going-end, going-ready, going-on}
+use Rattle.listing.proofs.running.Transfers.{bytes-within}
 use Rattle.listing.proofs.running.run.Statement.{statement}
 use Rattle.listing.proofs.running.run.Tie as tie
 
 abbrev Inv-loop : tie.InvT-loop
-Inv-loop chunk₀ line₀ out₀ progress₀ calls₀ chunk line out progress calls = Going chunk line out progress calls
+Inv-loop chunk₀ line₀ out₀ current₀ calls₀ chunk line out current calls = Going chunk line out current calls
 
 abbrev μ-loop : tie.MeasureT-loop
-μ-loop chunk₀ line₀ out₀ progress₀ calls₀ chunk line out progress calls = calls
+μ-loop chunk₀ line₀ out₀ current₀ calls₀ chunk line out current calls = calls
 
 large-buffer-requires : tie.Need-large-buffer-requires Inv-loop μ-loop
 large-buffer-requires c κs = tt
@@ -27,8 +32,10 @@ loop-holds c =
       kept-size = refl;
       out-size = c .large-buffer2 .ensures;
       held = omega arith;
-      room = omega (arith, c .large-buffer2 .ensures);
       numbers = omega arith;
+      bytes = [];
+      text = [];
+      follows = follows-none _;
     }
 
 slice-aggregate-read-chunk : tie.Need-slice-aggregate-read-chunk Inv-loop μ-loop
@@ -49,25 +56,37 @@ slice-aggregate-finish-2 c = c .before .before .before .before .before .before .
 finish-requires : tie.Need-finish-requires Inv-loop μ-loop
 finish-requires c κs = going-end (c .before .before .before .before .before .before .before .loop .inv)
 
+array-share-prefix-out : tie.Need-array-share-prefix-out Inv-loop μ-loop
+array-share-prefix-out c = omega (arith, c .before .finish .ensures .within, c .before .finish .kept .1 .1 .0)
+
+slice-aggregate-write-whole : tie.Need-slice-aggregate-write-whole Inv-loop μ-loop
+slice-aggregate-write-whole c = sym (length-take-le _ _ (omega (arith, c .before .before .finish .ensures .within, c .before .before .finish .kept .1 .1 .0)))
+
+write-whole-requires : tie.Need-write-whole-requires Inv-loop μ-loop
+write-whole-requires c κs = tt
+
 returns : tie.Need-returns Inv-loop μ-loop
 returns c = tt
 
+-- a read brings no more bytes than the chunk has
+within : (c : tie.After-input Inv-loop μ-loop) → c .input .given .0 .0 ≤ length (c .before .before .before .read-chunk .last .0)
+within c = bytes-within _ _ _ _ (sym (c .input .given .1) ∙ c .before .before .before .read-chunk .ensures .is)
+
 array-share-prefix-chunk : tie.Need-array-share-prefix-chunk Inv-loop μ-loop
-array-share-prefix-chunk c = rw (c .before .input .given .1) at (c .before .before .before .before .read-chunk .ensures)
+array-share-prefix-chunk c = within (c .before)
 
-slice-aggregate-pass-chunk : tie.Need-slice-aggregate-pass-chunk Inv-loop μ-loop
-slice-aggregate-pass-chunk c = sym (length-take-le _ _ (rw (c .before .before .input .given .1) at (c .before .before .before .before .before .read-chunk .ensures)))
+slice-aggregate-answer-chunk : tie.Need-slice-aggregate-answer-chunk Inv-loop μ-loop
+slice-aggregate-answer-chunk c = sym (length-take-le _ _ (within (c .before .before)))
 
-slice-aggregate-pass-chunk-2 : tie.Need-slice-aggregate-pass-chunk-2 Inv-loop μ-loop
-slice-aggregate-pass-chunk-2 c = c .before .before .before .before .before .before .before .before .before .loop .inv .kept-size
+slice-aggregate-answer-chunk-2 : tie.Need-slice-aggregate-answer-chunk-2 Inv-loop μ-loop
+slice-aggregate-answer-chunk-2 c = c .before .before .before .before .before .before .before .before .before .loop .inv .kept-size
 
-slice-aggregate-pass-chunk-3 : tie.Need-slice-aggregate-pass-chunk-3 Inv-loop μ-loop
-slice-aggregate-pass-chunk-3 c = c .before .before .before .before .before .before .before .before .before .before .loop .inv .out-size
+slice-aggregate-answer-chunk-3 : tie.Need-slice-aggregate-answer-chunk-3 Inv-loop μ-loop
+slice-aggregate-answer-chunk-3 c = c .before .before .before .before .before .before .before .before .before .before .loop .inv .out-size
 
-pass-chunk-requires : tie.Need-pass-chunk-requires Inv-loop μ-loop
-pass-chunk-requires c κs =
-    going-ready (c .before .before .before .before .before .before .before .before .before .before .loop .inv) (c .before .before .before .before .before .before .before .read-chunk .last .0) (c .before .before .before .before .input .given .0 .0) (c .before .before .before .before .before .before .before .read-chunk .kept .0)
-    (rw (c .before .before .before .before .input .given .1) at (c .before .before .before .before .before .before .before .read-chunk .ensures))
+answer-chunk-requires : tie.Need-answer-chunk-requires Inv-loop μ-loop
+answer-chunk-requires c κs =
+    going-ready (c .before .before .before .before .before .before .before .before .before .before .loop .inv) (c .before .before .before .before .before .before .before .read-chunk .last .0) (c .before .before .before .before .input .given .0 .0) (c .before .before .before .before .before .before .before .read-chunk .kept .0) (within (c .before .before .before .before))
 
 enum-known-passed : tie.Need-enum-known-passed Inv-loop μ-loop
 enum-known-passed c = search needs
@@ -86,9 +105,8 @@ loop-less c = omega arith
 
 loop-again : tie.Need-loop-again Inv-loop μ-loop
 loop-again c =
-    going-on (c .before .before .before .before .before .before .before .before .before .before .before .before .before .before .before .before .loop .inv) (c .before .before .before .before .before .before .before .before .before .before .before .before .before .read-chunk .last .0) (c .before .before .before .before .before .before .before .before .before .before .input .given .0 .0) (c .before .before .before .before .before .before .before .before .before .before .before .before .before .read-chunk .kept .0)
-    (rw (c .before .before .before .before .before .before .before .before .before .before .input .given .1) at (c .before .before .before .before .before .before .before .before .before .before .before .before .before .read-chunk .ensures)) (c .before .before .before .before .before .before .before .before .before .before .before .before .before .before .before .loop-test .taken)
-    (rw (c .before .passed .given .1) at (c .before .before .before .before .before .pass-chunk .ensures)) (c .before .before .before .before .before .pass-chunk .kept .1 .0) (c .before .before .before .before .before .pass-chunk .kept .1 .1 .0)
+    going-on (c .before .before .before .before .before .before .before .before .before .before .before .before .before .before .before .before .loop .inv) (c .before .before .before .before .before .before .before .before .before .before .before .before .before .read-chunk .last .0) (c .before .before .before .before .before .before .before .before .before .before .input .given .0 .0) (c .before .before .before .before .before .before .before .before .before .before .before .before .before .read-chunk .kept .0) (within (c .before .before .before .before .before .before .before .before .before .before)) (c .before .before .before .before .before .before .before .before .before .before .before .before .before .before .before .loop-test .taken)
+    (rw (c .before .passed .given .1) at (c .before .before .before .before .before .answer-chunk .ensures)) (c .before .before .before .before .before .answer-chunk .kept .1 .0) (c .before .before .before .before .before .answer-chunk .kept .1 .1 .0)
 
 returns-3 : tie.Need-returns-3 Inv-loop μ-loop
 returns-3 c = tt
@@ -108,12 +126,15 @@ run-spec =
     slice-aggregate-finish
     slice-aggregate-finish-2
     finish-requires
+    array-share-prefix-out
+    slice-aggregate-write-whole
+    write-whole-requires
     returns
     array-share-prefix-chunk
-    slice-aggregate-pass-chunk
-    slice-aggregate-pass-chunk-2
-    slice-aggregate-pass-chunk-3
-    pass-chunk-requires
+    slice-aggregate-answer-chunk
+    slice-aggregate-answer-chunk-2
+    slice-aggregate-answer-chunk-3
+    answer-chunk-requires
     enum-known-passed
     enum-told
     returns-2

@@ -1,12 +1,13 @@
--- `listing::splitting::take_lines` meets its contract. The loop's invariant is `Along`: what was printed so far follows the bytes passed. The measure is what is left of the chunk.
+-- `listing::splitting::pass_chunk` meets its contract. The loop's invariant is `Along`: what was printed so far follows the bytes passed. The measure is what is left of the chunk.
 -- Assumes nothing.
 use Prim.Native.Nat.{_-_}
 use native.Mathlib.Omega.{arith}
 use lib.ListN.{length}
 use borrow.Author.Tests.{leb-true, leb-false}
+use Rattle.listing.proofs.Following.{taken-passes}
 use Rattle.listing.proofs.Taking.{Along, along-none, along-ready, along-more, along-taken}
-use Rattle.listing.proofs.splitting.take_lines.Statement.{statement}
-use Rattle.listing.proofs.splitting.take_lines.Tie as tie
+use Rattle.listing.proofs.splitting.pass_chunk.Statement.{statement}
+use Rattle.listing.proofs.splitting.pass_chunk.Tie as tie
 
 abbrev Inv-loop : tie.InvT-loop
 Inv-loop chunk line₀ out₀ reached₀ line out reached = Along chunk line₀ out₀ reached₀ line out reached
@@ -37,7 +38,7 @@ same-length-2 : tie.Need-same-length-2 Inv-loop μ-loop
 same-length-2 c = c .before .before .before .before .loop .inv .same-out
 
 returns : tie.Need-returns Inv-loop μ-loop
-returns c = along-taken (c .before .before .before .before .before .before .before .before .pre) (c .before .before .before .before .loop .inv) (λ h. leb-false _ _ (c .if2 .left))
+returns c = taken-passes (along-taken (c .before .before .before .before .before .before .before .before .pre) (c .before .before .before .before .loop .inv) (λ h. leb-false _ _ (c .if2 .left)))
 
 same-length-3 : tie.Need-same-length-3 Inv-loop μ-loop
 same-length-3 c = c .before .before .loop .inv .same-kept
@@ -46,10 +47,10 @@ same-length-4 : tie.Need-same-length-4 Inv-loop μ-loop
 same-length-4 c = c .before .before .loop .inv .same-out
 
 returns-2 : tie.Need-returns-2 Inv-loop μ-loop
-returns-2 c = along-taken (c .before .before .before .before .before .before .pre) (c .before .before .loop .inv) (λ h. let z : ⊥ = omega arith in absurd z)
+returns-2 c = taken-passes (along-taken (c .before .before .before .before .before .before .pre) (c .before .before .loop .inv) (λ h. let z : ⊥ = omega arith in absurd z))
 
-pub take-lines-spec : {M : Type 1} → statement M
-take-lines-spec =
+pub pass-chunk-spec : {M : Type 1} → statement M
+pass-chunk-spec =
     tie.close
     (tie.spec
     Inv-loop

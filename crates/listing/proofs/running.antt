@@ -1,0 +1,2 @@
+-- The laws of the module `running` that name its private types.
+mod Transfers
