@@ -1,9 +1,9 @@
 // The live records of a book, each with its key: the number of its syllables and their weights.
+use book_frame::has_mark;
+use book_frame::values_of;
+use book_frame::wide;
 use formula::Syllable;
 use formula::Word;
-use opening::frame::has_mark;
-use opening::frame::values_of;
-use opening::frame::wide;
 use reading::read::ReadAnswer;
 use reading::read::read;
 use weighing::weigh::put_weights;

@@ -11,7 +11,7 @@ use Rattle.writing.specs.Write.{WriteRight}
 use Rattle.spelling.specs.Spell.{Lists, SpellRight}
 use Rattle.collation.specs.Comparison.{CompareAnswers}
 use Rattle.entries.specs.Entries.{entries}
-use Rattle.keeping.specs.Outcome.{checkOf}
+use Rattle.lookup.specs.Outcome.{checkOf}
 use Rattle.keeping.proofs.Laws.{Bytes}
 use Rattle.ranking.specs.Rank.{rankOf}
 use Rattle.wordbook.specs.Calls.{AddPromise, RemovePromise}

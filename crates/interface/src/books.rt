@@ -1,7 +1,7 @@
 // The calls on a book.
 ghost use mathlib.Core.Path.{_≡_};
 ghost use Rattle.entries.specs.Entries.{entries};
-ghost use Rattle.keeping.specs.Outcome.{checkOf};
+ghost use Rattle.lookup.specs.Outcome.{checkOf};
 ghost use Rattle.ranking.specs.Rank.{rankOf};
 ghost use Rattle.wordbook.specs.Calls.{AddPromise, RemovePromise};
 ghost use Rattle.packing.specs.Packing.{pack, Packed};

@@ -15,9 +15,9 @@ use Rattle.entries.proofs.Agree.{Sound, sound}
 use Rattle.entries.proofs.Lookups.{lookup-added, lookup-others, lookup-removed, lookup-kept}
 use Rattle.entries.proofs.Added.{added-book, added-entries}
 use Rattle.entries.proofs.Removed.{removed-book, removed-entries}
-use Rattle.keeping.specs.Outcome.{finds, places, refuses, findOfEntry, findOf, removeOfEntry, removeOf, addOf}
+use Rattle.lookup.specs.Outcome.{finds, places, refuses, findOfEntry, findOf, removeOfEntry, removeOf, addOf}
 use Rattle.keeping.specs.Written.{AddRight, RemoveRight}
-use Rattle.keeping.proofs.Plans.{Fitting, added-fitting}
+use Rattle.keeping.proofs.Fitting.{Fitting, added-fitting}
 
 -- a list of bytes
 abbrev pub Bytes : List ℕ → Type 0

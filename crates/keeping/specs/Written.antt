@@ -6,7 +6,7 @@ use lib.ListN.{length, take, drop}
 use Rattle.entries.specs.Entries.{entries}
 use Rattle.entries.specs.Book.{numberBytes}
 use Rattle.entries.specs.Change.{withRecord, withRemoved}
-use Rattle.keeping.specs.Outcome.{Outcome, counts, finds, places, refuses, addOf, removeOf}
+use Rattle.lookup.specs.Outcome.{Outcome, counts, finds, places, refuses, addOf, removeOf}
 
 -- the buffer after add: with one record more, or, "A refusal gives number and place and writes nothing", as it was
 abbrev pub bytesAdded : Outcome → List ℕ → List ℕ → ℕ → List ℕ

@@ -1,7 +1,7 @@
 // Adding and removing records: the decision first, then the bytes.
-use crate::plan::Placed;
-use crate::plan::plan_add;
-use crate::plan::plan_remove;
+use lookup::plan::Placed;
+use lookup::plan::plan_add;
+use lookup::plan::plan_remove;
 ghost use mathlib.Core.Path.{_≡_};
 ghost use mathlib.Core.List.{map};
 ghost use Prim.Native.Nat.{_+_, _≤_, _<_};
@@ -11,7 +11,7 @@ ghost use Rattle.formula.specs.Limits.{limit};
 ghost use Rattle.entries.specs.Limits.{bookLimit};
 ghost use Rattle.entries.specs.Book.{byteOf};
 ghost use Rattle.entries.specs.Change.{Storable};
-ghost use Rattle.keeping.specs.Outcome.{placedOutcome};
+ghost use Rattle.lookup.specs.Outcome.{placedOutcome};
 ghost use Rattle.keeping.specs.Written.{withHead, AddRight, RemoveRight};
 
 // A count as a byte.

@@ -1,30 +1,21 @@
--- Parts of the buffer as the loops see them: two parts compared, bytes copied as values, a hash, the zeros at the end.
+-- Parts of the buffer as the loops see them: two parts compared, a hash, the zeros at the end.
 -- Assumes nothing.
-use mathlib.Core.Path.{_≡_, refl, sym, ap, subst, _∙_}
+use mathlib.Core.Path.{_≡_, sym, ap, subst, _∙_}
 use mathlib.Core.Bool.{Bool, true, false}
-use mathlib.Core.List.{List, [], _∷_, _++_, map}
+use mathlib.Core.List.{List}
 use Prim.Native.Nat.{ℕ, suc, _+_, _*_, _%_, _≤_, _<_}
 use native.Mathlib.Omega.{arith}
 use native.Mathlib.Numerals.{add-one}
 use borrow.Author.Tests.{eq-eqb, ne-eqb}
 use lib.Dec.{T, eqb}
-use lib.ListN.{length, getD, take, drop, set, length-drop, drop-of-length-le}
-use lib.Seq.{getD-drop, getD-take, drop-cons, take-suc, take-suc-set, length-take-le, ext-getD}
+use lib.ListN.{length, getD, drop, drop-of-length-le}
+use lib.Seq.{drop-cons, ext-getD}
 use Rattle.letters.specs.Choice.{pick}
 use Rattle.formula.proofs.Lists.{sameList, sameList-equal}
-use Rattle.entries.specs.Entries.{valueOf, Entries, wrong, zeroTail}
+use Rattle.entries.specs.Entries.{Entries, wrong, zeroTail}
 use Rattle.entries.proofs.Tests.{is-true, is-false, sameList-refl}
+use Rattle.book_frame.proofs.Parts.{part, part-length, part-at}
 use Rattle.opening.specs.Chain.{buckets, hashOf}
-
--- n bytes from p on
-abbrev pub part : List ℕ → ℕ → ℕ → List ℕ
-part b p n = take n (drop p b)
-
-pub part-length : (b : List ℕ) (p n : ℕ) → p + n ≤ length b → length (part b p n) ≡ n
-part-length b p n h = length-take-le n (drop p b) (omega (arith, length-drop p b))
-
-pub part-at : (b : List ℕ) (p n k : ℕ) → k < n → getD (part b p n) k 0 ≡ getD b (p + k) 0
-part-at b p n k h = getD-take n (drop p b) k 0 h ∙ getD-drop p b k 0
 
 -- parts are the same where each byte is
 pub parts-same : (b : List ℕ) (p q n : ℕ) → p + n ≤ length b → q + n ≤ length b → ((k : ℕ) → k < n → getD b (p + k) 0 ≡ getD b (q + k) 0)
@@ -39,19 +30,6 @@ pub parts-differ : (b : List ℕ) (p q n k : ℕ) → k < n → (getD b (p + k) 
 parts-differ b p q n k h f =
     is-false (sameList (part b p n) (part b q n))
     (λ t. f (sym (part-at b p n k h) ∙ ap (λ (l : List ℕ). getD l k 0) (sameList-equal (part b p n) (part b q n) t) ∙ part-at b q n k h))
-
-map-snoc : (l : List ℕ) (x : ℕ) → map valueOf (l ++ (x ∷ [])) ≡ map valueOf l ++ (valueOf x ∷ [])
-map-snoc [] x = refl
-map-snoc (y ∷ l) x = ap (λ (m : List ℕ). valueOf y ∷ m) (map-snoc l x)
-
--- counted more value is copied
-pub copy-one : (w b : List ℕ) (from j : ℕ) (v : ℕ) → j < length w → from + j < length b → v ≡ valueOf (getD b (from + j) 0)
-    → take j w ≡ map valueOf (part b from j) → take (j + 1) (set w j v) ≡ map valueOf (part b from (j + 1))
-copy-one w b from j v h k e q =
-    let l : j < length (drop from b) = omega (arith, length-drop from b) in
-    ap (λ (m : ℕ). take m (set w j v)) (add-one j) ∙ take-suc-set w j v h ∙ ap (λ (m : List ℕ). m ++ (v ∷ [])) q
-    ∙ ap (λ (x : ℕ). map valueOf (part b from j) ++ (x ∷ [])) (e ∙ ap valueOf (sym (getD-drop from b j 0))) ∙ sym (map-snoc (part b from j) (getD (drop from b) j 0))
-    ∙ ap (map valueOf) (sym (take-suc (drop from b) j 0 l)) ∙ ap (λ (m : ℕ). map valueOf (part b from m)) (sym (add-one j))
 
 -- counted more byte is hashed
 pub hash-one : (b : List ℕ) (from n j h : ℕ) → from + n ≤ length b → j < n

@@ -1,6 +1,6 @@
 // Chains of live records by a hash of their words, so that a repeated word is found without a comparison of every pair.
-use crate::frame::wide;
 use crate::open::BOOK_LIMIT;
+use book_frame::wide;
 ghost use mathlib.Core.Path.{_≡_};
 ghost use mathlib.Core.List.{List};
 ghost use Prim.Native.Nat.{_+_, _≤_, _<_};

@@ -21,7 +21,7 @@ use Rattle.entries.specs.Map.{lookup, counted, liveCount}
 use Rattle.entries.proofs.Tests.{is-true}
 use Rattle.entries.proofs.Records.{framed-true, length-record, end-length}
 use Rattle.entries.proofs.Agree.{Sound, sound}
-use Rattle.keeping.specs.Outcome.{Outcome, checkOf, findOfEntry, findOf, removeOfEntry, removeOf, addOfEntry, addOf, places, refuses}
+use Rattle.lookup.specs.Outcome.{Outcome, checkOf, findOfEntry, findOf, removeOfEntry, removeOf, addOfEntry, addOf, places, refuses}
 use Rattle.keeping.proofs.Laws.{Bytes}
 use Rattle.ranking.specs.Rank.{rankOf, Among}
 use Rattle.ranking.proofs.Laws.{rank-below, rank-too-high, rank-of-no-book}

@@ -13,7 +13,7 @@ use Rattle.weighing.specs.declared.order.Order.the-variants.{Less, Equal, Great
 use Rattle.collation.specs.Comparison.{CompareOutcome, ordered, first-refuses, second-refuses}
 use Rattle.storage.specs.Stored.{storedForm}
 use Rattle.entries.specs.Entries.{number, entries}
-use Rattle.keeping.specs.Outcome as keeping
+use Rattle.lookup.specs.Outcome as lookup
 use Rattle.wordbook.specs.Calls.{CallAnswers}
 use Rattle.packing.specs.Packing.{Answer, answer}
 
@@ -83,12 +83,12 @@ compareNumbers (first-refuses number place) = answer number 1 place
 compareNumbers (second-refuses number place) = answer number 2 place
 
 -- what find answers to a word as it is handed in
-abbrev pub FindAnswers : List ℕ → List ℕ → keeping.Outcome → Type 0
-FindAnswers book word = CallAnswers word (keeping.findOf (entries book) (storedForm word))
+abbrev pub FindAnswers : List ℕ → List ℕ → lookup.Outcome → Type 0
+FindAnswers book word = CallAnswers word (lookup.findOf (entries book) (storedForm word))
 
 -- the live count, the stock number with the start, or the start
-abbrev pub bookNumbers : keeping.Outcome → Answer
-bookNumbers (keeping.counts live) = accepted live 0
-bookNumbers (keeping.finds start stock) = accepted stock start
-bookNumbers (keeping.places start) = accepted start 0
-bookNumbers (keeping.refuses number place) = refused number place
+abbrev pub bookNumbers : lookup.Outcome → Answer
+bookNumbers (lookup.counts live) = accepted live 0
+bookNumbers (lookup.finds start stock) = accepted stock start
+bookNumbers (lookup.places start) = accepted start 0
+bookNumbers (lookup.refuses number place) = refused number place

@@ -1,7 +1,7 @@
 // Answers as one number of 64 bits each, for callers in other languages.
 use collation::compare::Compared;
-use keeping::plan::Found;
-use keeping::plan::Placed;
+use lookup::plan::Found;
+use lookup::plan::Placed;
 use normaliser::NormaliseAnswer;
 use reading::parts::PartAnswer;
 use reading::read::ReadAnswer;
@@ -22,7 +22,7 @@ ghost use Rattle.writing.specs.Write.{outcomeOf as writeOutcomeOf};
 ghost use Rattle.spelling.specs.Spell.{outcomeOf as spellOutcomeOf};
 ghost use Rattle.collation.specs.Comparison.{compareOutcomeOf};
 ghost use Rattle.entries.specs.Entries.{number};
-ghost use Rattle.keeping.specs.Outcome.{foundOutcome, placedOutcome};
+ghost use Rattle.lookup.specs.Outcome.{foundOutcome, placedOutcome};
 ghost use Rattle.wordbook.specs.Calls.{checkedOutcome};
 ghost use Rattle.packing.specs.Packing.{answer, pack};
 ghost use Rattle.packing.specs.Answers.{readNumbers, bytesNumbers, outcomeNumbers, partNumbers, writeNumbers};

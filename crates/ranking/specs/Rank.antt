@@ -11,7 +11,7 @@ use Rattle.entries.specs.Entries.{Entry, isFramed, Entries, book, wrong, entrie
 use Rattle.entries.specs.Book.{IsBook}
 use Rattle.entries.specs.Map.{liveCount}
 use Rattle.entries.specs.Rank.{sorted, liveBefore}
-use Rattle.keeping.specs.Outcome.{Outcome, finds, refuses}
+use Rattle.lookup.specs.Outcome.{Outcome, finds, refuses}
 use Rattle.filing.specs.Filing.{before, startOf, mostLive}
 
 -- the entry's "start and stock number"; 15 where there is none: "rank not below the live count", with the live count

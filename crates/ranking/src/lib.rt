@@ -2,8 +2,8 @@
 use filing::keys::KEY_ROOM;
 use filing::keys::MOST_LIVE;
 use filing::keys::file_records;
-use keeping::look::stock_at;
-use keeping::plan::Found;
+use lookup::look::stock_at;
+use lookup::plan::Found;
 use opening::open::Opening;
 use opening::open::open_book;
 use refusals::Refusal;
@@ -11,7 +11,7 @@ ghost use mathlib.Core.Path.{_≡_};
 ghost use lib.ListN.{length};
 ghost use Rattle.entries.specs.Entries.{entries};
 ghost use Rattle.entries.specs.Book.{Opened};
-ghost use Rattle.keeping.specs.Outcome.{foundOutcome};
+ghost use Rattle.lookup.specs.Outcome.{foundOutcome};
 ghost use Rattle.filing.specs.Filing.{mostLive};
 ghost use Rattle.ranking.specs.Rank.{rankOf, SortedRight};
 

@@ -9,7 +9,7 @@ use Rattle.reading.proofs.Answered.{refused-no-row}
 use Rattle.storage.specs.Stored.{storedForm}
 use Rattle.normaliser.specs.Normal.{StoreRefusedWith, Stores, too-long, foreign, outcome as of-outcome}
 use Rattle.entries.specs.Entries.{entries}
-use Rattle.keeping.specs.Outcome.{Outcome, finds, places, refuses, findOf}
+use Rattle.lookup.specs.Outcome.{Outcome, finds, places, refuses, findOf}
 use Rattle.keeping.specs.Written.{AddRight, RemoveRight}
 use Rattle.keeping.proofs.Laws.{Bytes, Added, added, find-added, find-others, Removed, removed, find-removed, find-kept}
 use Rattle.wordbook.specs.Calls.{WordRefused, empty, refused, WordStored, CallAnswers, word-refused, word-stored, AddPromise, RemovePromise}

@@ -1,14 +1,12 @@
 -- The stored form of a word that is not empty is not empty, since sorting keeps each value and rule 2 leaves one of two; and where it is a row, it can be stored.
 -- Assumes nothing.
-use mathlib.Core.Path.{_≡_, refl, sym, ap, subst, _∙_}
+use mathlib.Core.Path.{_≡_}
 use mathlib.Core.Bool.{Bool, true, false}
 use mathlib.Core.List.{List, [], _∷_}
 use Prim.Native.Nat.{ℕ, _≤_, _-_}
 use native.Mathlib.Omega.{arith}
-use lib.ListN.{length, take, replicate, length-append}
-use lib.Seq.{take-at}
+use lib.ListN.{length, take}
 use Rattle.letters.specs.Choice.{pick}
-use Rattle.formula.specs.Limits.{limit}
 use Rattle.formula.specs.declared.Word.{Word}
 use Rattle.formula.proofs.Held.{held-front, held-fits, held-length}
 use Rattle.storage.specs.Stored.{sortRuns, makesLongVowel, makesLetter, compose, storedForm}

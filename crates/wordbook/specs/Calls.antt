@@ -10,7 +10,7 @@ use Rattle.refusals.specs.Refusal.{numberOf, placeOf}
 use Rattle.storage.specs.Stored.{storedForm}
 use Rattle.normaliser.specs.Normal.{StoreRefusedWith, Stores}
 use Rattle.entries.specs.Entries.{entries}
-use Rattle.keeping.specs.Outcome.{Outcome, counts, refuses, addOf, removeOf}
+use Rattle.lookup.specs.Outcome.{Outcome, counts, refuses, addOf, removeOf}
 use Rattle.keeping.specs.Written.{bytesAdded, bytesRemoved}
 use Rattle.wordbook.specs.declared.Checked.{Checked}
 use Rattle.wordbook.specs.declared.Checked.the-variants as checked

@@ -1,13 +1,13 @@
 // The word book: the calls on a book in a lent buffer, for every buffer and every word.
-use keeping::plan::Found;
-use keeping::plan::Placed;
+use lookup::plan::Found;
+use lookup::plan::Placed;
 use opening::open::Opening;
 use opening::open::open_book;
 use refusals::Refusal;
 ghost use mathlib.Core.Path.{_≡_};
 ghost use Rattle.storage.specs.Stored.{storedForm};
 ghost use Rattle.entries.specs.Entries.{entries};
-ghost use Rattle.keeping.specs.Outcome.{foundOutcome, placedOutcome, checkOf, findOf};
+ghost use Rattle.lookup.specs.Outcome.{foundOutcome, placedOutcome, checkOf, findOf};
 ghost use Rattle.ranking.specs.Rank.{rankOf};
 ghost use Rattle.wordbook.specs.Calls.{checkedOutcome, CallAnswers, AddPromise, RemovePromise};
 
@@ -44,7 +44,7 @@ pub fn find(book: &[u8], word: &[u16]) -> Found
     let form = entered.word;
     let count = form.count;
     let values = form.values;
-    keeping::plan::find(book, &values[..count])
+    lookup::plan::find(book, &values[..count])
 }
 
 // Puts a live record with the word just after the last record, and gives its start.

@@ -7,7 +7,7 @@ use denote.Ref.{now}
 use Rattle.entries.specs.Entries.{Entries, entryAt, entries}
 use Rattle.opening.specs.Opening.{openingOf, Told}
 use Rattle.opening.specs.declared.open.Opening.{Opening}
-use Rattle.keeping.specs.Outcome.{finds}
+use Rattle.lookup.specs.Outcome.{finds}
 use Rattle.ranking.specs.Rank.{rankOf}
 use Rattle.ranking.proofs.Answers.{too-high, counted-below, found-there, start-within}
 use borrow.Author.Needs.{needs}

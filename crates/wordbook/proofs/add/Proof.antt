@@ -11,7 +11,7 @@ use Rattle.storage.specs.Stored.{storedForm}
 use Rattle.entries.specs.Entries.{entries}
 use Rattle.wordbook.specs.declared.enter.EnterAnswer.{EnterAnswer}
 use Rattle.entries.specs.Change.{Storable}
-use Rattle.keeping.specs.Outcome.{placedOutcome, addOf}
+use Rattle.lookup.specs.Outcome.{placedOutcome, addOf}
 use Rattle.keeping.specs.Written.{AddRight}
 use Rattle.wordbook.specs.Calls.{WordRefused, HeldForm, EnteredFor, CallAnswers, word-refused, word-stored}
 use Rattle.wordbook.proofs.Stored.{stored-storable, form-front, form-fits, form-length}

@@ -7,7 +7,7 @@ use Rattle.entries.specs.Entries.{Entries, book, wrong, entries}
 use Rattle.opening.specs.Opening.{openingOf}
 use Rattle.opening.specs.declared.open.Opening.{Opening}
 use Rattle.opening.specs.declared.open.Opening.the-variants.{Book, Wrong}
-use Rattle.keeping.specs.Outcome.{Outcome, counts, refuses, checkOf}
+use Rattle.lookup.specs.Outcome.{Outcome, counts, refuses, checkOf}
 use Rattle.wordbook.proofs.check.Statement.{statement}
 use Rattle.wordbook.proofs.check.Tie as tie
 

@@ -7,7 +7,7 @@ use Rattle.refusals.specs.Refusal.{numberOf, placeOf}
 use Rattle.storage.specs.Stored.{storedForm}
 use Rattle.entries.specs.Entries.{entries}
 use Rattle.wordbook.specs.declared.enter.EnterAnswer.{EnterAnswer}
-use Rattle.keeping.specs.Outcome.{findOf}
+use Rattle.lookup.specs.Outcome.{findOf}
 use Rattle.wordbook.specs.Calls.{WordRefused, HeldForm, EnteredFor, CallAnswers, word-refused, word-stored}
 use Rattle.wordbook.proofs.Stored.{form-front, form-fits, form-length}
 use Rattle.wordbook.proofs.find.Statement.{statement}

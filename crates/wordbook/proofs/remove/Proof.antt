@@ -9,7 +9,7 @@ use Rattle.refusals.specs.Refusal.{numberOf, placeOf}
 use Rattle.storage.specs.Stored.{storedForm}
 use Rattle.entries.specs.Entries.{entries}
 use Rattle.wordbook.specs.declared.enter.EnterAnswer.{EnterAnswer}
-use Rattle.keeping.specs.Outcome.{placedOutcome, removeOf}
+use Rattle.lookup.specs.Outcome.{placedOutcome, removeOf}
 use Rattle.keeping.specs.Written.{RemoveRight}
 use Rattle.wordbook.specs.Calls.{WordRefused, HeldForm, EnteredFor, CallAnswers, word-refused, word-stored}
 use Rattle.wordbook.proofs.Stored.{form-front, form-fits, form-length}

@@ -10,7 +10,7 @@ use lib.ListN.{getD, set}
 use denote.Ref.{now}
 use Rattle.entries.proofs.Records.{framed-is}
 use Rattle.entries.proofs.Walk.{Turn}
-use Rattle.opening.proofs.Marks.{mark-met, mark-missed}
+use Rattle.book_frame.proofs.Marks.{mark-met, mark-missed}
 use Rattle.filing.proofs.Collecting.{Collected, collect-start, collect-as, at-record, collect-room, turn-readable}
 use Rattle.filing.proofs.Collecting.{collect-live, collect-removed, collect-end}
 use Rattle.filing.proofs.keys.file_records.Statement.{statement}

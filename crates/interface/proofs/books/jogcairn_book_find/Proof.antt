@@ -1,7 +1,7 @@
 -- `interface::books::jogcairn_book_find` meets its contract: the answer of find is packed.
 -- Assumes nothing.
 use borrow.Author.Needs.{needs}
-use Rattle.keeping.specs.Outcome.{foundOutcome}
+use Rattle.lookup.specs.Outcome.{foundOutcome}
 use Rattle.interface.proofs.books.jogcairn_book_find.Statement.{statement}
 use Rattle.interface.proofs.books.jogcairn_book_find.Tie as tie
 

@@ -10,10 +10,10 @@ use lib.Seq.{paste}
 use denote.Ref.{now}
 use Rattle.entries.specs.Entries.{entries}
 use Rattle.entries.specs.Book.{byteOf}
-use Rattle.keeping.specs.Outcome.{places, placedOutcome, addOf}
-use Rattle.keeping.specs.Look.{PlacedRight}
-use Rattle.keeping.specs.declared.plan.Placed.{Placed}
-use Rattle.keeping.proofs.Plans.{added-room}
+use Rattle.lookup.specs.Outcome.{places, placedOutcome, addOf}
+use Rattle.lookup.specs.Look.{PlacedRight}
+use Rattle.lookup.specs.declared.plan.Placed.{Placed}
+use Rattle.keeping.proofs.Fitting.{added-room}
 use Rattle.keeping.proofs.Words.{written}
 use Rattle.keeping.proofs.change.add.Statement.{statement}
 use Rattle.keeping.proofs.change.add.Tie as tie

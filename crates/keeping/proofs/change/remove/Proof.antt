@@ -5,9 +5,9 @@ use mathlib.Core.Path.{refl, subst}
 use native.Mathlib.Omega.{arith}
 use denote.Ref.{now}
 use Rattle.entries.specs.Entries.{entries}
-use Rattle.keeping.specs.Outcome.{places, placedOutcome, removeOf}
-use Rattle.keeping.specs.Look.{PlacedRight}
-use Rattle.keeping.specs.declared.plan.Placed.{Placed}
+use Rattle.lookup.specs.Outcome.{places, placedOutcome, removeOf}
+use Rattle.lookup.specs.Look.{PlacedRight}
+use Rattle.lookup.specs.declared.plan.Placed.{Placed}
 use Rattle.keeping.proofs.change.remove.Statement.{statement}
 use Rattle.keeping.proofs.change.remove.Tie as tie
 

@@ -20,7 +20,7 @@ use Rattle.opening.specs.Chain.{hashOf, bucketAt}
 use Rattle.opening.specs.Opening.{openingOf, OpenRight}
 use Rattle.opening.specs.declared.open.Opening.{Opening}
 use Rattle.opening.specs.declared.open.Opening.the-variants.{Book}
-use Rattle.opening.proofs.Marks.{mark-met, mark-missed}
+use Rattle.book_frame.proofs.Marks.{mark-met, mark-missed}
 use Rattle.opening.proofs.Passing.{Passed, too-long, passed-start, ends-zero, ends-full, no-record, repeated, frame-here, moved, zeros-end, zeros-stray, pass-removed, pass-live, told-right}
 use Rattle.opening.proofs.open.open_book.Statement.{statement}
 use Rattle.opening.proofs.open.open_book.Tie as tie

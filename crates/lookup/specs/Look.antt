@@ -1,0 +1,45 @@
+-- What looking a word up tells, and where a record stands that is placed. Inner contracts cite it. Assumes nothing.
+use mathlib.Core.Path.{_≡_}
+use mathlib.Core.List.{List}
+use mathlib.Core.Option.{Option, none, some}
+use Prim.Native.Nat.{ℕ, _+_, _≤_}
+use lib.ListN.{length}
+use Rattle.entries.specs.Limits.{bookLimit}
+use Rattle.entries.specs.Entries.{Entry, Entries, book, wrong, entries}
+use Rattle.entries.specs.Map.{lookup}
+use Rattle.lookup.specs.Outcome.{Outcome, counts, finds, places, refuses}
+use Rattle.lookup.specs.declared.look.Look.{Look}
+use Rattle.lookup.specs.declared.look.Look.the-variants.{Wrong, Live, Missing}
+
+abbrev pub lookOfEntry : Option Entry → ℕ → Look
+lookOfEntry none free = Missing free
+lookOfEntry (some entry) free = Live (entry .start) (entry .stock)
+
+abbrev pub lookOf : Entries → List ℕ → Look
+lookOf (book list free) word = lookOfEntry (lookup list word) free
+lookOf (wrong place) word = Wrong place
+
+-- the place stands within a buffer that is not overlong, with as many bytes behind it
+pub record Within (bytes : List ℕ) (place behind : ℕ) : Type 0 where
+  pub short : length bytes ≤ bookLimit
+  pub room : place + behind ≤ length bytes
+
+abbrev pub LookWithin : List ℕ → Look → Type 0
+LookWithin bytes (Wrong place) = Unit {0}
+LookWithin bytes (Live start stock) = Within bytes start 7
+LookWithin bytes (Missing free) = Within bytes free 0
+
+pub record LookRight (bytes word : List ℕ) (look : Look) : Type 0 where
+  pub answer : look ≡ lookOf (entries bytes) word
+  pub within : LookWithin bytes look
+
+-- the seven bytes at the start of a record
+abbrev pub PlacedWithin : List ℕ → Outcome → Type 0
+PlacedWithin bytes (counts live) = Unit {0}
+PlacedWithin bytes (finds start stock) = Unit {0}
+PlacedWithin bytes (places start) = Within bytes start 7
+PlacedWithin bytes (refuses number place) = Unit {0}
+
+pub record PlacedRight (bytes : List ℕ) (right outcome : Outcome) : Type 0 where
+  pub answer : outcome ≡ right
+  pub within : PlacedWithin bytes outcome
