@@ -1,6 +1,6 @@
 // The record at a place of a buffer: its mark, its count, and whether its word is readable.
 use formula::Word;
-use reading::read::is_row;
+use recogniser::walk::is_row;
 ghost use mathlib.Core.Path.{_≡_};
 ghost use mathlib.Core.Bool.{_&&_};
 ghost use mathlib.Core.List.{map};

@@ -18,7 +18,7 @@ use Rattle.formula.specs.Row.{Row, Gives, IsRow, join}
 use Rattle.formula.specs.Weighing.{weightsOf}
 use Rattle.formula.proofs.Lists.{both-left}
 use Rattle.rows.proofs.Complete.{first}
-use Rattle.reading.specs.Answer.{Readable}
+use Rattle.recogniser.specs.Answer.{Readable}
 use Rattle.storage.specs.Stored.{storedForm}
 use Rattle.storage.proofs.Rows.{gives-stored}
 use Rattle.normaliser.proofs.Storing.{readable-stores}

@@ -9,10 +9,10 @@ use lib.ListN.{length}
 use Rattle.formula.specs.Row.{LongestViable}
 use Rattle.refusals.specs.declared.Refusal.{Refusal}
 use Rattle.refusals.proofs.Laws.{number-place-injective}
-use Rattle.reading.specs.Answer.{Outcome, accepts, refuses, outcomeOf, Admissible, FirstForeign, RefusedWith, too-long, foreign, no-continuation, unfinished}
-use Rattle.reading.specs.declared.read.ReadAnswer.{ReadAnswer}
-use Rattle.reading.specs.declared.read.ReadAnswer.the-variants.{Syllables, Refused}
-use Rattle.reading.proofs.Answered.{refused-no-row}
+use Rattle.recogniser.specs.Answer.{Outcome, accepts, refuses, outcomeOf, Admissible, FirstForeign, RefusedWith, too-long, foreign, no-continuation, unfinished}
+use Rattle.recogniser.specs.declared.answer.ReadAnswer.{ReadAnswer}
+use Rattle.recogniser.specs.declared.answer.ReadAnswer.the-variants.{Syllables, Refused}
+use Rattle.recogniser.proofs.Answered.{refused-no-row}
 use Rattle.storage.specs.Stored.{storedForm}
 use Rattle.normaliser.specs.Normal.{StoreRefusedWith, too-long as word-too-long, foreign as word-foreign, outcome, Stores, StoreAnswers}
 use Rattle.weighing.specs.declared.order.Order.{Order}

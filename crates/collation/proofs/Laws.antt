@@ -7,9 +7,9 @@ use lib.ListN.{length, take}
 use lib.Seq.{take-at}
 use Rattle.formula.specs.Row.{Row, Gives}
 use Rattle.formula.specs.Weighing.{weights}
-use Rattle.reading.specs.Answer.{outcomeOf}
-use Rattle.reading.specs.declared.read.ReadAnswer.{ReadAnswer}
-use Rattle.reading.specs.declared.read.ReadAnswer.the-variants.{Syllables}
+use Rattle.recogniser.specs.Answer.{outcomeOf}
+use Rattle.recogniser.specs.declared.answer.ReadAnswer.{ReadAnswer}
+use Rattle.recogniser.specs.declared.answer.ReadAnswer.the-variants.{Syllables}
 use Rattle.rows.proofs.Viable.{only-row}
 use Rattle.storage.specs.Stored.{storedForm}
 use Rattle.normaliser.specs.Normal.{Stores, StoreAnswers}

@@ -9,10 +9,10 @@ use Rattle.formula.specs.Limits.{limit}
 use Rattle.formula.specs.Row.{Row, Gives}
 use Rattle.refusals.specs.Refusal.{numberOf, placeOf}
 use Rattle.refusals.specs.declared.Refusal.{Refusal}
-use Rattle.reading.specs.Answer.{outcomeOf, Answers}
-use Rattle.reading.specs.declared.read.ReadAnswer.{ReadAnswer}
-use Rattle.reading.specs.declared.read.ReadAnswer.the-variants.{Syllables, Refused}
-use Rattle.reading.proofs.Recorded.{count-limit}
+use Rattle.recogniser.specs.Answer.{outcomeOf, Answers}
+use Rattle.recogniser.specs.declared.answer.ReadAnswer.{ReadAnswer}
+use Rattle.recogniser.specs.declared.answer.ReadAnswer.the-variants.{Syllables, Refused}
+use Rattle.recogniser.proofs.Counted.{count-limit}
 use Rattle.storage.specs.Stored.{storedForm}
 use Rattle.storage.proofs.Rows.{gives-stored}
 use Rattle.normaliser.specs.Normal.{StoreRefusedWith, Stores, StoreAnswers, HandedIn}

@@ -5,11 +5,11 @@ use mathlib.Core.List.{List}
 use Prim.Native.Nat.{ℕ}
 use lib.ListN.{length}
 use Rattle.formula.specs.Row.{Row, Gives}
-use Rattle.reading.specs.Answer.{Outcome, accepts, refuses, outcomeOf}
+use Rattle.recogniser.specs.Answer.{Outcome, accepts, refuses, outcomeOf}
 use Rattle.storage.specs.Stored.{storedForm}
 use Rattle.normaliser.specs.Normal.{StoreAnswers}
 use Rattle.weighing.specs.Keys.{keyLimit, zeros, keyBytes}
-use Rattle.reading.specs.declared.read.ReadAnswer.{ReadAnswer}
+use Rattle.recogniser.specs.declared.answer.ReadAnswer.{ReadAnswer}
 use Rattle.collation.specs.declared.key.Key.{Key}
 
 -- "A key is held in 320 bytes, of which five a syllable are used. The rest are zero"; with a refusal "a key [..] is all zeros"

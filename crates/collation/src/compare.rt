@@ -1,7 +1,7 @@
 // The comparison of two words.
 use crate::heads::order_heads;
 use crate::weigh::weigh;
-use reading::read::ReadAnswer;
+use recogniser::answer::ReadAnswer;
 use refusals::Refusal;
 use weighing::order::Order;
 use weighing::order::order_bytes;

@@ -1,7 +1,7 @@
 // Words whose first heads weigh differently: their order is told before a syllable is weighed.
 use letters::weight::Weighed;
 use letters::weight::head_weight;
-use reading::read::is_row;
+use recogniser::walk::is_row;
 use weighing::order::Order;
 use weighing::order::order_numbers;
 ghost use mathlib.Core.Path.{_≡_};

@@ -1,6 +1,6 @@
 // The collation key of a word.
 use crate::weigh::weigh;
-use reading::read::ReadAnswer;
+use recogniser::answer::ReadAnswer;
 ghost use Rattle.collation.specs.Keyed.{KeyRight};
 
 // The weights of a word, five bytes a syllable and zeros behind them, with the number of syllables; zeros with a refusal.

@@ -2,7 +2,7 @@
 use formula::Word;
 use keying::fill::fill;
 use normaliser::as_handed_in;
-use reading::read::ReadAnswer;
+use recogniser::answer::ReadAnswer;
 use refusals::Refusal;
 ghost use mathlib.Core.Path.{_≡_};
 ghost use lib.ListN.{length};

@@ -9,7 +9,7 @@ use lib.Dec.{T}
 use lib.ListN.{length, getD}
 use Rattle.letters.specs.Letters.{isAdmitted}
 use Rattle.letters.proofs.Counted.{below-foreign, above-foreign, foreign-unadmitted}
-use Rattle.reading.specs.Answer.{Readable}
+use Rattle.recogniser.specs.Answer.{Readable}
 use Rattle.entries.specs.Entries.{valueOf}
 use Rattle.entries.specs.Book.{byteOf}
 

@@ -7,7 +7,7 @@ use mathlib.Core.List.{List, [], _∷_}
 use Prim.Native.Nat.{ℕ}
 use lib.Dec.{T, eqb, eqb-refl}
 use Rattle.formula.proofs.Lists.{both, sameList}
-use Rattle.reading.specs.Answer.{Readable, RowTest}
+use Rattle.recogniser.specs.Answer.{Readable, RowTest}
 use Rattle.entries.specs.Readable.{decide, decided, isReadable}
 
 pub is-true : (t : Bool) → T t → t ≡ true

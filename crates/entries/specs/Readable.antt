@@ -17,7 +17,7 @@ use Rattle.formula.proofs.Lists.{every, both, both-left, both-right}
 use Rattle.rows.specs.Kept.{endOf, run}
 use Rattle.rows.proofs.Sound.{sound}
 use Rattle.rows.proofs.Viable.{read-back, only-row, unfinished}
-use Rattle.reading.specs.Answer.{Readable}
+use Rattle.recogniser.specs.Answer.{Readable}
 
 decideTest : (t : Bool) → Dec (T t)
 decideTest true = yes tt

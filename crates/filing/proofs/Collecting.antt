@@ -10,7 +10,7 @@ use lib.Dec.{eqb}
 use lib.ListN.{length, getD, take, drop, set, length-map, length-append}
 use lib.Seq.{sets, length-sets}
 use Rattle.letters.specs.Choice.{pick}
-use Rattle.reading.specs.Answer.{Readable}
+use Rattle.recogniser.specs.Answer.{Readable}
 use Rattle.entries.specs.Entries.{Entry, wordAt}
 use Rattle.entries.specs.Map.{liveCount}
 use Rattle.entries.specs.Book.{endOf, IsBook, Opened}

@@ -10,7 +10,7 @@ use lib.Dec.{T}
 use lib.ListN.{length, getD, take, drop}
 use lib.Seq.{sets, length-sets}
 use Rattle.letters.specs.Choice.{pick}
-use Rattle.reading.specs.Answer.{Readable}
+use Rattle.recogniser.specs.Answer.{Readable}
 use Rattle.entries.specs.Limits.{bookLimit}
 use Rattle.entries.specs.Entries.{Entry, wordAt, entryAt, isFramed}
 use Rattle.entries.specs.Book.{endOf, IsBook}

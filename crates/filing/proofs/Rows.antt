@@ -9,8 +9,8 @@ use lib.ListN.{length, getD, take, drop}
 use lib.Seq.{getD-take, getD-drop, drop-drop}
 use Rattle.formula.specs.Syllable.{no-final}
 use Rattle.formula.specs.Row.{Row, Gives}
-use Rattle.reading.specs.Answer.{Readable}
-use Rattle.reading.proofs.Recorded.{row-bound}
+use Rattle.recogniser.specs.Answer.{Readable}
+use Rattle.recogniser.proofs.Counted.{row-bound}
 use Rattle.weighing.specs.Keys.{keyOf}
 use Rattle.weighing.proofs.Laws.{key-used}
 use Rattle.entries.specs.Limits.{bookLimit}

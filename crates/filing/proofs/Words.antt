@@ -9,12 +9,14 @@ use Rattle.formula.specs.Syllable.{no-final}
 use Rattle.formula.specs.Row.{Gives}
 use Rattle.refusals.specs.Refusal.{numberOf, placeOf}
 use Rattle.refusals.specs.declared.Refusal.{Refusal}
-use Rattle.reading.specs.Answer.{Reads, outcomeOf, Answers, Readable, ReadRight}
-use Rattle.reading.specs.declared.read.ReadAnswer.{ReadAnswer}
-use Rattle.reading.specs.declared.read.ReadAnswer.the-variants.{Syllables, Refused}
+use Rattle.recogniser.specs.Answer.{Reads, outcomeOf, Answers, Readable}
+use Rattle.reading.specs.Reading.{ReadRight}
+use Rattle.recogniser.specs.declared.answer.ReadAnswer.{ReadAnswer}
+use Rattle.recogniser.specs.declared.answer.ReadAnswer.the-variants.{Syllables, Refused}
 use Rattle.reading.specs.declared.read.Reading.{Reading}
-use Rattle.reading.proofs.Answered.{refused-no-row}
-use Rattle.reading.proofs.Recorded.{count-limit, count-of-row, front-of-row, places-of-row, reads, syllables}
+use Rattle.recogniser.proofs.Answered.{refused-no-row}
+use Rattle.recogniser.proofs.Counted.{count-limit}
+use Rattle.reading.proofs.Recorded.{count-of-row, front-of-row, places-of-row, reads, syllables}
 use Rattle.weighing.specs.Keys.{keyOf, keyBy}
 use Rattle.weighing.proofs.Joined.{key-of-row}
 use Rattle.filing.specs.Filing.{rowOf, keptKey}

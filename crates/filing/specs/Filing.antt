@@ -9,7 +9,7 @@ use lib.ListN.{length, take, drop}
 use lib.Seq.{sets}
 use Rattle.letters.specs.Choice.{pick}
 use Rattle.formula.specs.Row.{Row}
-use Rattle.reading.specs.Answer.{Readable}
+use Rattle.recogniser.specs.Answer.{Readable}
 use Rattle.weighing.specs.Keys.{keyOf}
 use Rattle.weighing.specs.Order.{Filed, filed, order}
 use Rattle.weighing.specs.declared.order.Order.{Order}

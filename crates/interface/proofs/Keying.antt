@@ -8,9 +8,9 @@ use lib.ListN.{length, take, drop}
 use lib.Seq.{take-all}
 use Rattle.refusals.specs.Refusal.{numberOf, placeOf}
 use Rattle.refusals.specs.declared.Refusal.{Refusal}
-use Rattle.reading.specs.Answer.{accepts, refuses, outcomeOf}
-use Rattle.reading.specs.declared.read.ReadAnswer.{ReadAnswer}
-use Rattle.reading.specs.declared.read.ReadAnswer.the-variants.{Refused}
+use Rattle.recogniser.specs.Answer.{accepts, refuses, outcomeOf}
+use Rattle.recogniser.specs.declared.answer.ReadAnswer.{ReadAnswer}
+use Rattle.recogniser.specs.declared.answer.ReadAnswer.the-variants.{Refused}
 use Rattle.weighing.specs.Keys.{keyLimit, keyBytes}
 use Rattle.collation.specs.Keyed.{WeighedFor, WeighRight}
 use Rattle.collation.proofs.Weighing.{Weighed, weighed-refused, weighed-stores}

@@ -10,8 +10,8 @@ use Rattle.letters.specs.Choice.{pick}
 use Rattle.formula.specs.Limits.{limit, lineLimit}
 use Rattle.lines.specs.Line.{isThree, valueOf, Decoding, values, faulty as broken, after, decodeFrom}
 use Rattle.lines.proofs.RoundTrip.{encode-decode, length-encode}
-use Rattle.reading.specs.Answer.{Outcome}
-use Rattle.reading.proofs.Recorded.{count-limit}
+use Rattle.recogniser.specs.Answer.{Outcome}
+use Rattle.recogniser.proofs.Counted.{count-limit}
 use Rattle.storage.specs.Stored.{storedForm}
 use Rattle.writing.specs.Write as writing
 use Rattle.packing.specs.Packing.{Fits}

@@ -3,7 +3,7 @@
 use mathlib.Core.Path.{_≡_, sym, ap, subst, _∙_}
 use mathlib.Core.List.{List}
 use Prim.Native.Nat.{ℕ}
-use Rattle.reading.specs.Answer.{Answers}
+use Rattle.recogniser.specs.Answer.{Answers}
 use Rattle.reading.specs.Records.{HasRecord}
 use Rattle.reading.specs.Parts.{PartAnswers}
 use Rattle.normaliser.specs.Normal.{NormaliseRight}

@@ -6,7 +6,7 @@ use Prim.Native.Nat.{ℕ, _≤_, _<_}
 use lib.ListN.{length, drop}
 use Rattle.formula.specs.Limits.{limit, lineLimit}
 use Rattle.lines.specs.Line.{values, faulty as broken, decodeFrom}
-use Rattle.reading.specs.Answer.{Outcome, accepts, refuses}
+use Rattle.recogniser.specs.Answer.{Outcome, accepts, refuses}
 use Rattle.normaliser.specs.Normal.{StoreRefusedWith, Stores}
 use Rattle.weighing.specs.Keys.{keyLimit, keyBytes}
 use Rattle.writing.specs.Write as writing

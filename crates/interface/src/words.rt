@@ -1,7 +1,7 @@
 // The calls on words.
 use crate::outputs::put_key;
 use crate::outputs::put_values;
-ghost use Rattle.reading.specs.Answer.{Answers};
+ghost use Rattle.recogniser.specs.Answer.{Answers};
 ghost use Rattle.reading.specs.Parts.{PartAnswers};
 ghost use Rattle.normaliser.specs.Normal.{NormaliseRight};
 ghost use Rattle.collation.specs.Comparison.{CompareAnswers};
@@ -16,7 +16,7 @@ ghost use Rattle.interface.specs.Outputs.{KeyWritten, DecodeWritten};
 pub extern "C" fn jogcairn_read(word: &[u16]) -> u64
     ensures { λ r. ⌜ Packed (Answers (now (word .entry))) readNumbers r ⌝ }
 {
-    let answer = reading::walk::answer_of(word);
+    let answer = recogniser::walk::answer_of(word);
     packing::of_reading(answer)
 }
 

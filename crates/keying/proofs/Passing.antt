@@ -16,9 +16,9 @@ use Rattle.rows.proofs.Viable.{read-back, stops, goes-on}
 use Rattle.transitions.specs.State.{stateOf, stateNumber}
 use Rattle.transitions.specs.Tables.{entryOf}
 use Rattle.transitions.proofs.Entered.{Enters, state-small, enters}
-use Rattle.reading.specs.Answer.{Outcome, accepts, refuses}
-use Rattle.reading.specs.Walked.{WalkStopped}
-use Rattle.reading.proofs.Reach.{kept-right}
+use Rattle.recogniser.specs.Answer.{Outcome, accepts, refuses}
+use Rattle.recogniser.specs.Walked.{WalkStopped}
+use Rattle.recogniser.proofs.Kept.{kept-right}
 use Rattle.weighing.specs.Keys.{keyLimit, usedBytes, zeros, keyOf, keyBytes}
 use Rattle.keying.specs.Filling.{Fit, weightsAfter, putLast, bytesAfter, WeightsOf, KeyOf, Filled}
 use Rattle.keying.specs.Filled.{KeyIfRead}

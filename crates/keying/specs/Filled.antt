@@ -5,8 +5,8 @@ use mathlib.Core.List.{List}
 use Prim.Native.Nat.{ℕ}
 use lib.ListN.{length}
 use Rattle.formula.specs.Row.{Row, Gives}
-use Rattle.reading.specs.Answer.{Outcome, accepts, refuses, outcomeOf, Answers}
-use Rattle.reading.specs.declared.read.ReadAnswer.{ReadAnswer}
+use Rattle.recogniser.specs.Answer.{Outcome, accepts, refuses, outcomeOf, Answers}
+use Rattle.recogniser.specs.declared.answer.ReadAnswer.{ReadAnswer}
 use Rattle.weighing.specs.Keys.{keyLimit, keyBytes}
 
 -- the bytes are the key of the row that gives the word; with a refusal they are not told

@@ -10,7 +10,7 @@ use Rattle.letters.specs.Choice.{pick}
 use Rattle.formula.specs.Syllable.{isNoFinal}
 use Rattle.formula.specs.Row.{Row}
 use Rattle.rows.specs.Kept.{endOf}
-use Rattle.reading.specs.Walked.{Walked}
+use Rattle.recogniser.specs.Walked.{Walked}
 use Rattle.weighing.specs.Keys.{keyLimit, zeros}
 use Rattle.keying.specs.Packed.{fiveBytes, weighingOf, gainOf, packedTop, packedBelow, keptKey}
 use Rattle.keying.specs.declared.fill.Weights.{Weights}

@@ -2,8 +2,8 @@
 use crate::gain::gain;
 use crate::gain::weighing;
 use formula::Word;
-use reading::read::ReadAnswer;
-use reading::walk::answer_at;
+use recogniser::answer::ReadAnswer;
+use recogniser::walk::answer_at;
 use refusals::Refusal;
 use transitions::tables::next;
 use transitions::tables::rules_of;

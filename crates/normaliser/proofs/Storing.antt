@@ -18,10 +18,10 @@ use Rattle.formula.proofs.Held.{held-front}
 use Rattle.formula.proofs.Lists.{both, both-left, both-right, every, every-at, at-every}
 use Rattle.refusals.specs.Refusal.{numberOf, placeOf}
 use Rattle.refusals.specs.declared.Refusal.{Refusal}
-use Rattle.reading.specs.Answer.{Outcome, outcomeOf, Admissible, Reads, Readable, FirstForeign, RefusedWith, too-long, foreign, no-continuation, unfinished}
-use Rattle.reading.specs.Concluded.{AdmittedTo}
-use Rattle.reading.specs.declared.read.ReadAnswer.{ReadAnswer}
-use Rattle.reading.specs.declared.read.ReadAnswer.the-variants.{Syllables}
+use Rattle.recogniser.specs.Answer.{Outcome, outcomeOf, Admissible, Reads, Readable, FirstForeign, RefusedWith, too-long, foreign, no-continuation, unfinished}
+use Rattle.recogniser.specs.Concluded.{AdmittedTo}
+use Rattle.recogniser.specs.declared.answer.ReadAnswer.{ReadAnswer}
+use Rattle.recogniser.specs.declared.answer.ReadAnswer.the-variants.{Syllables}
 use Rattle.storage.specs.Stored.{isRunMark, goesBehind, insert, makesLongVowel, makesLetter, storedForm}
 use Rattle.storage.specs.Putting.{joinFront, putFront}
 use Rattle.storage.proofs.Composing.{stored-front}

@@ -9,9 +9,9 @@ use Rattle.formula.specs.Held.{wordOf}
 use Rattle.formula.specs.declared.Word.{Word}
 use Rattle.refusals.specs.Refusal.{numberOf, placeOf}
 use Rattle.refusals.specs.declared.Refusal.{Refusal}
-use Rattle.reading.specs.Answer.{Outcome, accepts, refuses, outcomeOf, Admissible, FirstForeign, RefusedWith, Reads}
-use Rattle.reading.specs.Concluded.{AdmittedTo}
-use Rattle.reading.specs.declared.read.ReadAnswer.the-variants.{Refused}
+use Rattle.recogniser.specs.Answer.{Outcome, accepts, refuses, outcomeOf, Admissible, FirstForeign, RefusedWith, Reads}
+use Rattle.recogniser.specs.Concluded.{AdmittedTo}
+use Rattle.recogniser.specs.declared.answer.ReadAnswer.the-variants.{Refused}
 use Rattle.storage.specs.Stored.{storedForm}
 use Rattle.normaliser.specs.declared.Normalised.{Normalised}
 use Rattle.normaliser.specs.declared.NormaliseAnswer.{NormaliseAnswer}

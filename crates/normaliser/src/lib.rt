@@ -1,6 +1,6 @@
 // The normaliser: a word of any values to its stored form, which is then read.
 use formula::Word;
-use reading::read::ReadAnswer;
+use recogniser::answer::ReadAnswer;
 use refusals::Refusal;
 ghost use mathlib.Core.Path.{_≡_};
 ghost use mathlib.Core.List.{_++_};
@@ -28,7 +28,7 @@ pub fn as_handed_in(word: &[u16], refusal: Refusal) -> Refusal
     ensures { λ r. ⌜ HandedIn (now (word .entry)) refusal r ⌝ }
 {
     if let Refusal::Foreign(_) = refusal {
-        return Refusal::Foreign(reading::read::first_foreign(word));
+        return Refusal::Foreign(recogniser::foreign::first_foreign(word));
     }
     refusal
 }
@@ -43,7 +43,7 @@ pub fn normal_form(word: &[u16]) -> Normalised
     let form = storage::stored(word);
     let count = form.count;
     let values = form.values;
-    let answer = reading::walk::answer_of(&values[..count]);
+    let answer = recogniser::walk::answer_of(&values[..count]);
     if let ReadAnswer::Refused(refusal) = answer {
         return refused(as_handed_in(word, refusal));
     }
@@ -83,7 +83,7 @@ fn put_out(values: &[u16], output: &mut [u16]) -> NormaliseAnswer
 pub fn normalise(word: &[u16], output: &mut [u16]) -> NormaliseAnswer
     ensures { λ r. ⌜ NormaliseRight (now (word .entry)) (now (output .entry)) (now (output .exit)) (normaliseOutcomeOf r) ⌝ }
 {
-    if reading::read::is_row(word) {
+    if recogniser::walk::is_row(word) {
         return put_out(word, output);
     }
     let normal = normal_form(word);

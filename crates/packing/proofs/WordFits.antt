@@ -23,10 +23,10 @@ use Rattle.formula.specs.Spelled.{spelled}
 use Rattle.rows.proofs.Sound.{apart}
 use Rattle.rows.proofs.Complete.{first}
 use Rattle.rows.proofs.Viable.{only-row}
-use Rattle.reading.specs.Answer as reading
+use Rattle.recogniser.specs.Answer as reading
 use Rattle.reading.specs.Records.{RecordOutcome, found, no-syllable, refuses, HasRecord, RecordAnswers}
 use Rattle.reading.specs.Parts as parts
-use Rattle.reading.proofs.Recorded.{count-limit}
+use Rattle.recogniser.proofs.Counted.{count-limit}
 use Rattle.storage.specs.Stored.{storedForm}
 use Rattle.normaliser.specs.Normal as normal
 use Rattle.writing.specs.Write as writing

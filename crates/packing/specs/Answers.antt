@@ -3,7 +3,7 @@
 use mathlib.Core.List.{List}
 use Prim.Native.Nat.{ℕ}
 use lib.ListN.{getD}
-use Rattle.reading.specs.Answer as reading
+use Rattle.recogniser.specs.Answer as reading
 use Rattle.reading.specs.Records.{RecordOutcome, found, no-syllable, refuses, RecordAnswers}
 use Rattle.reading.specs.Parts as parts
 use Rattle.writing.specs.Write as writing

@@ -15,10 +15,10 @@ use Rattle.formula.specs.Limits.{lineLimit}
 use Rattle.weighing.specs.Keys.{keyLimit, zeros}
 use Rattle.refusals.specs.declared.Refusal.{Refusal}
 use Rattle.refusals.specs.declared.Refusal.the-variants.{TooLong}
-use Rattle.reading.specs.declared.read.ReadAnswer.{ReadAnswer}
-use Rattle.reading.specs.declared.read.ReadAnswer.the-variants.{Syllables, Refused}
-use Rattle.reading.specs.Answer.{outcomeOf}
-use Rattle.reading.proofs.Recorded.{count-limit}
+use Rattle.recogniser.specs.declared.answer.ReadAnswer.{ReadAnswer}
+use Rattle.recogniser.specs.declared.answer.ReadAnswer.the-variants.{Syllables, Refused}
+use Rattle.recogniser.specs.Answer.{outcomeOf}
+use Rattle.recogniser.proofs.Counted.{count-limit}
 use Rattle.storage.specs.Stored.{storedForm}
 use Rattle.normaliser.specs.Normal.{StoreAnswers}
 use Rattle.lines.specs.Line.{Decoding, values, faulty, decodeFrom, answerOf, refusedLine, decodedOf}

@@ -13,8 +13,8 @@ use Rattle.lines.specs.declared.Decoded.{Decoded}
 use Rattle.refusals.specs.Refusal.{numberOf, placeOf}
 use Rattle.refusals.specs.declared.Refusal.{Refusal}
 use Rattle.refusals.specs.declared.Refusal.the-variants.{NoSuchRow}
-use Rattle.reading.specs.declared.read.ReadAnswer.{ReadAnswer}
-use Rattle.reading.specs.declared.read.ReadAnswer.the-variants.{Syllables, Refused}
+use Rattle.recogniser.specs.declared.answer.ReadAnswer.{ReadAnswer}
+use Rattle.recogniser.specs.declared.answer.ReadAnswer.the-variants.{Syllables, Refused}
 use Rattle.collation.specs.Keyed.{KeyRight}
 use Rattle.collation.specs.declared.key.Key.{Key}
 use Rattle.key_text.specs.Text.{decimalOf, keyText}

@@ -6,7 +6,7 @@ use key_text::put_decimal;
 use key_text::put_key;
 use lines::LineAnswer;
 use lines::decode;
-use reading::read::ReadAnswer;
+use recogniser::answer::ReadAnswer;
 use refusals::Refusal;
 ghost use Prim.Native.Nat.{_+_, _≤_};
 ghost use mathlib.Core.Path.{_≡_};

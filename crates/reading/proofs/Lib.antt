@@ -1,7 +1,4 @@
 pub mod Reach
-pub mod Answered
-pub mod Walking
+pub mod Stopped
 pub mod Recorded
 pub mod Parted
-pub mod Determined
-pub mod Words

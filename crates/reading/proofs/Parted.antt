@@ -16,10 +16,11 @@ use Rattle.formula.specs.Row.{Row, joinAfter, partsAfter, parts}
 use Rattle.formula.specs.declared.Window.{Window}
 use Rattle.rows.specs.Kept.{endOf, keptJoin}
 use Rattle.rows.proofs.Viable.{only-row}
-use Rattle.reading.specs.Answer.{RefusedWith, Reads}
+use Rattle.recogniser.specs.Answer.{RefusedWith, Reads}
+use Rattle.recogniser.proofs.Answered.{refused-no-row}
 use Rattle.reading.specs.Parts.{endBy, HasPart, NoPart, PartRight}
 use Rattle.reading.specs.Scanned.{keptStarts, StartsOf, Stopped}
-use Rattle.reading.proofs.Answered.{read-ends, kept-is, refused-no-row}
+use Rattle.reading.proofs.Stopped.{read-ends, kept-is}
 
 -- where the syllables of a row begin, from the place n on
 abbrev placesAfter : Final → ℕ → Row → List ℕ

@@ -11,45 +11,24 @@ use lib.Dec.{T}
 use lib.ListN.{length, getD, take, drop, set, replicate, length-append, length-set, length-take, length-replicate, take-append-drop}
 use lib.Seq.{take-suc-set, take-take, take-at, drop-set-lt, drop-drop}
 use Rattle.formula.specs.Limits.{limit}
-use Rattle.formula.specs.Syllable.{Syllable, syllable, bare, finalOf, isNoFinal, part, headText}
+use Rattle.formula.specs.Syllable.{Syllable, bare, finalOf, isNoFinal, headText}
 use Rattle.formula.specs.Row.{Row}
 use Rattle.formula.specs.Numbers.{numbersOf, nothing, unread}
 use Rattle.formula.specs.declared.Syllable.{Syllable as Numbers}
 use Rattle.formula.specs.declared.Window.{Window}
 use Rattle.rows.specs.Kept.{endOf, keptJoin, step, run}
-use Rattle.rows.proofs.Sound.{RunOut, run-out}
 use Rattle.rows.proofs.Viable.{goes-on}
 use Rattle.steps.specs.Agree.{Pushes, Agrees}
 use Rattle.steps.specs.Moves.{moveOf}
 use Rattle.steps.proofs.Moved.{moved}
 use Rattle.steps.specs.declared.step.Move.{Move}
 use Rattle.steps.specs.declared.step.Move.the-variants.{Refuse, Push, Change, Close, GreatSa as Great}
-use Rattle.reading.specs.Answer.{nothings}
+use Rattle.recogniser.proofs.Kept.{kept-right, count-bound}
+use Rattle.reading.specs.Reading.{nothings}
 use Rattle.reading.specs.Scanned.{isRefusal, isBeginning, windowAfter, keptNumbers, keptStarts, WindowOf, SyllablesOf, StartsOf, Reached}
-
--- what the machine's row is after the values before `at`
-pub kept-right : (word : List ℕ) (at : ℕ) (kept : Row) → run (take at word) [] ≡ some kept → RunOut [] (take at word) (some kept)
-kept-right word at kept e = subst (RunOut [] (take at word)) e (run-out (take at word) [] tt)
 
 bare-length : (h : ℕ) (a : Row) → length (keptJoin (bare h ∷ a)) ≡ length (keptJoin a) + 1
 bare-length h a = length-append (keptJoin a) (headText (endOf a) h ∷ [])
-
--- each part has a value, so there are at most as many syllables as values
-part-length : (s : Syllable) (kept : Row) → 1 ≤ length (part (endOf kept) s)
-part-length (syllable h m v f t) kept = omega arith
-
-pub syllables-bound : (kept : Row) → length kept ≤ length (keptJoin kept)
-syllables-bound [] = omega arith
-syllables-bound (s ∷ kept) =
-    let p = part-length s kept in
-    let q = syllables-bound kept in
-    simp length-append (omega arith)
-
-pub count-bound : (word : List ℕ) (at : ℕ) (kept : Row) → run (take at word) [] ≡ some kept → length kept ≤ at
-count-bound word at kept e =
-    let b = syllables-bound kept in
-    let d : length (keptJoin kept) ≡ length (take at word) = ap length (kept-right word at kept e .1) in
-    omega (arith, length-take at word)
 
 pub join-length : (word : List ℕ) (at : ℕ) (kept : Row) → at ≤ length word → run (take at word) [] ≡ some kept → length (keptJoin kept) ≡ at
 join-length word at kept l e =

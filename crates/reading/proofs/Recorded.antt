@@ -2,40 +2,25 @@
 -- Assumes nothing.
 use mathlib.Core.Path.{_≡_, refl, ap, subst, _∙_}
 use mathlib.Core.List.{List, [], _∷_, _++_, map}
-use Prim.Native.Nat.{ℕ, zero, suc, _-_, _≤_, _<_}
+use Prim.Native.Nat.{ℕ, zero, suc, _-_, _<_}
 use native.Mathlib.Nat.{le-of-suc-le-suc, not-suc-le-zero}
 use native.Mathlib.Omega.{arith}
 use lib.ListN.{length, getD, take, length-append, length-map, length-replicate}
 use lib.Seq.{take-at}
 use Rattle.letters.proofs.Written.{medial-written}
 use Rattle.formula.specs.Limits.{limit}
-use Rattle.formula.specs.Syllable.{Final, no-final, Syllable, syllable, bare, finalOf, part}
-use Rattle.formula.specs.Row.{Row, joinAfter, Gives}
+use Rattle.formula.specs.Syllable.{Syllable, syllable, bare}
+use Rattle.formula.specs.Row.{Row, Gives}
 use Rattle.formula.specs.Record.{recordOf}
 use Rattle.formula.specs.Numbers.{numbersOf, nothing}
 use Rattle.formula.specs.declared.Syllable.{Syllable as Numbers}
-use Rattle.reading.specs.Answer.{Reads, accepts, outcomeOf, Answers, nothings, SyllablesFor, ReadRight}
+use Rattle.recogniser.specs.Answer.{Reads, accepts, outcomeOf, Answers}
+use Rattle.recogniser.specs.declared.answer.ReadAnswer.{ReadAnswer}
+use Rattle.recogniser.specs.declared.answer.ReadAnswer.the-variants.{Syllables}
+use Rattle.recogniser.proofs.Counted.{count-limit}
+use Rattle.reading.specs.Reading.{nothings, SyllablesFor, ReadRight}
 use Rattle.reading.specs.Records.{medialWeightBy, bytesBy, HasRecord}
-use Rattle.reading.specs.declared.read.ReadAnswer.{ReadAnswer}
-use Rattle.reading.specs.declared.read.ReadAnswer.the-variants.{Syllables}
 use Rattle.reading.specs.declared.read.Reading.{Reading}
-
--- each part has a value, so a row has at most as many syllables as values
-part-length : (f : Final) (s : Syllable) → 1 ≤ length (part f s)
-part-length f (syllable h m v g t) = omega arith
-
-pub row-bound : (f : Final) (row : Row) → length row ≤ length (joinAfter f row)
-row-bound f [] = omega arith
-row-bound f (s ∷ row) =
-    let p = part-length f s in
-    let q = row-bound (finalOf s) row in
-    simp length-append (omega arith)
-
-pub count-limit : (word : List ℕ) (n : ℕ) → Reads word n → n ≤ limit
-count-limit word n r =
-    let c = r .count in
-    let s = r .admissible .short in
-    omega (arith, row-bound no-final (r .row), ap length (r .gives .joined))
 
 -- the syllables of a word that has n: its row's first, in as many places as a word may have
 module _ (word : List ℕ) (n : ℕ) (reads : Reads word n) (list : List Numbers) (is : SyllablesFor word (accepts n) list) where

@@ -1,6 +1,4 @@
-pub mod Answer
+pub mod Reading
 pub mod Scanned
-pub mod Walked
-pub mod Concluded
 pub mod Records
 pub mod Parts

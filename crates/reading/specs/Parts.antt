@@ -8,7 +8,7 @@ use lib.ListN.{length, getD, take, drop}
 use Rattle.letters.specs.Choice.{pick}
 use Rattle.formula.specs.Row.{Row, parts, join, Gives}
 use Rattle.refusals.specs.Refusal.{numberOf, placeOf}
-use Rattle.reading.specs.Answer.{Admissible, RefusedWith}
+use Rattle.recogniser.specs.Answer.{Admissible, RefusedWith}
 use Rattle.reading.specs.declared.parts.PartAnswer.{PartAnswer}
 use Rattle.reading.specs.declared.parts.PartAnswer.the-variants.{At, NoSyllable, Refused}
 

@@ -12,7 +12,7 @@ use Rattle.formula.specs.Row.{Row, Gives}
 use Rattle.formula.specs.Record.{recordOf}
 use Rattle.formula.specs.declared.Syllable.{Syllable as Numbers}
 use Rattle.refusals.specs.Refusal.{numberOf, placeOf}
-use Rattle.reading.specs.Answer.{Admissible, RefusedWith}
+use Rattle.recogniser.specs.Answer.{Admissible, RefusedWith}
 use Rattle.reading.specs.declared.records.RecordAnswer.{RecordAnswer}
 use Rattle.reading.specs.declared.records.RecordAnswer.the-variants.{Found, NoSyllable, Refused}
 use Rattle.reading.specs.declared.records.SyllableRecord.{SyllableRecord}

@@ -17,7 +17,7 @@ use Rattle.rows.specs.Kept.{endOf, keptJoin, step, run}
 use Rattle.steps.specs.Agree.{topOf, belowOf}
 use Rattle.steps.specs.declared.step.Move.{Move}
 use Rattle.steps.specs.declared.step.Move.the-variants.{Refuse, Push, Change, Close, GreatSa as Great}
-use Rattle.reading.specs.Answer.{nothings}
+use Rattle.reading.specs.Reading.{nothings}
 use Rattle.reading.specs.declared.scan.Scan.{Scan}
 
 abbrev pub isRefusal : Move → Bool

@@ -1,8 +1,8 @@
 // The part of a word that a syllable is, by number.
-use crate::read::ReadAnswer;
 use crate::read::conclude;
 use crate::scan::scan_word;
 use formula::Word;
+use recogniser::answer::ReadAnswer;
 use refusals::Refusal;
 ghost use mathlib.Core.Path.{_≡_};
 ghost use Prim.Native.Nat.{_<_, _≤_};

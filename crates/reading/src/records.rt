@@ -1,8 +1,8 @@
 // The record of a syllable by number.
-use crate::read::ReadAnswer;
 use crate::read::read;
 use formula::Syllable;
 use letters::weight::Weighed;
+use recogniser::answer::ReadAnswer;
 use refusals::Refusal;
 ghost use mathlib.Core.Path.{_≡_};
 ghost use Rattle.reading.specs.Records.{medialWeightBy, bytesBy, withoutRecord, RecordRight};

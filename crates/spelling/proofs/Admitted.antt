@@ -10,7 +10,7 @@ use Rattle.formula.specs.Limits.{limit}
 use Rattle.formula.specs.Row.{Row, Gives}
 use Rattle.rows.proofs.Admitted.{run-admitted}
 use Rattle.rows.proofs.Viable.{read-back, only-row}
-use Rattle.reading.specs.Answer.{Reads}
+use Rattle.recogniser.specs.Answer.{Reads}
 
 -- a word within the limit that a row gives is read as the row
 pub row-reads : (row : Row) (word : List ℕ) → Gives row word → length word ≤ limit → Reads word (length row)

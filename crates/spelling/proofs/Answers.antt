@@ -14,11 +14,13 @@ use Rattle.formula.specs.Spelled.{spelled}
 use Rattle.formula.specs.declared.Syllable.{Syllable as Numbers}
 use Rattle.refusals.specs.Refusal.{numberOf, placeOf}
 use Rattle.refusals.specs.declared.Refusal.{Refusal}
-use Rattle.reading.specs.Answer.{outcomeOf as readOutcomeOf, Reads, Answers, nothings, SyllablesFor, ReadRight}
-use Rattle.reading.specs.declared.read.ReadAnswer.{ReadAnswer}
-use Rattle.reading.specs.declared.read.ReadAnswer.the-variants.{Syllables, Refused as Turned}
+use Rattle.recogniser.specs.Answer.{outcomeOf as readOutcomeOf, Reads, Answers}
+use Rattle.reading.specs.Reading.{nothings, SyllablesFor, ReadRight}
+use Rattle.recogniser.specs.declared.answer.ReadAnswer.{ReadAnswer}
+use Rattle.recogniser.specs.declared.answer.ReadAnswer.the-variants.{Syllables, Refused as Turned}
 use Rattle.reading.specs.declared.read.Reading.{Reading}
-use Rattle.reading.proofs.Recorded.{count-limit, reads}
+use Rattle.recogniser.proofs.Counted.{count-limit}
+use Rattle.reading.proofs.Recorded.{reads}
 use Rattle.spelling.specs.Spell.{joined, spells, refuses, ReadAs, Lists, lists, SpellRight, spelled-out, word-refused, values-too-short, starts-too-short}
 use Rattle.spelling.specs.Plain.{spelledBy, spelledFront}
 use Rattle.spelling.specs.Put.{Counted, Room, SyllablesPut}

@@ -8,9 +8,9 @@ use lib.ListN.{length}
 use Rattle.formula.specs.Row.{Row}
 use Rattle.formula.specs.Spelled.{spelled}
 use Rattle.rows.proofs.Viable.{only-row}
-use Rattle.reading.specs.Answer.{RefusedWith, Outcome as ReadOutcome, refuses as turns, accepts}
-use Rattle.reading.proofs.Answered.{refused-no-row}
-use Rattle.reading.proofs.Determined.{answers-alike}
+use Rattle.recogniser.specs.Answer.{RefusedWith, Outcome as ReadOutcome, refuses as turns, accepts}
+use Rattle.recogniser.proofs.Answered.{refused-no-row}
+use Rattle.recogniser.proofs.Determined.{answers-alike}
 use Rattle.spelling.specs.Spell.{joined, Outcome, refuses, ReadAs, Lists, lists, SpellRight, spelled-out, word-refused, values-too-short, starts-too-short}
 
 -- two outcomes of spelling the same word to the same lists are the same, and so is what they leave there

@@ -14,7 +14,7 @@ use Rattle.formula.specs.Row.{Row, isRowAfter, IsRow, Gives}
 use Rattle.formula.specs.Record.{finalNumberOf}
 use Rattle.formula.specs.Spelled.{spelledOf, spelled}
 use Rattle.rows.proofs.Complete.{first}
-use Rattle.reading.specs.Answer.{Reads}
+use Rattle.recogniser.specs.Answer.{Reads}
 use Rattle.spelling.specs.Spell.{joined, startsFrom, spelledStarts}
 use Rattle.spelling.specs.Plain.{plainFinal, plainOf}
 use Rattle.spelling.proofs.Plains.{plain-syllable, plain-part, spelled-small}

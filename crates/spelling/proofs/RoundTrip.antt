@@ -12,12 +12,13 @@ use Rattle.formula.specs.Syllable.{Syllable, syllable, bare}
 use Rattle.formula.specs.Row.{Row, join, Gives}
 use Rattle.formula.specs.Record.{recordOf, recordBytes}
 use Rattle.rows.proofs.Viable.{only-row}
-use Rattle.reading.specs.Answer.{accepts, outcomeOf as readOutcomeOf, Reads, ReadRight}
+use Rattle.recogniser.specs.Answer.{accepts, outcomeOf as readOutcomeOf, Reads}
+use Rattle.reading.specs.Reading.{ReadRight}
 use Rattle.reading.specs.Records.{RecordOutcome, found, no-syllable, refuses as turns, recordOutcomeOf, HasRecord, RecordAnswers, RecordRight}
 use Rattle.reading.specs.declared.read.Reading.{Reading}
 use Rattle.reading.specs.declared.records.SyllableRecord.{SyllableRecord}
-use Rattle.reading.proofs.Answered.{refused-no-row}
-use Rattle.reading.proofs.Determined.{answers-alike}
+use Rattle.recogniser.proofs.Answered.{refused-no-row}
+use Rattle.recogniser.proofs.Determined.{answers-alike}
 use Rattle.writing.specs.Write.{Outcome, written, refuses, Recorded, WriteRight, writes, no-such-row, too-short}
 use Rattle.writing.proofs.Laws.{write-determined}
 use Rattle.spelling.proofs.Admitted.{row-reads}

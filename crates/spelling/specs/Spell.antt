@@ -8,7 +8,7 @@ use Rattle.formula.specs.Limits.{limit}
 use Rattle.formula.specs.Row.{Row, Gives}
 use Rattle.formula.specs.Spelled.{spelled}
 use Rattle.refusals.specs.Refusal.{numberOf, placeOf}
-use Rattle.reading.specs.Answer.{Admissible, RefusedWith}
+use Rattle.recogniser.specs.Answer.{Admissible, RefusedWith}
 use Rattle.spelling.specs.declared.SpellAnswer.{SpellAnswer}
 use Rattle.spelling.specs.declared.SpellAnswer.the-variants.{Spelled, Refused}
 

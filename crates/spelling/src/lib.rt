@@ -1,7 +1,7 @@
 // Words spelled out: each syllable by itself, with its final as a letter and 103A.
 use formula::Syllable;
 use formula::Word;
-use reading::read::ReadAnswer;
+use recogniser::answer::ReadAnswer;
 use refusals::Refusal;
 ghost use mathlib.Core.Path.{_≡_};
 ghost use Prim.Native.Nat.{_≤_};

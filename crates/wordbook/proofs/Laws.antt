@@ -5,7 +5,7 @@ use mathlib.Core.Path.{_≡_, refl, sym, subst, _∙_}
 use mathlib.Core.List.{List}
 use Prim.Native.Nat.{ℕ, _<_}
 use native.Mathlib.Omega.{arith}
-use Rattle.reading.proofs.Answered.{refused-no-row}
+use Rattle.recogniser.proofs.Answered.{refused-no-row}
 use Rattle.storage.specs.Stored.{storedForm}
 use Rattle.normaliser.specs.Normal.{StoreRefusedWith, Stores, too-long, foreign, outcome as of-outcome}
 use Rattle.entries.specs.Entries.{entries}

@@ -1,7 +1,7 @@
 // The word that is handed in with a book: it is normalised first, and an empty one is refused.
 use formula::Word;
 use normaliser::normal_form;
-use reading::read::ReadAnswer;
+use recogniser::answer::ReadAnswer;
 use refusals::Refusal;
 ghost use Rattle.wordbook.specs.Calls.{EnteredFor};
 

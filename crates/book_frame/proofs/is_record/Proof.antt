@@ -10,7 +10,7 @@ use borrow.Author.Tests.{not-true, not-false}
 use lib.ListN.{take, drop}
 use lib.Seq.{length-take-le}
 use denote.Ref.{now}
-use Rattle.reading.specs.Answer.{RowTest}
+use Rattle.recogniser.specs.Answer.{RowTest}
 use Rattle.entries.specs.Readable.{isReadable}
 use Rattle.entries.specs.Entries.{valueOf, wordAt, isFramed}
 use Rattle.entries.proofs.Tests.{of-true, readable-test, tests-agree}

@@ -5,8 +5,8 @@ use mathlib.Core.List.{List}
 use Prim.Native.Nat.{ℕ}
 use borrow.Author.Needs.{needs}
 use Rattle.formula.proofs.Held.{held-front, held-fits, held-length}
-use Rattle.reading.specs.Answer.{outcomeOf, Answers}
-use Rattle.reading.specs.declared.read.ReadAnswer.{ReadAnswer}
+use Rattle.recogniser.specs.Answer.{outcomeOf, Answers}
+use Rattle.recogniser.specs.declared.answer.ReadAnswer.{ReadAnswer}
 use Rattle.storage.specs.Stored.{storedForm}
 use Rattle.normaliser.specs.Normal.{too-long, StoreAnswers, WordFor, NormalRight}
 use Rattle.normaliser.proofs.Storing.{word-admissible, refused-right}

@@ -7,8 +7,8 @@ use native.Mathlib.Omega.{arith}
 use lib.ListN.{length}
 use lib.Seq.{length-take-le}
 use borrow.Author.Needs.{needs}
-use Rattle.reading.specs.Answer.{outcomeOf, Readable, RowTest}
-use Rattle.reading.specs.declared.read.ReadAnswer.{ReadAnswer}
+use Rattle.recogniser.specs.Answer.{outcomeOf, Readable, RowTest}
+use Rattle.recogniser.specs.declared.answer.ReadAnswer.{ReadAnswer}
 use Rattle.storage.proofs.Rows.{gives-stored}
 use Rattle.normaliser.specs.Normal.{StoreAnswers, word-refused, normaliseOutcomeOf}
 use Rattle.normaliser.proofs.Storing.{stores, held-limit, held-room, held-values, readable-stores, put-right}

@@ -3,7 +3,7 @@
 use mathlib.Core.Path.{sym, ap, subst, _∙_}
 use Prim.Native.Nat.{ℕ}
 use borrow.Author.Needs.{needs}
-use Rattle.reading.specs.Answer.{Readable, RowTest}
+use Rattle.recogniser.specs.Answer.{Readable, RowTest}
 use Rattle.weighing.specs.Order.{orderNumbers}
 use Rattle.weighing.specs.declared.order.Order.{Order}
 use Rattle.collation.specs.Comparison.{firstHead, HeadsTell}

@@ -2,8 +2,8 @@
 -- Assumes nothing.
 use mathlib.Core.Path.{refl, sym, subst}
 use borrow.Author.Needs.{needs}
-use Rattle.reading.specs.Answer.{outcomeOf}
-use Rattle.reading.specs.declared.read.ReadAnswer.{ReadAnswer}
+use Rattle.recogniser.specs.Answer.{outcomeOf}
+use Rattle.recogniser.specs.declared.answer.ReadAnswer.{ReadAnswer}
 use Rattle.weighing.specs.Keys.{keyLimit, zeros}
 use Rattle.collation.specs.Keyed.{KeyFor}
 use Rattle.collation.proofs.Weighing.{weighed-key}

@@ -8,7 +8,7 @@ use native.Mathlib.Omega.{arith}
 use lib.ListN.{take, drop}
 use lib.Seq.{sets, length-take-le}
 use denote.Ref.{now}
-use Rattle.reading.specs.Answer.{ReadRight}
+use Rattle.reading.specs.Reading.{ReadRight}
 use Rattle.entries.specs.Entries.{valueOf, wordAt}
 use Rattle.entries.proofs.Records.{Framed, framed-true}
 use Rattle.filing.specs.Filing.{rowOf}

@@ -1,7 +1,7 @@
 -- `interface::words::jogcairn_read` meets its contract: the answer for the word is packed.
 -- Assumes nothing.
 use borrow.Author.Needs.{needs}
-use Rattle.reading.specs.Answer.{outcomeOf}
+use Rattle.recogniser.specs.Answer.{outcomeOf}
 use Rattle.interface.proofs.words.jogcairn_read.Statement.{statement}
 use Rattle.interface.proofs.words.jogcairn_read.Tie as tie
 

@@ -7,7 +7,7 @@ use lib.ListN.{length, getD}
 use borrow.Author.Needs.{needs}
 use Rattle.transitions.specs.Tables.{entryOf, entryBy}
 use Rattle.transitions.proofs.Entered.{next-entry}
-use Rattle.reading.specs.Answer.{outcomeOf, too-long}
+use Rattle.recogniser.specs.Answer.{outcomeOf, too-long}
 use Rattle.keying.specs.Filling.{Filled}
 use Rattle.keying.proofs.Passing.{at-start, small, sized, refused, fits, some-left, next, stopped-short, key-short, stopped-end, key-whole, size-whole}
 use Rattle.keying.proofs.fill.fill.Statement.{statement}

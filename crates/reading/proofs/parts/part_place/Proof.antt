@@ -3,9 +3,9 @@
 use mathlib.Core.Path.{subst}
 use native.Mathlib.Omega.{arith}
 use borrow.Author.Needs.{needs}
-use Rattle.reading.specs.Answer.{outcomeOf, Answers, Reads, too-long}
-use Rattle.reading.specs.declared.read.ReadAnswer.{ReadAnswer}
-use Rattle.reading.proofs.Recorded.{count-limit}
+use Rattle.recogniser.specs.Answer.{outcomeOf, Answers, Reads, too-long}
+use Rattle.recogniser.specs.declared.answer.ReadAnswer.{ReadAnswer}
+use Rattle.recogniser.proofs.Counted.{count-limit}
 use Rattle.reading.proofs.Parted.{from-to, part-placed}
 use Rattle.reading.proofs.parts.part_place.Statement.{statement}
 use Rattle.reading.proofs.parts.part_place.Tie as tie

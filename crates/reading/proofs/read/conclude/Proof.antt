@@ -1,7 +1,7 @@
 -- `reading::read::conclude` meets its contract: the link of the last syllable says whether it waits.
 -- Assumes nothing.
 use borrow.Author.Needs.{needs}
-use Rattle.reading.proofs.Answered.{scan-halted}
+use Rattle.reading.proofs.Stopped.{scan-halted}
 use Rattle.reading.proofs.read.conclude.Statement.{statement}
 use Rattle.reading.proofs.read.conclude.Tie as tie
 

@@ -2,9 +2,10 @@
 -- Assumes nothing.
 use mathlib.Core.Path.{refl, sym, subst}
 use borrow.Author.Needs.{needs}
-use Rattle.reading.specs.Answer.{outcomeOf, too-long, Answers, SyllablesFor, ReadRight}
-use Rattle.reading.specs.declared.read.ReadAnswer.{ReadAnswer}
-use Rattle.reading.proofs.Answered.{syllables-right}
+use Rattle.recogniser.specs.Answer.{outcomeOf, too-long, Answers}
+use Rattle.recogniser.specs.declared.answer.ReadAnswer.{ReadAnswer}
+use Rattle.reading.specs.Reading.{SyllablesFor, ReadRight}
+use Rattle.reading.proofs.Stopped.{syllables-right}
 use Rattle.reading.proofs.read.read.Statement.{statement}
 use Rattle.reading.proofs.read.read.Tie as tie
 

@@ -3,10 +3,11 @@
 use mathlib.Core.Path.{refl, sym, subst}
 use native.Mathlib.Omega.{arith}
 use borrow.Author.Needs.{needs}
-use Rattle.reading.specs.Answer.{outcomeOf, Answers}
+use Rattle.recogniser.specs.Answer.{outcomeOf, Answers}
+use Rattle.recogniser.specs.declared.answer.ReadAnswer.{ReadAnswer}
+use Rattle.recogniser.proofs.Counted.{count-limit}
 use Rattle.reading.specs.Records.{RecordRight}
-use Rattle.reading.specs.declared.read.ReadAnswer.{ReadAnswer}
-use Rattle.reading.proofs.Recorded.{count-limit, reads, has-record}
+use Rattle.reading.proofs.Recorded.{reads, has-record}
 use Rattle.reading.proofs.records.record_at.Statement.{statement}
 use Rattle.reading.proofs.records.record_at.Tie as tie
 

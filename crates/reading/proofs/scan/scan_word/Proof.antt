@@ -7,8 +7,9 @@ use borrow.Author.Needs.{needs}
 use lib.ListN.{length}
 use denote.Ref.{now}
 use Rattle.formula.specs.Limits.{limit}
+use Rattle.recogniser.proofs.Kept.{count-bound}
 use Rattle.reading.specs.Scanned.{Reached}
-use Rattle.reading.proofs.Reach.{at-start, stop, completed, count-bound, next-count, begun-count, begun, kept-on, window-count}
+use Rattle.reading.proofs.Reach.{at-start, stop, completed, next-count, begun-count, begun, kept-on, window-count}
 use Rattle.reading.proofs.scan.scan_word.Statement.{statement}
 use Rattle.reading.proofs.scan.scan_word.Tie as tie
 

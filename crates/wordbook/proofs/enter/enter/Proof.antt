@@ -6,8 +6,8 @@ use native.Mathlib.Omega.{arith}
 use Prim.Native.Nat.{_≤_}
 use lib.ListN.{length}
 use denote.Ref.{now}
-use Rattle.reading.specs.Answer.{outcomeOf}
-use Rattle.reading.specs.declared.read.ReadAnswer.{ReadAnswer}
+use Rattle.recogniser.specs.Answer.{outcomeOf}
+use Rattle.recogniser.specs.declared.answer.ReadAnswer.{ReadAnswer}
 use Rattle.normaliser.specs.Normal.{StoreAnswers, WordFor}
 use Rattle.wordbook.specs.Calls.{empty, refused}
 use Rattle.wordbook.proofs.enter.enter.Statement.{statement}

@@ -1,0 +1,55 @@
+-- The promise of the answer for a word determines it: the conditions of the refusals shut each other out, and each fixes its place.
+-- Assumes nothing.
+use mathlib.Core.Path.{_≡_, refl, ap, sym, _∙_}
+use mathlib.Core.List.{List}
+use Prim.Native.Nat.{ℕ, _<_}
+use native.Mathlib.Decide.{decLt}
+use native.Mathlib.Omega.{arith}
+use lib.ListN.{length}
+use Rattle.formula.specs.Row.{LongestViable}
+use Rattle.recogniser.specs.Answer.{Outcome, accepts, refuses, Admissible, FirstForeign, RefusedWith, too-long, foreign, no-continuation, unfinished, Answers}
+use Rattle.recogniser.proofs.Answered.{refused-no-row}
+
+-- two places neither of which comes before the other
+same-place : (p q : ℕ) → (p < q → ⊥) → (q < p → ⊥) → p ≡ q
+same-place p q f g = go (decLt p q) (decLt q p)
+  where
+    go : Dec (p < q) → Dec (q < p) → p ≡ q
+    go (yes h) d = absurd (f h)
+    go (no h) (yes i) = absurd (g i)
+    go (no h) (no i) = omega arith
+
+module _ (word : List ℕ) where
+  foreign-place : (p q : ℕ) → FirstForeign word p → FirstForeign word q → p ≡ q
+  foreign-place p q a b = same-place p q (λ h. a .foreign (b .before p h)) (λ h. b .foreign (a .before q h))
+
+  pub longest-place : (p q : ℕ) → LongestViable word p → LongestViable word q → p ≡ q
+  longest-place p q a b = same-place p q (λ h. a .longest q h (b .within) (b .viable)) (λ h. b .longest p h (a .within) (a .viable))
+
+  admissible-no-foreign : (p : ℕ) → Admissible word → FirstForeign word p → ⊥
+  admissible-no-foreign p a f = f .foreign (a .admitted p (f .within))
+
+  refused-alike : (n p m q : ℕ) → RefusedWith word n p → RefusedWith word m q → refuses n p ≡ refuses m q
+  refused-alike n p m q (too-long h) (too-long i) = refl
+  refused-alike n p m q (too-long h) (foreign f) = let s = f .short in let z : ⊥ = omega arith in absurd z
+  refused-alike n p m q (too-long h) (no-continuation a v l) = let s = a .short in let z : ⊥ = omega arith in absurd z
+  refused-alike n p m q (too-long h) (unfinished a r v) = let s = a .short in let z : ⊥ = omega arith in absurd z
+  refused-alike n p m q (foreign f) (too-long i) = let s = f .short in let z : ⊥ = omega arith in absurd z
+  refused-alike n p m q (foreign f) (foreign g) = ap (refuses 2) (foreign-place p q f g)
+  refused-alike n p m q (foreign f) (no-continuation a v l) = absurd (admissible-no-foreign p a f)
+  refused-alike n p m q (foreign f) (unfinished a r v) = absurd (admissible-no-foreign p a f)
+  refused-alike n p m q (no-continuation a v l) (too-long i) = let s = a .short in let z : ⊥ = omega arith in absurd z
+  refused-alike n p m q (no-continuation a v l) (foreign g) = absurd (admissible-no-foreign q a g)
+  refused-alike n p m q (no-continuation a v l) (no-continuation b w k) = ap (refuses 3) (longest-place p q l k)
+  refused-alike n p m q (no-continuation a v l) (unfinished b r w) = absurd (v w)
+  refused-alike n p m q (unfinished a r v) (too-long i) = let s = a .short in let z : ⊥ = omega arith in absurd z
+  refused-alike n p m q (unfinished a r v) (foreign g) = absurd (admissible-no-foreign q a g)
+  refused-alike n p m q (unfinished a r v) (no-continuation b w k) = absurd (w v)
+  refused-alike n p m q (unfinished a r v) (unfinished b s w) = refl
+
+  -- two answers that meet the promise are the same in document 01's terms
+  pub answers-alike : (o r : Outcome) → Answers word o → Answers word r → o ≡ r
+  answers-alike (accepts n) (accepts m) a b = ap accepts (sym (a .count) ∙ ap length (b .only (a .row) (a .gives)) ∙ b .count)
+  answers-alike (accepts n) (refuses m q) a b = absurd (refused-no-row word m q b (a .admissible) (a .row) (a .gives))
+  answers-alike (refuses n p) (accepts m) a b = absurd (refused-no-row word n p a (b .admissible) (b .row) (b .gives))
+  answers-alike (refuses n p) (refuses m q) a b = refused-alike n p m q a b

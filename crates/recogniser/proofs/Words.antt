@@ -1,0 +1,196 @@
+-- The starred words of document 01, as one table: the answer that the definitions give each word, its weights and its spelled syllables.
+-- Assumes nothing.
+use mathlib.Core.Path.{_≡_, refl, ap, sym, subst, _∙_}
+use mathlib.Core.Bool.{Bool, true, false, _&&_}
+use mathlib.Core.List.{List, [], _∷_, reverse, reverse-reverse}
+use mathlib.Core.Option.{Option, none, some, Option·some-injective}
+use Prim.Native.Nat.{ℕ, suc, _+_, _≤_, _<_}
+use native.Mathlib.Numerals.{add-one}
+use native.Mathlib.Omega.{arith}
+use lib.Dec.{T, eqb, leb, eqb→eq, leb→le}
+use lib.ListN.{length, getD, take, drop, length-drop, length-reverse}
+use lib.Seq.{take-all, drop-cons}
+use Rattle.letters.specs.Choice.{pick}
+use Rattle.letters.specs.Letters.{isAdmitted}
+use Rattle.formula.specs.Limits.{limit}
+use Rattle.formula.specs.Syllable.{carriesMarks, carriesFinal, isClosed}
+use Rattle.formula.specs.Row.{Row, Gives, Viable}
+use Rattle.formula.specs.Spelled.{spelled}
+use Rattle.formula.specs.Weighing.{weightsOf, weights}
+use Rattle.formula.proofs.Lists.{both-left, both-right, every, All, every-all, every-at, sameLists, sameLists-equal}
+use Rattle.rows.specs.Kept.{endOf, step, run}
+use Rattle.rows.proofs.Sound.{sound}
+use Rattle.rows.proofs.Viable.{read-back, only-row, unfinished, alive, stops, goes-on, longest}
+use Rattle.recogniser.specs.Answer.{Outcome, accepts, refuses, Admissible, RefusedWith, no-continuation, unfinished as open-end, Answers}
+
+-- the answer of the machine
+abbrev atEnd : Bool → ℕ → ℕ → Outcome
+atEnd true n at = accepts n
+atEnd false n at = refuses 4 at
+
+abbrev after : Option Row → ℕ → (Row → Outcome) → Outcome
+after none at f = refuses 3 at
+after (some kept) at f = f kept
+
+abbrev verdict : ℕ → Row → List ℕ → Outcome
+verdict at kept [] = atEnd (isClosed (endOf kept)) (length kept) at
+verdict at kept (x ∷ w) = after (step kept x) at (λ (b : Row). verdict (at + 1) b w)
+
+module _ (word : List ℕ) (a : Admissible word) where
+  ended : (at : ℕ) (kept : Row) → at ≡ length word → run (take at word) [] ≡ some kept → Answers word (atEnd (isClosed (endOf kept)) (length kept) at)
+  ended at kept h e = go (isClosed (endOf kept)) refl
+    where
+      came : run word [] ≡ some kept
+      came = subst (λ (w : List ℕ). run w [] ≡ some kept) (take-all at word (omega arith)) e
+
+      go : (b : Bool) → isClosed (endOf kept) ≡ b → Answers word (atEnd b (length kept) at)
+      go true d =
+          let g : Gives (reverse kept) word = sound word kept came (subst T (sym d) tt) in
+          record { admissible = a; row = reverse kept; gives = g; only = λ other i. only-row other (reverse kept) word i g; count = length-reverse kept }
+      go false d =
+          subst (RefusedWith word 4) (sym h)
+          (open-end a (unfinished word kept came (λ (t : T (isClosed (endOf kept))). subst T d t)) (alive word kept came))
+
+  verdict-right : (w : List ℕ) (at : ℕ) (kept : Row) → drop at word ≡ w → at ≤ length word → run (take at word) [] ≡ some kept → Answers word (verdict at kept w)
+  verdict-right [] at kept d h e = ended at kept (let l = ap length d in omega (arith, length-drop at word)) e
+  verdict-right (x ∷ w) at kept d h e = go (step kept x) refl (verdict-right w (at + 1))
+    where
+      inside : at < length word
+      inside = let l = ap length d in omega (arith, length-drop at word)
+
+      cons : getD word at 0 ∷ drop (suc at) word ≡ x ∷ w
+      cons = sym (drop-cons word at 0 inside) ∙ d
+
+      value : getD word at 0 ≡ x
+      value = ap (λ (l : List ℕ). getD l 0 0) cons
+
+      rest : drop (at + 1) word ≡ w
+      rest = ap (λ (n : ℕ). drop n word) (add-one at) ∙ ap (drop 1) cons
+
+      go : (o : Option Row) → step kept x ≡ o
+          → ((b : Row) → drop (at + 1) word ≡ w → at + 1 ≤ length word → run (take (at + 1) word) [] ≡ some b → Answers word (verdict (at + 1) b w))
+          → Answers word (after o at (λ (b : Row). verdict (at + 1) b w))
+      go none s f =
+          let t : step kept (getD word at 0) ≡ none = ap (step kept) value ∙ s in
+          no-continuation a
+          (λ (v : Viable word). stops word at kept inside e t (length word) inside (subst Viable (sym (take-all (length word) word (omega arith))) v))
+          (longest word at kept inside e t)
+      go (some b) s f =
+          f b rest (omega (arith, inside))
+          (subst (λ (n : ℕ). run (take n word) [] ≡ some b) (sym (add-one at)) (goes-on word at kept b inside e (ap (step kept) value ∙ s)))
+
+-- what document 01 says of a word: its syllables' weights and spelled forms, or the number and place of its refusal
+pub data Expected : Type 0 where
+  readable : List (List ℕ) → List (List ℕ) → Expected
+  refused : ℕ → ℕ → Expected
+
+abbrev pub expectedOutcome : Expected → Outcome
+expectedOutcome (readable w s) = accepts (length w)
+expectedOutcome (refused n p) = refuses n p
+
+-- the starred words; 1000 1031 102C 103A is "one syllable"
+abbrev pub starred : List (List ℕ × Expected)
+starred =
+    ([], readable [] [])
+    ∷ (0x1000 ∷ [], readable ((13 ∷ 0 ∷ 0 ∷ 0 ∷ 0 ∷ []) ∷ []) ((0x1000 ∷ []) ∷ []))
+    ∷ (
+      0x101E ∷ 0x1019 ∷ 0x102E ∷ 0x1038 ∷ [],
+      readable ((43 ∷ 0 ∷ 0 ∷ 0 ∷ 0 ∷ []) ∷ (38 ∷ 0 ∷ 0 ∷ 3 ∷ 2 ∷ []) ∷ []) ((0x101E ∷ []) ∷ (0x1019 ∷ 0x102E ∷ 0x1038 ∷ []) ∷ []),
+    )
+    ∷ (
+      0x1010 ∷ 0x1000 ∷ 0x1039 ∷ 0x1000 ∷ 0x101E ∷ 0x102D ∷ 0x102F ∷ 0x101C ∷ 0x103A ∷ [],
+      readable ((29 ∷ 0 ∷ 1 ∷ 0 ∷ 0 ∷ []) ∷ (13 ∷ 0 ∷ 0 ∷ 0 ∷ 0 ∷ []) ∷ (43 ∷ 0 ∷ 29 ∷ 11 ∷ 0 ∷ []) ∷ [])
+          ((0x1010 ∷ 0x1000 ∷ 0x103A ∷ []) ∷ (0x1000 ∷ []) ∷ (0x101E ∷ 0x102D ∷ 0x102F ∷ 0x101C ∷ 0x103A ∷ []) ∷ []),
+    )
+    ∷ (
+      0x1021 ∷ 0x1004 ∷ 0x103A ∷ 0x1039 ∷ 0x1002 ∷ 0x101C ∷ 0x1014 ∷ 0x103A ∷ [],
+      readable ((46 ∷ 0 ∷ 5 ∷ 0 ∷ 0 ∷ []) ∷ (15 ∷ 0 ∷ 0 ∷ 0 ∷ 0 ∷ []) ∷ (41 ∷ 0 ∷ 21 ∷ 0 ∷ 0 ∷ []) ∷ [])
+          ((0x1021 ∷ 0x1004 ∷ 0x103A ∷ []) ∷ (0x1002 ∷ []) ∷ (0x101C ∷ 0x1014 ∷ 0x103A ∷ []) ∷ []),
+    )
+    ∷ (
+      0x1015 ∷ 0x103C ∷ 0x103F ∷ 0x1014 ∷ 0x102C ∷ [],
+      readable ((34 ∷ 2 ∷ 31 ∷ 0 ∷ 0 ∷ []) ∷ (43 ∷ 0 ∷ 0 ∷ 0 ∷ 0 ∷ []) ∷ (33 ∷ 0 ∷ 0 ∷ 1 ∷ 0 ∷ []) ∷ [])
+          ((0x1015 ∷ 0x103C ∷ 0x101E ∷ 0x103A ∷ []) ∷ (0x101E ∷ []) ∷ (0x1014 ∷ 0x102C ∷ []) ∷ []),
+    )
+    ∷ (0x1000 ∷ 0x1039 ∷ [], refused 3 1)
+    ∷ (0x1000 ∷ 0x1000 ∷ 0x1039 ∷ [], refused 4 3)
+    ∷ (0x1000 ∷ 0x1004 ∷ 0x1039 ∷ 0x1000 ∷ [], refused 3 2)
+    ∷ (0x103F ∷ [], refused 3 0)
+    ∷ (0x1000 ∷ 0x103B ∷ 0x103C ∷ [], refused 3 2)
+    ∷ (0x1000 ∷ 0x102C ∷ 0x103A ∷ [], refused 3 2)
+    ∷ (
+      0x1000 ∷ 0x1031 ∷ 0x102C ∷ 0x103A ∷ [],
+      readable ((13 ∷ 0 ∷ 0 ∷ 9 ∷ 0 ∷ []) ∷ []) ((0x1000 ∷ 0x1031 ∷ 0x102C ∷ 0x103A ∷ []) ∷ []),
+    )
+    ∷ []
+
+abbrev sameOutcome : Outcome → Outcome → Bool
+sameOutcome (accepts n) (accepts m) = eqb n m
+sameOutcome (accepts n) (refuses m q) = false
+sameOutcome (refuses n p) (accepts m) = false
+sameOutcome (refuses n p) (refuses m q) = eqb n m && eqb p q
+
+same-outcome : (o r : Outcome) → T (sameOutcome o r) → o ≡ r
+same-outcome (accepts n) (accepts m) t = ap accepts (eqb→eq n m t)
+same-outcome (accepts n) (refuses m q) t = absurd t
+same-outcome (refuses n p) (accepts m) t = absurd t
+same-outcome (refuses n p) (refuses m q) t =
+    let e : n ≡ m = eqb→eq n m (both-left (eqb n m) (eqb p q) t) in
+    let d : p ≡ q = eqb→eq p q (both-right (eqb n m) (eqb p q) t) in
+    rw (e, d)
+
+-- the row that was kept has these weights and spelled syllables
+abbrev hasForms : Expected → Option Row → Bool
+hasForms (readable w s) none = false
+hasForms (readable w s) (some kept) = sameLists (weights (reverse kept)) w && sameLists (spelled (reverse kept)) s
+hasForms (refused n p) o = true
+
+abbrev isRight : List ℕ × Expected → Bool
+isRight e =
+    leb (length (e .0)) limit
+    && (every isAdmitted (e .0) && (sameOutcome (verdict 0 [] (e .0)) (expectedOutcome (e .1)) && hasForms (e .1) (run (e .0) [])))
+
+starred-computed : T (every isRight starred)
+unfolding weightsOf pick carriesMarks carriesFinal
+starred-computed = tt
+
+-- what the definitions say of a starred word
+abbrev pub Forms : List ℕ → Expected → Type 0
+Forms word (readable w s) = (row : Row) → Gives row word → (weights row ≡ w) × (spelled row ≡ s)
+Forms word (refused n p) = Unit {0}
+
+pub record Right (e : List ℕ × Expected) : Type 0 where
+  pub answers : Answers (e .0) (expectedOutcome (e .1))
+  pub forms : Forms (e .0) (e .1)
+
+forms-right : (word : List ℕ) (e : Expected) (o : Option Row) → run word [] ≡ o → T (hasForms e o) → Forms word e
+forms-right word (readable w s) none d t = absurd t
+forms-right word (readable w s) (some kept) d t =
+    λ row g. let k : row ≡ reverse kept = sym (reverse-reverse row) ∙ ap reverse (Option·some-injective (reverse row) kept (sym (read-back row word g) ∙ d)) in (
+      ap weights k ∙ sameLists-equal (weights (reverse kept)) w (both-left (sameLists (weights (reverse kept)) w) _ t),
+      ap spelled k ∙ sameLists-equal (spelled (reverse kept)) s (both-right (sameLists (weights (reverse kept)) w) (sameLists (spelled (reverse kept)) s) t),
+    )
+forms-right word (refused n p) o d t = tt
+
+right : (e : List ℕ × Expected) → T (isRight e) → Right e
+right e t =
+    let short = leb (length (e .0)) limit in
+    let known = every isAdmitted (e .0) in
+    let same = sameOutcome (verdict 0 [] (e .0)) (expectedOutcome (e .1)) in
+    let forms = hasForms (e .1) (run (e .0) []) in
+    let u : T (known && (same && forms)) = both-right short (known && (same && forms)) t in
+    let v : T (same && forms) = both-right known (same && forms) u in
+    let a : Admissible (e .0) =
+    record {
+      short = leb→le (length (e .0)) limit (both-left short (known && (same && forms)) t);
+      admitted = every-at isAdmitted (e .0) (both-left known (same && forms) u);
+    } in
+    record {
+      answers =
+          subst (Answers (e .0)) (same-outcome (verdict 0 [] (e .0)) (expectedOutcome (e .1)) (both-left same forms v))
+          (verdict-right (e .0) a (e .0) 0 [] refl (omega arith) refl);
+      forms = forms-right (e .0) (e .1) (run (e .0) []) refl (both-right same forms v);
+    }
+
+pub starred-right : All Right starred
+starred-right = every-all isRight Right right starred starred-computed

@@ -1,0 +1,35 @@
+-- `recogniser::walk::is_row` meets its contract: a word is answered with its syllables exactly where some row gives it.
+-- Assumes nothing.
+use mathlib.Core.Path.{subst}
+use borrow.Author.Needs.{needs}
+use Rattle.recogniser.specs.Answer.{outcomeOf, Answers, Readable}
+use Rattle.recogniser.specs.declared.answer.ReadAnswer.{ReadAnswer}
+use Rattle.recogniser.proofs.Answered.{refused-no-row}
+use Rattle.recogniser.proofs.walk.is_row.Statement.{statement}
+use Rattle.recogniser.proofs.walk.is_row.Tie as tie
+
+answer-of-requires : tie.Need-answer-of-requires
+answer-of-requires c κs = search needs
+
+enum-told : tie.Need-enum-told
+enum-told c = search needs
+
+enum-told-2 : tie.Need-enum-told-2
+enum-told-2 c = search needs
+
+returns : tie.Need-returns
+returns c =
+    let a = c .before .before in
+    let word = a .before .before .args .word .now in
+    λ (r : Readable word). refused-no-row word _ _
+    (subst (λ (w : ReadAnswer). Answers word (outcomeOf w)) (c .enum-told2 .given .1) (a .answer-of .ensures)) (r .admissible) (r .row) (r .gives)
+
+returns-2 : tie.Need-returns-2
+returns-2 c =
+    let a = c .before .before in
+    let word = a .before .before .args .word .now in
+    let r = subst (λ (w : ReadAnswer). Answers word (outcomeOf w)) (c .enum-told .given .1) (a .answer-of .ensures) in
+    record { admissible = r .admissible; row = r .row; gives = r .gives; only = r .only }
+
+pub is-row-spec : {M : Type 1} → statement M
+is-row-spec = tie.close (tie.spec answer-of-requires enum-told enum-told-2 returns returns-2)
