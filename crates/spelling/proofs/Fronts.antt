@@ -10,10 +10,10 @@ use lib.ListN.{length, getD, take, drop, set, length-append, length-map, length-
 use lib.Seq.{take-suc, drop-cons, set-at, length-take-le, append-snoc}
 use Rattle.formula.specs.Syllable.{no-final, part}
 use Rattle.formula.specs.declared.Syllable.{Syllable as Numbers}
-use Rattle.writing.specs.Decode.{syllableOf}
-use Rattle.writing.specs.Size.{PartSize}
-use Rattle.writing.specs.Put.{partAfter, PartPut}
-use Rattle.writing.proofs.Putting.{put-length, put-behind}
+use Rattle.syllable_text.specs.Decode.{syllableOf}
+use Rattle.syllable_text.specs.Part.{PartSize}
+use Rattle.syllable_text.specs.Part.{partAfter, PartPut}
+use Rattle.syllable_text.proofs.Putting.{put-length, put-behind}
 use Rattle.spelling.specs.Spell.{joined, startsFrom, spelledStarts, lists}
 use Rattle.spelling.specs.Plain.{plainBytes, spelledBy, spelledFront}
 use Rattle.spelling.specs.Put.{Counted, SyllableRoom, SyllablePut, Room, SyllablesPut}

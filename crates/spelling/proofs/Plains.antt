@@ -20,10 +20,10 @@ use Rattle.formula.specs.declared.Syllable.{Syllable as Numbers}
 use Rattle.rows.proofs.Sound.{apart, reclosed}
 use Rattle.rows.proofs.Complete.{either, first}
 use Rattle.reading.proofs.Recorded.{bytes-numbers}
-use Rattle.writing.specs.Decode.{syllableOf}
-use Rattle.writing.specs.Put.{headAfter, partAfter}
-use Rattle.writing.proofs.Decoded.{read}
-use Rattle.writing.proofs.Texts.{medial-short, vowel-short, final-short, tone-short}
+use Rattle.syllable_text.specs.Decode.{syllableOf}
+use Rattle.syllable_text.specs.Part.{headAfter, partAfter}
+use Rattle.syllable_text.proofs.Decoded.{read}
+use Rattle.syllable_text.proofs.Texts.{medial-short, vowel-short, final-short, tone-short}
 use Rattle.spelling.specs.Plain.{plainOf, plainLink, plainBytes, spelledBy}
 
 -- a plain final asks for no more than the final does

@@ -8,7 +8,7 @@ use Rattle.letters.specs.Choice.{pick}
 use Rattle.formula.specs.Syllable.{Final, no-final, plain, stacked, kinzi, great-sa, Syllable, syllable, part}
 use Rattle.formula.specs.declared.Syllable.{Syllable as Numbers}
 use Rattle.reading.specs.Records.{bytesBy}
-use Rattle.writing.specs.Decode.{syllableOf}
+use Rattle.syllable_text.specs.Decode.{syllableOf}
 
 -- the plain final with the same letter
 abbrev pub plainFinal : Final → Final

@@ -6,7 +6,7 @@ use Prim.Native.Nat.{ℕ, _+_, _≤_, _<_}
 use lib.ListN.{length, drop, set}
 use Rattle.formula.specs.Limits.{limit}
 use Rattle.formula.specs.declared.Syllable.{Syllable as Numbers}
-use Rattle.writing.specs.Put.{PartPut}
+use Rattle.syllable_text.specs.Part.{PartPut}
 use Rattle.spelling.specs.Spell.{joined, spelledStarts, Lists}
 use Rattle.spelling.specs.Plain.{spelledBy, spelledFront}
 

@@ -40,7 +40,7 @@ fn measure(syllables: [Syllable; Word::LIMIT], count: usize) -> usize
     let mut size = 0;
     let mut number = 0;
     while number < count {
-        size += writing::row::part_size(plain_record(syllables[number]));
+        size += syllable_text::part::part_size(plain_record(syllables[number]));
         number += 1;
     }
     size
@@ -58,7 +58,7 @@ fn put_syllable(
     ensures { λ r. ⌜ SyllablePut syllable number at (lists (now (values .entry)) (now (starts .entry))) (lists (now (values .exit)) (now (starts .exit))) r ⌝ }
 {
     starts[number] = at as u16;
-    writing::row::put_part(values, at, 0, plain_record(syllable))
+    syllable_text::part::put_part(values, at, 0, plain_record(syllable))
 }
 
 // Writes the first syllables, spelled, to one list, and the place where each begins to the other.

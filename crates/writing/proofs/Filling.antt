@@ -15,12 +15,15 @@ use Rattle.formula.proofs.Lists.{both-left, both-right}
 use Rattle.formula.specs.Syllable.{Final, no-final, plain, stacked, kinzi, great-sa, Syllable, syllable, finalOf, part}
 use Rattle.formula.specs.Row.{Row, joinAfter, join}
 use Rattle.formula.specs.Record.{linkOf}
-use Rattle.writing.specs.Decode.{syllableOf}
-use Rattle.writing.specs.Records.{linkAdmits, isRecord, mayFollow, rowOf, areRecords}
-use Rattle.writing.specs.Put.{headAfter, partAfter, PartPut, RowFits, RowPut}
-use Rattle.writing.proofs.Sevens.{seven, row-next, records-next, records-short}
-use Rattle.writing.proofs.Decoded.{decoded}
-use Rattle.writing.proofs.Putting.{put-length, put-behind}
+use Rattle.syllable_text.specs.Decode.{syllableOf}
+use Rattle.syllable_text.specs.Record.{linkAdmits, isRecord, mayFollow}
+use Rattle.syllable_text.specs.Part.{headAfter, partAfter, PartPut}
+use Rattle.syllable_text.proofs.Sevens.{seven}
+use Rattle.syllable_text.proofs.Decoded.{decoded}
+use Rattle.syllable_text.proofs.Putting.{put-length, put-behind}
+use Rattle.writing.specs.Records.{rowOf, areRecords}
+use Rattle.writing.specs.Put.{RowFits, RowPut}
+use Rattle.writing.proofs.Sevens.{row-next, records-next, records-short}
 
 -- the part behind a link is the part behind its final
 part-after : (f : Final) (s : Syllable) → partAfter (linkOf f) s ≡ part f s

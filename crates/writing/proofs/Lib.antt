@@ -1,10 +1,5 @@
-pub mod Bytes
-pub mod Parts
-pub mod Decoded
 pub mod Sevens
 pub mod Rows
-pub mod Texts
-pub mod Putting
 pub mod Measuring
 pub mod Filling
 pub mod Answers

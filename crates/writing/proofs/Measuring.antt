@@ -13,9 +13,11 @@ use Rattle.letters.proofs.Picks.{pick-yes, pick-no, and-yes, and-no-left, and-n
 use Rattle.formula.specs.Limits.{limit}
 use Rattle.formula.specs.Syllable.{Final, no-final, Syllable, syllable, finalOf, part}
 use Rattle.formula.specs.Row.{Row, joinAfter, join}
-use Rattle.writing.specs.Decode.{syllableOf}
-use Rattle.writing.specs.Records.{mayFollow, rowOf, areRecords}
-use Rattle.writing.specs.Size.{sizeOf, PartSize}
+use Rattle.syllable_text.specs.Decode.{syllableOf}
+use Rattle.syllable_text.specs.Record.{mayFollow}
+use Rattle.syllable_text.specs.Part.{PartSize}
+use Rattle.writing.specs.Records.{rowOf, areRecords}
+use Rattle.writing.specs.Size.{sizeOf}
 use Rattle.writing.specs.declared.row.Size.the-variants.{Values, NoSuchRow}
 use Rattle.writing.proofs.Sevens.{row-next, records-next, records-short}
 

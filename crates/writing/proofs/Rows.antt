@@ -13,10 +13,11 @@ use Rattle.formula.specs.Row.{Row, isRowAfter}
 use Rattle.formula.specs.Record.{finalNumberOf, linkOf, recordOf, recordBytes}
 use Rattle.rows.proofs.Sound.{apart}
 use Rattle.rows.proofs.Complete.{first}
-use Rattle.writing.specs.Decode.{syllableOf}
-use Rattle.writing.specs.Records.{linkAdmits, isRecord, mayFollow, rowOf, areRecords}
-use Rattle.writing.proofs.Parts.{head-least, final-closed}
-use Rattle.writing.proofs.Decoded.{read, decoded}
+use Rattle.syllable_text.specs.Decode.{syllableOf}
+use Rattle.syllable_text.specs.Record.{linkAdmits, isRecord, mayFollow}
+use Rattle.syllable_text.proofs.Parts.{head-least, final-closed}
+use Rattle.syllable_text.proofs.Decoded.{read, decoded}
+use Rattle.writing.specs.Records.{rowOf, areRecords}
 
 or-false : (b : Bool) → (b || false) ≡ b
 or-false true = refl

@@ -1,46 +1,12 @@
--- Document 01, "Syllable records": the tests that tell the records of a row from other bytes, by the bytes themselves.
+-- Document 01, "Syllable records": the tests that tell the records of a row from other bytes, and the row that they are read as.
 -- Assumes nothing.
-use mathlib.Core.Bool.{Bool, false, _&&_, _||_}
+use mathlib.Core.Bool.{Bool, false, _&&_}
 use mathlib.Core.List.{List, [], _∷_}
-use Prim.Native.Nat.{ℕ, _+_}
-use lib.Dec.{eqb, leb}
-use lib.ListN.{getD}
-use Rattle.letters.specs.Weights.{isHead, isFinalLetter}
-use Rattle.formula.specs.Syllable.{carriesMarks, carriesFinal}
+use Prim.Native.Nat.{ℕ}
+use lib.Dec.{leb}
 use Rattle.formula.specs.Row.{Row}
-use Rattle.writing.specs.Decode.{syllableOf}
-
--- a vowel's weight, and "1 for a tall AA, else 0"
-unfoldable pub isVowelNumbers : ℕ → ℕ → Bool
-isVowelNumbers weight tall = leb weight 12 && (eqb tall 0 || (eqb tall 1 && (eqb weight 1 || eqb weight 8 || eqb weight 9)))
-
--- a final letter's number and its link, which are both 0 or neither; great sa is a final 101E
-unfoldable pub isFinalNumbers : ℕ → ℕ → Bool
-isFinalNumbers letter link =
-    (eqb link 0 && eqb letter 0) || (leb 1 link && leb link 2 && leb 1 letter && leb letter 33) || (eqb link 3 && eqb letter 31)
-
--- a tone's weight; links 2 and 3 "take no tone"
-unfoldable pub isToneNumber : ℕ → ℕ → Bool
-isToneNumber link tone = leb tone 2 && (leb link 1 || eqb tone 0)
-
--- what a link asks of the next syllable's head
-unfoldable pub linkAdmits : ℕ → ℕ → Bool
-linkAdmits link head = leb link 1 || (eqb link 2 && isFinalLetter head) || (eqb link 3 && eqb head 0x101E)
-
--- seven bytes that are a syllable's record; "For an I, N, P or S the last six are 0."
-unfoldable pub isRecord : List ℕ → Bool
-isRecord bytes =
-    isHead (0x1000 + getD bytes 0 0)
-    && leb (getD bytes 1 0) 11
-    && isVowelNumbers (getD bytes 2 0) (getD bytes 3 0)
-    && isFinalNumbers (getD bytes 4 0) (getD bytes 5 0)
-    && isToneNumber (getD bytes 5 0) (getD bytes 6 0)
-    && (carriesMarks (0x1000 + getD bytes 0 0) || (eqb (getD bytes 1 0) 0 && eqb (getD bytes 2 0) 0))
-    && (carriesFinal (0x1000 + getD bytes 0 0) || (eqb (getD bytes 5 0) 0 && eqb (getD bytes 6 0) 0))
-
--- a record that stands behind one with the link
-unfoldable pub mayFollow : ℕ → List ℕ → Bool
-mayFollow link bytes = linkAdmits link (0x1000 + getD bytes 0 0) && isRecord bytes
+use Rattle.syllable_text.specs.Decode.{syllableOf}
+use Rattle.syllable_text.specs.Record.{mayFollow}
 
 -- "a lent list of bytes, seven a syllable in word order": the syllables
 abbrev pub rowOf : List ℕ → Row

@@ -2,9 +2,7 @@
 use refusals::Refusal;
 ghost use Rattle.writing.specs.Write.{outcomeOf, WriteRight};
 
-mod record; // record.rt: the tests on one record
-pub mod row; // row.rt: the passes over the records
-mod text; // text.rt: the values that the numbers of a record stand for
+mod row; // row.rt: the passes over the records
 
 // How many values were written, or why none was.
 pub enum WriteAnswer {

@@ -1,14 +1,11 @@
 // The passes over the records of a row: one that tests and counts, and one that writes.
-use crate::record;
-use crate::text;
 use formula::Word;
+use syllable_text::part;
+use syllable_text::record;
 ghost use mathlib.Core.Path.{_≡_};
-ghost use Prim.Native.Nat.{_+_, _≤_};
 ghost use lib.ListN.{length};
-ghost use Rattle.writing.specs.Records.{mayFollow};
-ghost use Rattle.writing.specs.Decode.{syllableOf};
-ghost use Rattle.writing.specs.Size.{sizeOf, PartSize};
-ghost use Rattle.writing.specs.Put.{partAfter, PartPut, RowFits, RowPut};
+ghost use Rattle.writing.specs.Size.{sizeOf};
+ghost use Rattle.writing.specs.Put.{RowFits, RowPut};
 
 // How many values the records are written with, if they are those of a row and the values are few enough.
 pub enum Size {
@@ -27,10 +24,10 @@ pub(crate) fn measure(records: &[u8]) -> Size
             return Size::NoSuchRow;
         }
         let next = record::record_at(records, at);
-        if !may_follow(link, next) {
+        if !record::may_follow(link, next) {
             return Size::NoSuchRow;
         }
-        count += part_size(next);
+        count += part::part_size(next);
         if Word::LIMIT < count {
             return Size::NoSuchRow;
         }
@@ -43,24 +40,6 @@ pub(crate) fn measure(records: &[u8]) -> Size
     Size::Values(count)
 }
 
-// Whether the record is one, and may follow one with the link.
-fn may_follow(link: u8, next: [u8; 7]) -> bool
-    ensures { λ r. ⌜ r ≡ mayFollow link next ⌝ }
-{
-    record::admits(link, next[0]) & record::is_record(next)
-}
-
-// How many values the syllable's part has.
-pub fn part_size(next: [u8; 7]) -> usize
-    ensures { λ r. ⌜ PartSize next r ⌝ }
-{
-    let medial = text::medial_text(next[1]);
-    let vowel = text::vowel_text(next[2], next[3]);
-    let last = text::final_text(next[4], next[5]);
-    let tone = text::tone_text(next[6]);
-    1 + medial.count + vowel.count + last.count + tone.count
-}
-
 // Writes the word of records that were measured to the front of an output that is long enough, and gives its length.
 pub(crate) fn put_row(records: &[u8], output: &mut [u16]) -> usize
     requires { ⌜ RowFits (now records) (length (now output)) ⌝ }
@@ -71,21 +50,9 @@ pub(crate) fn put_row(records: &[u8], output: &mut [u16]) -> usize
     let mut place = 0;
     while place < records.len() {
         let next = record::record_at(records, place);
-        count = put_part(output, count, link, next);
+        count = part::put_part(output, count, link, next);
         link = next[5];
         place += 7;
     }
     count
-}
-
-// Writes the part of a syllable that stands behind one with the link, and gives the place behind the part.
-pub fn put_part(output: &mut [u16], at: usize, link: u8, next: [u8; 7]) -> usize
-    requires { ⌜ at + length (partAfter link (syllableOf next)) ≤ length (now output) ⌝ }
-    ensures { λ r. ⌜ PartPut (now (output .entry)) (now (output .exit)) at (partAfter link (syllableOf next)) r ⌝ }
-{
-    output[at] = text::head_value(link, next[0]);
-    let vowel_at = text::put(output, at + 1, text::medial_text(next[1]));
-    let final_at = text::put(output, vowel_at, text::vowel_text(next[2], next[3]));
-    let tone_at = text::put(output, final_at, text::final_text(next[4], next[5]));
-    text::put(output, tone_at, text::tone_text(next[6]))
 }

@@ -1,0 +1,76 @@
+-- A record and its syllable: reading a syllable's record gives the syllable, and bytes that pass the tests are the record of what is read.
+-- Assumes nothing.
+use mathlib.Core.Path.{_≡_}
+use mathlib.Core.Bool.{_||_}
+use mathlib.Core.List.{List, [], _∷_}
+use Prim.Native.Nat.{ℕ, _+_, _-_, _≤_}
+use native.Mathlib.Omega.{arith}
+use lib.Dec.{T, eqb, leb}
+use lib.ListN.{getD}
+use Rattle.letters.specs.Weights.{toneWeight}
+use Rattle.formula.proofs.Lists.{both, both-left, both-right}
+use Rattle.formula.specs.Syllable.{Syllable, syllable, finalOf, isSyllable}
+use Rattle.formula.specs.Record.{linkOf, recordOf}
+use Rattle.rows.proofs.Sound.{apart, together}
+use Rattle.syllable_text.specs.Decode.{medialOfWeight, vowelOfWeight, finalOfNumbers, toneOfWeight, syllableOf}
+use Rattle.syllable_text.specs.Record.{isToneNumber, isRecord}
+use Rattle.syllable_text.proofs.Parts.{tested, test-passes, head-least, medial-read, medial-weighs, vowel-read, vowel-weighs, final-read, final-absent, final-closed, final-numbers, tone-read, tone-weighs}
+
+-- a syllable's record passes the tests, and is read as the syllable
+pub record Read (s : Syllable) : Type 0 where
+  pub passes : T (isRecord (recordOf s))
+  pub back : syllableOf (recordOf s) ≡ s
+
+pub read : (s : Syllable) → T (isSyllable s) → Read s
+unfolding recordOf syllableOf isToneNumber
+read (syllable h m v f t) q =
+    let p = apart h m v f t q in
+    let least : 0x1000 ≤ h = head-least h (p .head) in
+    let own : 0x1000 + (h - 0x1000) ≡ h = omega arith in
+    record {
+      passes =
+          test-passes _ _ _ _ _ _ _
+          (record {
+            head-test = rw own (p .head);
+            medial-test = medial-read m .passes;
+            vowel-test = vowel-read v .passes;
+            final-test = final-read f (p .final) .passes;
+            tone-test = both (leb (toneWeight t) 2) (leb (linkOf f) 1 || eqb (toneWeight t) 0) (tone-read t .passes) (rw (← final-closed f, ← tone-read t .absent) (p .tone));
+            marks-test = rw (own, ← medial-read m .absent, ← vowel-read v .absent) (p .marks);
+            closing-test = rw (own, ← final-absent f, ← tone-read t .absent) (p .closing);
+          });
+      back = rw (own, medial-read m .back, vowel-read v .back, final-read f (p .final) .back, tone-read t .back);
+    }
+
+-- seven bytes that pass the tests are the record of the syllable that they are read as
+pub record Decoded (bytes : List ℕ) : Type 0 where
+  pub is : T (isSyllable (syllableOf bytes))
+  pub records : recordOf (syllableOf bytes) ≡ bytes
+  pub linked : linkOf (finalOf (syllableOf bytes)) ≡ getD bytes 5 0
+
+pub decoded : (head medial vowel tall letter link tone : ℕ) → T (isRecord (head ∷ medial ∷ vowel ∷ tall ∷ letter ∷ link ∷ tone ∷ []))
+    → Decoded (head ∷ medial ∷ vowel ∷ tall ∷ letter ∷ link ∷ tone ∷ [])
+unfolding recordOf syllableOf isToneNumber
+decoded head medial vowel tall letter link tone t =
+    let p = tested head medial vowel tall letter link tone t in
+    let final = final-numbers letter link (p .final-test) in
+    let vowels = vowel-weighs vowel tall (p .vowel-test) in
+    let medials = medial-weighs medial (p .medial-test) in
+    let tones = tone-weighs tone (both-left (leb tone 2) _ (p .tone-test)) in
+    record {
+      is =
+          together (0x1000 + head) (medialOfWeight medial) (vowelOfWeight vowel (eqb tall 1)) (finalOfNumbers letter link) (toneOfWeight tone)
+          (record {
+            head = p .head-test;
+            marks = rw (medial-read (medialOfWeight medial) .absent, vowel-read (vowelOfWeight vowel (eqb tall 1)) .absent, medials, vowels .0) (p .marks-test);
+            closing = rw (final-absent (finalOfNumbers letter link), tone-read (toneOfWeight tone) .absent, final .linked, tones) (p .closing-test);
+            final = final .is;
+            tone =
+                rw (final-closed (finalOfNumbers letter link), tone-read (toneOfWeight tone) .absent, final .linked, tones)
+                (both-right (leb tone 2) _ (p .tone-test));
+          });
+      records =
+          let own : 0x1000 + head - 0x1000 ≡ head = omega arith in
+          rw (own, medials, vowels .0, vowels .1, final .numbered, final .linked, tones);
+      linked = final .linked;
+    }

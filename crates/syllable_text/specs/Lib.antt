@@ -1,0 +1,4 @@
+pub mod Decode
+pub mod Record
+pub mod Text
+pub mod Part
