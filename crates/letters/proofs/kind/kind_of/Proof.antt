@@ -10,7 +10,7 @@ use lib.Dec.{T}
 use lib.ListN.{getD}
 use Rattle.letters.specs.Choice.{pick}
 use Rattle.letters.specs.Letters.{kindOf, isAdmitted}
-use Rattle.letters.specs.declared.kind.Kind.the-variants.{Consonant, IndependentVowel, Medial, VowelMark, Tone, Killer, Stacker, GreatSa, Digit, Stop, Sign, Foreign}
+use Rattle.letters.specs.declared.kind.Kind.the-variants.{Foreign}
 use Rattle.letters.proofs.Arms.{same-at, inArms, InNone, in-none}
 use Rattle.letters.proofs.Counted.{on-chart, unadmitted-foreign, below-foreign, above-foreign}
 use Rattle.letters.proofs.kind.kind_of.Statement.{statement}
@@ -68,95 +68,95 @@ none-foreign x n = go (decLt x 0x1000) (decLt 0x104F x)
 
 returns : tie.Need-returns
 unfolding pick arms arm
-returns c = same-at kindOf Consonant (arm 0) refl (c .before .args .x) (c .match .keys1)
+returns c = same-at kindOf _ (arm 0) refl (c .before .args .x) (c .match .keys1)
 
 returns-2 : tie.Need-returns-2
 unfolding pick arms arm
-returns-2 c = same-at kindOf Consonant (arm 1) refl (c .before .args .x) (c .match .keys2)
+returns-2 c = same-at kindOf _ (arm 1) refl (c .before .args .x) (c .match .keys2)
 
 returns-3 : tie.Need-returns-3
 unfolding pick arms arm
-returns-3 c = same-at kindOf Consonant (arm 2) refl (c .before .args .x) (c .match .keys3)
+returns-3 c = same-at kindOf _ (arm 2) refl (c .before .args .x) (c .match .keys3)
 
 returns-4 : tie.Need-returns-4
 unfolding pick arms arm
-returns-4 c = same-at kindOf Consonant (arm 3) refl (c .before .args .x) (c .match .keys4)
+returns-4 c = same-at kindOf _ (arm 3) refl (c .before .args .x) (c .match .keys4)
 
 returns-5 : tie.Need-returns-5
 unfolding pick arms arm
-returns-5 c = same-at kindOf Consonant (arm 4) refl (c .before .args .x) (c .match .keys5)
+returns-5 c = same-at kindOf _ (arm 4) refl (c .before .args .x) (c .match .keys5)
 
 returns-6 : tie.Need-returns-6
 unfolding pick arms arm
-returns-6 c = same-at kindOf Consonant (arm 5) refl (c .before .args .x) (c .match .keys6)
+returns-6 c = same-at kindOf _ (arm 5) refl (c .before .args .x) (c .match .keys6)
 
 returns-7 : tie.Need-returns-7
 unfolding pick arms arm
-returns-7 c = same-at kindOf IndependentVowel (arm 6) refl (c .before .args .x) (c .match .keys7)
+returns-7 c = same-at kindOf _ (arm 6) refl (c .before .args .x) (c .match .keys7)
 
 returns-8 : tie.Need-returns-8
 unfolding pick arms arm
-returns-8 c = same-at kindOf IndependentVowel (arm 7) refl (c .before .args .x) (c .match .keys8)
+returns-8 c = same-at kindOf _ (arm 7) refl (c .before .args .x) (c .match .keys8)
 
 returns-9 : tie.Need-returns-9
 unfolding pick arms arm
-returns-9 c = same-at kindOf VowelMark (arm 8) refl (c .before .args .x) (c .match .keys9)
+returns-9 c = same-at kindOf _ (arm 8) refl (c .before .args .x) (c .match .keys9)
 
 returns-10 : tie.Need-returns-10
 unfolding pick arms arm
-returns-10 c = same-at kindOf VowelMark (arm 9) refl (c .before .args .x) (c .match .keys10)
+returns-10 c = same-at kindOf _ (arm 9) refl (c .before .args .x) (c .match .keys10)
 
 returns-11 : tie.Need-returns-11
 unfolding pick arms arm
-returns-11 c = same-at kindOf Tone (arm 10) refl (c .before .args .x) (c .match .keys11)
+returns-11 c = same-at kindOf _ (arm 10) refl (c .before .args .x) (c .match .keys11)
 
 returns-12 : tie.Need-returns-12
 unfolding pick arms arm
-returns-12 c = same-at kindOf Tone (arm 11) refl (c .before .args .x) (c .match .keys12)
+returns-12 c = same-at kindOf _ (arm 11) refl (c .before .args .x) (c .match .keys12)
 
 returns-13 : tie.Need-returns-13
 unfolding pick arms arm
-returns-13 c = same-at kindOf Stacker (arm 12) refl (c .before .args .x) (c .match .keys13)
+returns-13 c = same-at kindOf _ (arm 12) refl (c .before .args .x) (c .match .keys13)
 
 returns-14 : tie.Need-returns-14
 unfolding pick arms arm
-returns-14 c = same-at kindOf Killer (arm 13) refl (c .before .args .x) (c .match .keys14)
+returns-14 c = same-at kindOf _ (arm 13) refl (c .before .args .x) (c .match .keys14)
 
 returns-15 : tie.Need-returns-15
 unfolding pick arms arm
-returns-15 c = same-at kindOf Medial (arm 14) refl (c .before .args .x) (c .match .keys15)
+returns-15 c = same-at kindOf _ (arm 14) refl (c .before .args .x) (c .match .keys15)
 
 returns-16 : tie.Need-returns-16
 unfolding pick arms arm
-returns-16 c = same-at kindOf Medial (arm 15) refl (c .before .args .x) (c .match .keys16)
+returns-16 c = same-at kindOf _ (arm 15) refl (c .before .args .x) (c .match .keys16)
 
 returns-17 : tie.Need-returns-17
 unfolding pick arms arm
-returns-17 c = same-at kindOf GreatSa (arm 16) refl (c .before .args .x) (c .match .keys17)
+returns-17 c = same-at kindOf _ (arm 16) refl (c .before .args .x) (c .match .keys17)
 
 returns-18 : tie.Need-returns-18
 unfolding pick arms arm
-returns-18 c = same-at kindOf Digit (arm 17) refl (c .before .args .x) (c .match .keys18)
+returns-18 c = same-at kindOf _ (arm 17) refl (c .before .args .x) (c .match .keys18)
 
 returns-19 : tie.Need-returns-19
 unfolding pick arms arm
-returns-19 c = same-at kindOf Digit (arm 18) refl (c .before .args .x) (c .match .keys19)
+returns-19 c = same-at kindOf _ (arm 18) refl (c .before .args .x) (c .match .keys19)
 
 returns-20 : tie.Need-returns-20
 unfolding pick arms arm
-returns-20 c = same-at kindOf Stop (arm 19) refl (c .before .args .x) (c .match .keys20)
+returns-20 c = same-at kindOf _ (arm 19) refl (c .before .args .x) (c .match .keys20)
 
 returns-21 : tie.Need-returns-21
 unfolding pick arms arm
-returns-21 c = same-at kindOf Stop (arm 20) refl (c .before .args .x) (c .match .keys21)
+returns-21 c = same-at kindOf _ (arm 20) refl (c .before .args .x) (c .match .keys21)
 
 returns-22 : tie.Need-returns-22
 unfolding pick arms arm
-returns-22 c = same-at kindOf Sign (arm 21) refl (c .before .args .x) (c .match .keys22)
+returns-22 c = same-at kindOf _ (arm 21) refl (c .before .args .x) (c .match .keys22)
 
 returns-23 : tie.Need-returns-23
 unfolding pick arms arm
-returns-23 c = same-at kindOf Sign (arm 22) refl (c .before .args .x) (c .match .keys23)
+returns-23 c = same-at kindOf _ (arm 22) refl (c .before .args .x) (c .match .keys23)
 
 returns-24 : tie.Need-returns-24
 unfolding arms
