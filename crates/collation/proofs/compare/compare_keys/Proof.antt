@@ -81,16 +81,16 @@ mul-other-end : tie.Need-mul-other-end
 mul-other-end c = let h = weighed-limit (other (c .before)) in omega arith
 
 array-share-prefix-one : tie.Need-array-share-prefix-one
-array-share-prefix-one c = weighed-used (first-of (c .before))
+array-share-prefix-one c = omega (arith, weighed-used (first-of (c .before)))
 
 slice-aggregate-order-bytes : tie.Need-slice-aggregate-order-bytes
-slice-aggregate-order-bytes c = sym (length-take-le _ _ (weighed-used (first-of (c .before .before))))
+slice-aggregate-order-bytes c = sym (length-take-le _ _ (omega (arith, weighed-used (first-of (c .before .before)))))
 
 array-share-prefix-other : tie.Need-array-share-prefix-other
-array-share-prefix-other c = weighed-used (other (c .before .before))
+array-share-prefix-other c = omega (arith, weighed-used (other (c .before .before)))
 
 slice-aggregate-order-bytes-2 : tie.Need-slice-aggregate-order-bytes-2
-slice-aggregate-order-bytes-2 c = sym (length-take-le _ _ (weighed-used (other (c .before .before .before))))
+slice-aggregate-order-bytes-2 c = sym (length-take-le _ _ (omega (arith, weighed-used (other (c .before .before .before)))))
 
 order-bytes-requires : tie.Need-order-bytes-requires
 order-bytes-requires c κs = search needs
