@@ -1,9 +1,10 @@
--- The text of a key as its loop writes it: a hyphen and a syllable a turn, eleven bytes each.
+-- The text of a key as its loop writes it: a syllable a turn, and a hyphen behind all but the last, at most eleven bytes.
 -- Assumes nothing.
-use mathlib.Core.Path.{_≡_, refl}
-use mathlib.Core.List.{List, [], _∷_}
+use mathlib.Core.Path.{_≡_, refl, ap, sym, _∙_}
+use mathlib.Core.List.{List, [], _∷_, _++_, append-assoc, append-nil}
 use Prim.Native.Nat.{ℕ, zero, suc, _+_, _*_, _≤_, _<_}
 use native.Mathlib.Omega.{arith}
+use native.Mathlib.Numerals.{add-one}
 use lib.ListN.{length, length-append}
 use Rattle.key_text.specs.Text.{syllableText, furtherText, keyText}
 use Rattle.key_text.specs.Put.{Put}
@@ -18,36 +19,66 @@ further-length zero key = refl
 further-length (suc count) key =
     rw length-append (omega (arith, further-length count key, syllable-length key (suc count)))
 
--- how far the loop is: one syllable, and as many further ones as it has turned
+-- how far the loop is: where a syllable is to follow, the text goes on with it, and where none is, the text is that of the key
 pub record Further (key : List ℕ) (start : List ℕ) (from : ℕ) (count : ℕ) (out : List ℕ) (next : ℕ) (done : ℕ) : Type 0 where
-  pub extra : ℕ
-  pub is : done ≡ suc extra
+  pub text : List ℕ
+  pub put : Put start from text out next
   pub within : done ≤ count
-  pub put : Put start from (furtherText extra key) out next
+  pub short : length text ≤ 11 * done
+  pub ready : done < count → text ++ syllableText key done ≡ keyText (suc done) key
+  pub whole : done ≡ count → text ≡ keyText count key
 
-pub further-none : (key start : List ℕ) (from count : ℕ) → 1 ≤ count → Further key start from count start from 1
-further-none key start from count h = record { extra = 0; is = refl; within = h; put = put-nothing start from }
-
-pub further-more : {key start out middle after : List ℕ} {from count next place end done : ℕ} → Further key start from count out next done
-    → done < count → Put out next (0x2D ∷ []) middle place → Put middle place (syllableText key done) after end → Further key start from count after end (done + 1)
-further-more {key} {start} {out} {middle} {after} {from} {count} {next} {place} {end} {done} f h p q = record {
-  extra = suc (f .extra);
-  is = omega arith;
+pub further-none : (key start : List ℕ) (from count : ℕ) → 1 ≤ count → Further key start from count start from 0
+further-none key start from count h = record {
+  text = [];
+  put = put-nothing start from;
   within = omega arith;
-  put = put-after (f .put) (put-after p (rw (f .is) at q));
+  short = omega arith;
+  ready = λ l. sym (append-nil (syllableText key 0));
+  whole = λ e. absurd (omega arith);
 }
 
--- where a hyphen and one more syllable go, there is room
-pub further-room : {key start out : List ℕ} {from count next done : ℕ} → Further key start from count out next done
-    → done < count → count ≤ 64 → from + 693 ≤ length start → next + 11 ≤ length out
-further-room {key} {start} {out} {from} {count} {next} {done} f h k room =
-    omega (arith, put-length (f .put), f .put .next, further-length (f .extra) key, f .is)
+-- a hyphen behind the text of some syllables, and one more syllable
+key-more : (count : ℕ) (key : List ℕ) → (keyText (suc count) key ++ (0x2D ∷ [])) ++ syllableText key (suc count) ≡ keyText (suc (suc count)) key
+key-more count key =
+    append-assoc (keyText (suc count) key) (0x2D ∷ []) (syllableText key (suc count))
+    ∙ append-assoc (syllableText key 0) (furtherText count key) (0x2D ∷ syllableText key (suc count))
 
-pub key-whole : {key before start out : List ℕ} {at from count next done : ℕ} → Further key start from count out next done → count ≤ done
-    → Put before at (syllableText key 0) start from → Put before at (keyText count key) out next
-key-whole {key} {before} {start} {out} {at} {from} {count} {next} {done} f h p =
-    let e : count ≡ suc (f .extra) = omega arith in
-    rw e (put-after p (f .put))
+module _ {key start out middle : List ℕ} {from count next place done : ℕ} (f : Further key start from count out next done) (h : done < count) (p : Put out next (syllableText key done) middle place) where
+  -- a syllable with a hyphen behind it, where another follows
+  pub further-more : {after : List ℕ} {end : ℕ} → done + 1 < count → Put middle place (0x2D ∷ []) after end → Further key start from count after end (done + 1)
+  further-more {after} {end} l q = record {
+    text = (f .text ++ syllableText key done) ++ (0x2D ∷ []);
+    put = put-after (put-after (f .put) p) q;
+    within = omega arith;
+    short = rw (length-append, length-append) (omega (arith, f .short, syllable-length key done));
+    ready = λ m. rw (f .ready h, add-one) (key-more done key);
+    whole = λ e. absurd (omega arith);
+  }
+
+  -- the last one
+  pub further-last : count ≤ done + 1 → Further key start from count middle place (done + 1)
+  further-last l =
+      let last : count ≡ suc done = omega arith in
+      record {
+        text = f .text ++ syllableText key done;
+        put = put-after (f .put) p;
+        within = omega arith;
+        short = rw length-append (omega (arith, f .short, syllable-length key done));
+        ready = λ m. absurd (omega arith);
+        whole = λ e. f .ready h ∙ ap (λ (n : ℕ). keyText n key) (sym last);
+      }
+
+-- where one more syllable with a hyphen goes, there is room
+pub further-room : {key start out : List ℕ} {from count next done : ℕ} → Further key start from count out next done
+    → done < count → count ≤ 64 → from + 704 ≤ length start → next + 11 ≤ length out
+further-room {key} {start} {out} {from} {count} {next} {done} f h k room = omega (arith, put-length (f .put), f .put .next, f .short)
+
+pub key-whole : {key start out : List ℕ} {from count next done : ℕ} → Further key start from count out next done → count ≤ done
+    → Put start from (keyText count key) out next
+key-whole {key} {start} {out} {from} {count} {next} {done} f h =
+    let same : done ≡ count = omega (arith, f .within) in
+    rw (f .whole same) at (f .put)
 
 pub key-short : (count : ℕ) (key : List ℕ) → count ≤ 64 → length (keyText count key) ≤ 704
 key-short zero key h = omega arith

@@ -70,12 +70,14 @@ pub fn put_key(out: &mut [u8], at: usize, count: usize, key: &[u8; 320]) -> usiz
     if count == 0 {
         return put(out, at, b'-');
     }
-    let mut next = put_syllable(out, at, key, 0);
-    let mut done = 1;
+    let mut next = at;
+    let mut done = 0;
     while done < count {
-        next = put(out, next, b'-');
         next = put_syllable(out, next, key, done);
         done += 1;
+        if done < count {
+            next = put(out, next, b'-');
+        }
     }
     next
 }

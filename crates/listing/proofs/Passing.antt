@@ -16,12 +16,8 @@ use Rattle.listing.specs.declared.splitting.Progress.{Progress}
 abbrev pub opening : OpenLine → Progress
 opening current = record { at = 0; kept = current .kept; number = current .number; used = 0 }
 
--- after a write nothing is ready
-abbrev pub emptied : Progress → Progress
-emptied reached = record { at = reached .at; kept = reached .kept; number = reached .number; used = 0 }
-
 answered-none : {bytes text kept : List ℕ} {held number : ℕ} → Follows bytes kept held number text → Answered bytes [] text kept held number
-answered-none {bytes} {text} {kept} {held} {number} f = record { written = []; follows = rw (append-nil, append-nil) f }
+answered-none {bytes} {text} {kept} {held} {number} f = record { written = []; follows = rw (append-nil bytes, append-nil text) f }
 
 take-further : (l : List ℕ) (from to : ℕ) → from ≤ to → take from l ++ slice from to l ≡ take to l
 take-further l from to h = ap (λ (m : List ℕ). m ++ drop from (take to l)) (sym (take-take from to l h)) ∙ take-append-drop from (take to l)
@@ -34,7 +30,7 @@ answered-more {bytes} {text} {chunk} {kept} {out} {kept-next} {out-next} {reache
     let goes = passes .goes _ _ (a .follows) in
     record {
       written = a .written ++ goes .more;
-      follows = rw (append-assoc, append-assoc, take-further chunk (reached .at) (next .at) h) at (goes .follows);
+      follows = rw (append-assoc bytes _ _, append-assoc text _ _, take-further chunk (reached .at) (next .at) h) at (goes .follows);
     }
 
 -- how far a chunk is
@@ -70,15 +66,16 @@ module _ {chunk kept out kept-now out-now : List ℕ} {current : OpenLine} {reac
     numbers = omega (arith, p .fewer, ready .numbers);
   }
 
-  pub passing-more : {kept-next out-next : List ℕ} {next : Progress} → Passes chunk kept-now out-now reached kept-next out-next next
-      → reached .at < length chunk → length kept-next ≡ length kept-now → length out-next ≡ length out-now
-      → Passing chunk kept out (opening current) kept-next out-next (emptied next)
-  passing-more {kept-next} {out-next} {next} passes inside same-kept same-out =
+  -- lines are passed, and all that is ready is written
+  pub passing-more : {kept-next out-next : List ℕ} {next : Progress} (used : ℕ) → Passes chunk kept-now out-now reached kept-next out-next next
+      → reached .at < length chunk → length kept-next ≡ length kept-now → length out-next ≡ length out-now → used ≡ 0
+      → Passing chunk kept out (opening current) kept-next out-next (record { at = next .at; kept = next .kept; number = next .number; used = used })
+  passing-more {kept-next} {out-next} {next} used passes inside same-kept same-out empty =
       let further : reached .at < next .at = passes .further inside in
       record {
         within = passes .within;
         held = passes .fits;
-        empty = refl;
+        empty = empty;
         fewer = omega (arith, passes .fewer, p .fewer);
         same-kept = same-kept ∙ p .same-kept;
         same-out = same-out ∙ p .same-out;
@@ -98,7 +95,7 @@ pub record Going (chunk : List ℕ) (kept : List ℕ) (out : List ℕ) (current 
   pub kept-size : 193 ≡ length kept
   pub out-size : 65536 ≡ length out
   pub held : current .kept ≤ keptLimit
-  pub numbers : current .number + 65536 * calls ≤ 2 ^ 62
+  pub numbers : current .number + 65536 * calls < 2 ^ 63
   pub bytes : List ℕ
   pub text : List ℕ
   pub follows : Follows bytes kept (current .kept) (current .number) text

@@ -65,12 +65,14 @@ fn put_refused(out: &mut [u8], at: usize, refusal: Refusal) -> usize
     requires { ⌜ at + 800 ≤ length (now out) ⌝ }
     ensures { λ r. ⌜ PutWithin 800 (now (out .entry)) at (refusedText refusal) (now (out .exit)) r ⌝ }
 {
+    let number = refusal.number() as u64;
+    let place = refusal.place() as u64;
     let first = put(out, at, b'N');
     let second = put(out, first, b'O');
     let third = put(out, second, b' ');
-    let numbered = put_decimal(out, third, refusal.number() as u64);
+    let numbered = put_decimal(out, third, number);
     let spaced = put(out, numbered, b' ');
-    put_decimal(out, spaced, refusal.place() as u64)
+    put_decimal(out, spaced, place)
 }
 
 // Writes what is printed for a line of this number and this answer to the front of the output, and answers how many bytes that is.

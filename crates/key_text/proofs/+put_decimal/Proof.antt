@@ -75,7 +75,7 @@ put-decimal-returns : (t : ℕ) → put-decimal-lts.Need-returns (
   put-decimal.Post,
 ) (put-decimal-at t) put-decimal.Post
 put-decimal-returns t c =
-    rw (decimal-one (c .before .before .before .before .before .before .before .args .number) (c .before .before .before .before .before .if1 .taken))
+    rw (decimal-one (c .before .before .before .before .before .before .before .args .number) (omega arith))
     (rw (c .before .before .before .digit .ensures) at (c .before .before .put .ensures))
 
 put-decimal-put-decimal-requires : (t : ℕ) → put-decimal-lts.Need-put-decimal-requires (
@@ -138,7 +138,7 @@ put-decimal-returns-2 : (t : ℕ) → put-decimal-lts.Need-returns-2 (
   put-decimal.Post,
 ) (put-decimal-at t) put-decimal.Post
 put-decimal-returns-2 t c =
-    rw (decimal-more (c .before .before .before .before .before .before .before .before .before .before .before .args .number) (c .before .before .before .before .before .before .before .before .before .if1 .left))
+    rw (decimal-more (c .before .before .before .before .before .before .before .before .before .before .before .args .number) (omega arith))
     (put-after (c .before .before .before .before .before .before .before .put-decimal .ensures) (rw (c .before .before .before .digit2 .ensures) at (c .before .before .put2 .ensures)))
 
 pub +put-decimal-spec : {M : Type 1} → statement M

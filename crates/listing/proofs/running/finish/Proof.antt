@@ -17,7 +17,7 @@ returns c = finished-other _ _ _ (c .match .keys2)
 
 returns-2 : tie.Need-returns-2
 returns-2 c =
-    rw (c .before .enum-told .given .1) (record { within = omega arith; right = λ bytes text f. comes-none f _ (c .if1 .taken) })
+    rw (c .before .enum-told .given .1) (record { within = omega arith; right = λ bytes text f. comes-none f _ (omega arith) })
 
 add-put-line : tie.Need-add-put-line
 add-put-line c = search needs
@@ -36,7 +36,7 @@ returns-3 c =
     rw (c .before .before .before .before .before .before .before .enum-told .given .1)
     (record {
       within = written-within (c .before .before .put-line .kept .0) (c .before .before .put-line .ensures .written);
-      right = λ bytes text f. comes-line f _ (c .before .before .before .before .before .before .if1 .left) (c .before .before .put-line .kept .0) (c .before .before .put-line .ensures);
+      right = λ bytes text f. comes-line f _ (λ e. omega arith) (c .before .before .put-line .kept .0) (c .before .before .put-line .ensures);
     })
 
 pub finish-spec : {M : Type 1} → statement M
