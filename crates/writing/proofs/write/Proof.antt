@@ -1,5 +1,6 @@
 -- `writing::write` meets its contract: the size that `measure` gives says which case of `WriteRight` holds, and `put_row` writes the word.
 -- Assumes nothing.
+use native.Mathlib.Omega.{arith}
 use denote.Ref.{now}
 use Rattle.writing.proofs.Answers.{Sized, size-values, write-none, write-short, row-fits, write-done}
 use borrow.Author.Needs.{needs}
@@ -23,7 +24,7 @@ returns : tie.Need-returns
 returns c = write-none _ _ (c .before .before .measure .result) (c .before .before .measure .ensures) (c .enum-told .given .1)
 
 returns-2 : tie.Need-returns-2
-returns-2 c = write-short _ _ _ (sized (c .before .before)) (c .if1 .taken)
+returns-2 c = write-short _ _ _ (sized (c .before .before)) (omega arith)
 
 put-row-requires : tie.Need-put-row-requires
 put-row-requires c κs =

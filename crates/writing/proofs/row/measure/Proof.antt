@@ -24,7 +24,7 @@ sub-if1 : tie.Need-sub-if1 Inv-loop μ-loop
 sub-if1 c = search needs
 
 returns : tie.Need-returns Inv-loop μ-loop
-returns c = measured-short _ _ _ _ (c .before .before .loop .inv) (c .before .loop-test .taken) (c .if1 .taken)
+returns c = measured-short _ _ _ _ (c .before .before .loop .inv) (c .before .loop-test .taken) (omega arith)
 
 record-at-requires : tie.Need-record-at-requires Inv-loop μ-loop
 record-at-requires c κs = omega arith
@@ -47,7 +47,7 @@ returns-3 : tie.Need-returns-3 Inv-loop μ-loop
 returns-3 c =
     let at-next = c .before .before .before .before in
     let at-loop = at-next .before .before .before in
-    measured-long _ _ _ _ (at-loop .loop .inv) _ (omega arith) (at-next .record-at .ensures) _ (c .before .part-size .ensures) (c .if3 .taken)
+    measured-long _ _ _ _ (at-loop .loop .inv) _ (omega arith) (at-next .record-at .ensures) _ (c .before .part-size .ensures) (omega arith)
 
 array-read-link : tie.Need-array-read-link Inv-loop μ-loop
 array-read-link c = search needs
@@ -63,13 +63,13 @@ loop-again c =
     let at-next = c .before .before .before .before in
     let at-loop = at-next .before .before .before in
     measured-more _ _ _ _ (at-loop .loop .inv) _ (omega arith) (at-next .record-at .ensures) _ (c .before .part-size .ensures)
-    (sym (c .before .before .before .may-follow .ensures) ∙ not-false _ (c .before .before .if2 .left)) (c .if3 .left)
+    (sym (c .before .before .before .may-follow .ensures) ∙ not-false _ (c .before .before .if2 .left)) (omega arith)
 
 returns-4 : tie.Need-returns-4 Inv-loop μ-loop
-returns-4 c = measured-open _ _ _ _ (c .before .before .loop .inv) (c .before .loop-test .left) (c .if4 .taken)
+returns-4 c = measured-open _ _ _ _ (c .before .before .loop .inv) (c .before .loop-test .left) (omega arith)
 
 returns-5 : tie.Need-returns-5 Inv-loop μ-loop
-returns-5 c = measured-all _ _ _ _ (c .before .before .loop .inv) (c .before .loop-test .left) (c .if4 .left)
+returns-5 c = measured-all _ _ _ _ (c .before .before .loop .inv) (c .before .loop-test .left) (omega arith)
 
 pub measure-spec : {M : Type 1} → statement M
 measure-spec =

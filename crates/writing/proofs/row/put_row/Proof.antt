@@ -29,7 +29,7 @@ whole c =
 record-at-requires : tie.Need-record-at-requires Inv-loop μ-loop
 record-at-requires c κs =
     let start = c .before .before .before .before in
-    filled-whole _ _ _ _ _ _ (c .before .loop .inv) (start .pre .fits) (c .loop-test .taken)
+    omega (arith, filled-whole _ _ _ _ _ _ (c .before .loop .inv) (start .pre .fits) (c .loop-test .taken))
 
 put-part-requires : tie.Need-put-part-requires Inv-loop μ-loop
 put-part-requires c κs =
