@@ -58,7 +58,7 @@ slice-aggregate-is-row : tie.Need-slice-aggregate-is-row
 slice-aggregate-is-row c =
     let f = frame (c .before .before .before .before) in
     sym
-    (length-take-le (c .before .before .wide .result) (c .before .values-of .result)
+    (length-take-le _ (c .before .values-of .result)
     (omega (arith, f .short, c .before .before .wide .ensures .0, c .before .values-of .ensures .1)))
 
 is-row-requires : tie.Need-is-row-requires

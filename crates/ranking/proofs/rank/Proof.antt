@@ -36,7 +36,7 @@ returns : tie.Need-returns
 returns c =
     let o = c .before .before .before .before in
     let g = c .before .before .live .given .1 in
-    too-high (told o _ g) (answered o _ g) (o .before .before .args .number) (c .if1 .taken)
+    too-high (told o _ g) (answered o _ g) (o .before .before .args .number) (omega (arith, c .if1 .taken))
 
 sort-records-requires : tie.Need-sort-records-requires
 sort-records-requires c κs = (told (c .before .before .before .before .before) _ (c .before .before .before .live .given .1), refl)

@@ -85,10 +85,12 @@ one-more c =
 returns : tie.Need-returns Inv-loop μ-loop
 returns c =
     told-right (now (c .before .before .args .book)) _ (λ i. omega (arith, c .before .shared-slice-known .given i))
-    (sym (ap openingOf (too-long (now (c .before .before .args .book)) (c .if1 .taken))))
+    (sym (ap openingOf (too-long (now (c .before .before .args .book)) (omega (arith, c .if1 .taken)))))
 
 loop-holds : tie.Need-loop-holds Inv-loop μ-loop
-loop-holds c = (c .if1 .left, passed-start (now (c .before .before .args .book)) (c .if1 .left))
+loop-holds c =
+    let short : length (now (c .before .before .args .book)) ≤ bookLimit = omega (arith, c .if1 .left) in
+    (short, passed-start (now (c .before .before .args .book)) short)
 
 shared-slice-read-if2 : tie.Need-shared-slice-read-if2 Inv-loop μ-loop
 shared-slice-read-if2 c = search needs
