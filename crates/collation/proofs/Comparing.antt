@@ -6,8 +6,8 @@ use Prim.Native.Nat.{ℕ}
 use types.Run.{OneOf}
 use denote.Enum.Declared.{tagOf}
 use lib.ListN.{take}
-use Rattle.recogniser.specs.declared.answer.ReadAnswer.{ReadAnswer}
-use Rattle.recogniser.specs.declared.answer.ReadAnswer.the-variants.{Syllables}
+use Rattle.refusals.specs.declared.Counted.{Counted}
+use Rattle.refusals.specs.declared.Counted.the-variants.{Count}
 use Rattle.storage.specs.Stored.{storedForm}
 use Rattle.weighing.specs.Keys.{usedBytes}
 use Rattle.weighing.specs.Order.{inTurn, orderValues}

@@ -7,11 +7,10 @@ use native.Mathlib.Decide.{decLt}
 use native.Mathlib.Omega.{arith}
 use lib.ListN.{length}
 use Rattle.formula.specs.Row.{LongestViable}
+use Rattle.refusals.specs.Outcome.{Outcome, accepts, accepts-both, absent, refuses, outcomeOf}
 use Rattle.refusals.specs.declared.Refusal.{Refusal}
-use Rattle.refusals.proofs.Laws.{number-place-injective}
-use Rattle.recogniser.specs.Answer.{Outcome, accepts, refuses, outcomeOf, Admissible, FirstForeign, RefusedWith, too-long, foreign, no-continuation, unfinished}
-use Rattle.recogniser.specs.declared.answer.ReadAnswer.{ReadAnswer}
-use Rattle.recogniser.specs.declared.answer.ReadAnswer.the-variants.{Syllables, Refused}
+use Rattle.refusals.proofs.Laws.{number-place-injective, counted-once}
+use Rattle.recogniser.specs.Answer.{Admissible, FirstForeign, RefusedWith, too-long, foreign, no-continuation, unfinished}
 use Rattle.recogniser.proofs.Answered.{refused-no-row}
 use Rattle.storage.specs.Stored.{storedForm}
 use Rattle.normaliser.specs.Normal.{StoreRefusedWith, too-long as word-too-long, foreign as word-foreign, outcome, Stores, StoreAnswers}
@@ -92,8 +91,14 @@ stored-once word n m s t =
 -- a word's answer is determined
 pub answer-once : (word : List ℕ) (a b : Outcome) → StoreAnswers word a → StoreAnswers word b → a ≡ b
 answer-once word (accepts n) (accepts m) s t = ap accepts (stored-once word n m s t)
+answer-once word (accepts n) (accepts-both m k) s t = absurd t
+answer-once word (accepts n) absent s t = absurd t
 answer-once word (accepts n) (refuses m q) s t = stored-not-refused word n m q s t
+answer-once word (accepts-both n k) b s t = absurd s
+answer-once word absent b s t = absurd s
 answer-once word (refuses n p) (accepts m) s t = stored-not-refused word m n p t s
+answer-once word (refuses n p) (accepts-both m k) s t = absurd t
+answer-once word (refuses n p) absent s t = absurd t
 answer-once word (refuses n p) (refuses m q) s t = let e = store-refused-once word n p m q s t in cc
 
 -- and that of a comparison
@@ -111,13 +116,6 @@ outcome-once first second (second-refuses n p) (ordered o) s t = stored-not-refu
 outcome-once first second (second-refuses n p) (first-refuses m q) s t = stored-not-refused first (s .first-count) m q (s .first-stores) t
 outcome-once first second (second-refuses n p) (second-refuses m q) s t =
     let e = store-refused-once second n p m q (s .second-refused) (t .second-refused) in cc
-
--- so the answers themselves are
-read-answer-once : (a b : ReadAnswer) → outcomeOf a ≡ outcomeOf b → a ≡ b
-read-answer-once (Syllables n) (Syllables m) e = cc
-read-answer-once (Syllables n) (Refused s) e = cc
-read-answer-once (Refused r) (Syllables m) e = cc
-read-answer-once (Refused r) (Refused s) e = cc (number-place-injective r s (cc) (cc))
 
 -- an answer says an order, or refuses one of the words
 data Says : Compared → Type 0 where
@@ -150,13 +148,15 @@ compare-determined first second a b r s =
 
 bytes-once : (word : List ℕ) (o : Outcome) (a b : List ℕ) → StoreAnswers word o → KeyFor word o a → KeyFor word o b → a ≡ b
 bytes-once word (accepts n) a b s f g = f (s .reads .row) (s .reads .gives) ∙ sym (g (s .reads .row) (s .reads .gives))
+bytes-once word (accepts-both n m) a b s f g = absurd s
+bytes-once word absent a b s f g = absurd s
 bytes-once word (refuses n p) a b s f g = f ∙ sym g
 
 -- two keys that meet the promise of a key are equal
 pub key-determined : (word : List ℕ) (a b : Key) → KeyRight word a → KeyRight word b → a ≡ b
 key-determined word a b r s =
     let e = answer-once word (outcomeOf (a .answer)) (outcomeOf (b .answer)) (r .answers) (s .answers) in
-    let f : a .answer ≡ b .answer = read-answer-once (a .answer) (b .answer) e in
+    let f : a .answer ≡ b .answer = counted-once (a .answer) (b .answer) e in
     let g : a .bytes ≡ b .bytes =
     bytes-once word (outcomeOf (a .answer)) (a .bytes) (b .bytes) (r .answers) (r .bytes)
     (subst (λ (o : Outcome). KeyFor word o (b .bytes)) (sym e) (s .bytes)) in

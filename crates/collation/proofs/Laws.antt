@@ -7,9 +7,9 @@ use lib.ListN.{length, take}
 use lib.Seq.{take-at}
 use Rattle.formula.specs.Row.{Row, Gives}
 use Rattle.formula.specs.Weighing.{weights}
-use Rattle.recogniser.specs.Answer.{outcomeOf}
-use Rattle.recogniser.specs.declared.answer.ReadAnswer.{ReadAnswer}
-use Rattle.recogniser.specs.declared.answer.ReadAnswer.the-variants.{Syllables}
+use Rattle.refusals.specs.Outcome.{outcomeOf}
+use Rattle.refusals.specs.declared.Counted.{Counted}
+use Rattle.refusals.specs.declared.Counted.the-variants.{Count}
 use Rattle.rows.proofs.Viable.{only-row}
 use Rattle.storage.specs.Stored.{storedForm}
 use Rattle.normaliser.specs.Normal.{Stores, StoreAnswers}
@@ -110,19 +110,19 @@ identical-equal first second n m s t e =
     }
 
 -- the used bytes of a key are the weights of the row
-module _ (word : List ℕ) (key : Key) (right : KeyRight word key) (n : ℕ) (e : key .answer ≡ Syllables n) where
+module _ (word : List ℕ) (key : Key) (right : KeyRight word key) (n : ℕ) (e : key .answer ≡ Count n) where
   pub key-stores : Stores word n
-  key-stores = subst (λ (a : ReadAnswer). StoreAnswers word (outcomeOf a)) e (right .answers)
+  key-stores = subst (λ (a : Counted). StoreAnswers word (outcomeOf a)) e (right .answers)
 
   pub used-bytes : (row : Row) → Gives row (storedForm word) → take (usedBytes n) (key .bytes) ≡ keyOf row
   used-bytes row g =
       let count : length row ≡ n = ap length (key-stores .reads .only row g) ∙ key-stores .reads .count in
-      ap (take (usedBytes n)) (subst (λ (a : ReadAnswer). KeyFor word (outcomeOf a) (key .bytes)) e (right .bytes) row g)
+      ap (take (usedBytes n)) (subst (λ (a : Counted). KeyFor word (outcomeOf a) (key .bytes)) e (right .bytes) row g)
       ∙ take-at (keyOf row) (zeros (keyLimit - usedBytes (length row))) (usedBytes n) (key-used row ∙ ap usedBytes count)
 
 -- the used bytes of two keys, compared byte by byte, the shorter first where one begins the other, are in the order of the rows of weights
-module _ (first : List ℕ) (key : Key) (right : KeyRight first key) (n : ℕ) (e : key .answer ≡ Syllables n)
-    (second : List ℕ) (other : Key) (other-right : KeyRight second other) (m : ℕ) (f : other .answer ≡ Syllables m) where
+module _ (first : List ℕ) (key : Key) (right : KeyRight first key) (n : ℕ) (e : key .answer ≡ Count n)
+    (second : List ℕ) (other : Key) (other-right : KeyRight second other) (m : ℕ) (f : other .answer ≡ Count m) where
   pub keys-in-order : (row third : Row) → Gives row (storedForm first) → Gives third (storedForm second)
       → orderValues (take (usedBytes n) (key .bytes)) (take (usedBytes m) (other .bytes)) ≡ orderWeights (weights row) (weights third)
   keys-in-order row third g h =

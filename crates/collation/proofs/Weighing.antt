@@ -8,10 +8,11 @@ use lib.ListN.{length, take}
 use Rattle.formula.specs.Limits.{limit}
 use Rattle.formula.specs.Row.{Row, Gives}
 use Rattle.refusals.specs.Refusal.{numberOf, placeOf}
+use Rattle.refusals.specs.Outcome.{outcomeOf}
 use Rattle.refusals.specs.declared.Refusal.{Refusal}
-use Rattle.recogniser.specs.Answer.{outcomeOf, Answers}
-use Rattle.recogniser.specs.declared.answer.ReadAnswer.{ReadAnswer}
-use Rattle.recogniser.specs.declared.answer.ReadAnswer.the-variants.{Syllables, Refused}
+use Rattle.refusals.specs.declared.Counted.{Counted}
+use Rattle.refusals.specs.declared.Counted.the-variants.{Count, Refused}
+use Rattle.recogniser.specs.Answer.{Answers}
 use Rattle.recogniser.proofs.Counted.{count-limit}
 use Rattle.storage.specs.Stored.{storedForm}
 use Rattle.storage.proofs.Rows.{gives-stored}
@@ -25,35 +26,35 @@ use Rattle.collation.specs.Comparison.{Ordered}
 use Rattle.collation.proofs.Laws.{keys-compare}
 
 -- the weights of a row of syllables, which is its own stored form
-pub row-weighed : (word : List ℕ) (answer : ReadAnswer) (bytes : List ℕ) → FillRight word answer bytes → (n : ℕ) → answer ≡ Syllables n
+pub row-weighed : (word : List ℕ) (answer : Counted) (bytes : List ℕ) → FillRight word answer bytes → (n : ℕ) → answer ≡ Count n
     → WeighRight word answer bytes
 row-weighed word answer bytes right n e =
-    let reads = subst (λ (a : ReadAnswer). Answers word (outcomeOf a)) e (right .answers) in
-    let filled = subst (λ (a : ReadAnswer). KeyIfRead word (outcomeOf a) bytes) e (right .key) in
+    let reads = subst (λ (a : Counted). Answers word (outcomeOf a)) e (right .answers) in
+    let filled = subst (λ (a : Counted). KeyIfRead word (outcomeOf a) bytes) e (right .key) in
     record {
-      answers = subst (λ (a : ReadAnswer). StoreAnswers word (outcomeOf a)) (sym e) (reads-stores word n reads);
+      answers = subst (λ (a : Counted). StoreAnswers word (outcomeOf a)) (sym e) (reads-stores word n reads);
       weighed =
-          subst (λ (a : ReadAnswer). WeighedFor word (outcomeOf a) bytes) (sym e)
+          subst (λ (a : Counted). WeighedFor word (outcomeOf a) bytes) (sym e)
           (λ row g. filled row (subst (Gives row) (gives-stored (reads .row) word (reads .gives)) g));
       room = right .size;
     }
 
 -- what a word's stored form, with at most as many values as a word has, gives when it is read and weighed
-module _ (word values : List ℕ) (short : length word ≤ limit) (e : values ≡ storedForm word) (answer : ReadAnswer) (bytes : List ℕ)
+module _ (word values : List ℕ) (short : length word ≤ limit) (e : values ≡ storedForm word) (answer : Counted) (bytes : List ℕ)
     (right : FillRight values answer bytes) where
   at-form : FillRight (storedForm word) answer bytes
   at-form = subst (λ (l : List ℕ). FillRight l answer bytes) e right
 
-  pub form-weighed : (n : ℕ) → answer ≡ Syllables n → WeighRight word answer bytes
+  pub form-weighed : (n : ℕ) → answer ≡ Count n → WeighRight word answer bytes
   form-weighed n f =
-      let reads = subst (λ (a : ReadAnswer). Answers (storedForm word) (outcomeOf a)) f (at-form .answers) in
+      let reads = subst (λ (a : Counted). Answers (storedForm word) (outcomeOf a)) f (at-form .answers) in
       record {
         answers =
-            subst (λ (a : ReadAnswer). StoreAnswers word (outcomeOf a)) (sym f)
+            subst (λ (a : Counted). StoreAnswers word (outcomeOf a)) (sym f)
             (record { admissible = word-admissible word short (reads .admissible); reads = reads });
         weighed =
-            subst (λ (a : ReadAnswer). WeighedFor word (outcomeOf a) bytes) (sym f)
-            (subst (λ (a : ReadAnswer). KeyIfRead (storedForm word) (outcomeOf a) bytes) f (at-form .key));
+            subst (λ (a : Counted). WeighedFor word (outcomeOf a) bytes) (sym f)
+            (subst (λ (a : Counted). KeyIfRead (storedForm word) (outcomeOf a) bytes) f (at-form .key));
         room = right .size;
       }
 
@@ -63,35 +64,35 @@ module _ (word values : List ℕ) (short : length word ≤ limit) (e : values �
       record {
         answers =
             refused-right word short refusal told
-            (subst (λ (a : ReadAnswer). Answers (storedForm word) (outcomeOf a)) f (at-form .answers)) h;
+            (subst (λ (a : Counted). Answers (storedForm word) (outcomeOf a)) f (at-form .answers)) h;
         weighed = tt;
         room = right .size;
       }
 
-pub weighed-refused : (word : List ℕ) (answer : ReadAnswer) (bytes : List ℕ) → WeighRight word answer bytes → (refusal : Refusal)
+pub weighed-refused : (word : List ℕ) (answer : Counted) (bytes : List ℕ) → WeighRight word answer bytes → (refusal : Refusal)
     → answer ≡ Refused refusal → StoreRefusedWith word (numberOf refusal) (placeOf refusal)
-weighed-refused word answer bytes right refusal e = subst (λ (a : ReadAnswer). StoreAnswers word (outcomeOf a)) e (right .answers)
+weighed-refused word answer bytes right refusal e = subst (λ (a : Counted). StoreAnswers word (outcomeOf a)) e (right .answers)
 
 -- a word that is weighed, with the number of its syllables
 pub record Weighed : Type 0 where
   pub word : List ℕ
-  pub answer : ReadAnswer
+  pub answer : Counted
   pub bytes : List ℕ
   pub right : WeighRight word answer bytes
   pub count : ℕ
-  pub told : answer ≡ Syllables count
+  pub told : answer ≡ Count count
 
 module _ (w : Weighed) where
   pub weighed-stores : Stores (w .word) (w .count)
-  weighed-stores = subst (λ (a : ReadAnswer). StoreAnswers (w .word) (outcomeOf a)) (w .told) (w .right .answers)
+  weighed-stores = subst (λ (a : Counted). StoreAnswers (w .word) (outcomeOf a)) (w .told) (w .right .answers)
 
   pub weighed-key : KeyRight (w .word) (record { answer = w .answer; bytes = w .bytes })
   weighed-key =
       record {
         answers = w .right .answers;
         bytes =
-            subst (λ (a : ReadAnswer). KeyFor (w .word) (outcomeOf a) (w .bytes)) (sym (w .told))
-            (subst (λ (a : ReadAnswer). WeighedFor (w .word) (outcomeOf a) (w .bytes)) (w .told) (w .right .weighed));
+            subst (λ (a : Counted). KeyFor (w .word) (outcomeOf a) (w .bytes)) (sym (w .told))
+            (subst (λ (a : Counted). WeighedFor (w .word) (outcomeOf a) (w .bytes)) (w .told) (w .right .weighed));
       }
 
   pub weighed-limit : w .count ≤ limit

@@ -5,16 +5,18 @@ use mathlib.Core.List.{List}
 use Prim.Native.Nat.{ℕ}
 use lib.ListN.{length}
 use Rattle.formula.specs.Row.{Row, Gives}
-use Rattle.recogniser.specs.Answer.{Outcome, accepts, refuses, outcomeOf}
+use Rattle.refusals.specs.Outcome.{Outcome, accepts, accepts-both, absent, refuses, outcomeOf}
+use Rattle.refusals.specs.declared.Counted.{Counted}
 use Rattle.storage.specs.Stored.{storedForm}
 use Rattle.normaliser.specs.Normal.{StoreAnswers}
 use Rattle.weighing.specs.Keys.{keyLimit, zeros, keyBytes}
-use Rattle.recogniser.specs.declared.answer.ReadAnswer.{ReadAnswer}
 use Rattle.collation.specs.declared.key.Key.{Key}
 
 -- "A key is held in 320 bytes, of which five a syllable are used. The rest are zero"; with a refusal "a key [..] is all zeros"
 abbrev pub KeyFor : List ℕ → Outcome → List ℕ → Type 0
 KeyFor word (accepts n) bytes = (row : Row) → Gives row (storedForm word) → bytes ≡ keyBytes row
+KeyFor word (accepts-both n m) bytes = ⊥
+KeyFor word absent bytes = ⊥
 KeyFor word (refuses number place) bytes = bytes ≡ zeros keyLimit
 
 -- the promise of a key; "the syllable count comes with it", in the answer
@@ -25,9 +27,11 @@ pub record KeyRight (word : List ℕ) (key : Key) : Type 0 where
 -- inner contracts cite what follows: the same with nothing said of the bytes that go with a refusal
 abbrev pub WeighedFor : List ℕ → Outcome → List ℕ → Type 0
 WeighedFor word (accepts n) bytes = (row : Row) → Gives row (storedForm word) → bytes ≡ keyBytes row
+WeighedFor word (accepts-both n m) bytes = ⊥
+WeighedFor word absent bytes = ⊥
 WeighedFor word (refuses number place) bytes = Unit {0}
 
-pub record WeighRight (word : List ℕ) (answer : ReadAnswer) (bytes : List ℕ) : Type 0 where
+pub record WeighRight (word : List ℕ) (answer : Counted) (bytes : List ℕ) : Type 0 where
   pub answers : StoreAnswers word (outcomeOf answer)
   pub weighed : WeighedFor word (outcomeOf answer) bytes
   pub room : length bytes ≡ keyLimit

@@ -1,7 +1,7 @@
 // The comparison of two words.
 use crate::heads::order_heads;
 use crate::weigh::weigh;
-use recogniser::answer::ReadAnswer;
+use refusals::Counted;
 use refusals::Refusal;
 use weighing::order::Order;
 use weighing::order::order_bytes;
@@ -54,14 +54,14 @@ fn compare_keys(first: &[u16], second: &[u16]) -> Compared
     let mut one = [0; 320];
     let one_answer = weigh(first, &mut one);
     let one_count = match one_answer {
-        ReadAnswer::Refused(refusal) => return Compared::FirstRefused(refusal),
-        ReadAnswer::Syllables(count) => count,
+        Counted::Refused(refusal) => return Compared::FirstRefused(refusal),
+        Counted::Count(count) => count,
     };
     let mut other = [0; 320];
     let other_answer = weigh(second, &mut other);
     let other_count = match other_answer {
-        ReadAnswer::Refused(refusal) => return Compared::SecondRefused(refusal),
-        ReadAnswer::Syllables(count) => count,
+        Counted::Refused(refusal) => return Compared::SecondRefused(refusal),
+        Counted::Count(count) => count,
     };
     let one_end = 5 * one_count;
     let other_end = 5 * other_count;

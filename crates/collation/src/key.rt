@@ -1,11 +1,11 @@
 // The collation key of a word.
 use crate::weigh::weigh;
-use recogniser::answer::ReadAnswer;
+use refusals::Counted;
 ghost use Rattle.collation.specs.Keyed.{KeyRight};
 
 // The weights of a word, five bytes a syllable and zeros behind them, with the number of syllables; zeros with a refusal.
 pub struct Key {
-    pub answer: ReadAnswer,
+    pub answer: Counted,
     pub bytes: [u8; 320],
 }
 
@@ -15,7 +15,7 @@ pub fn key_of(word: &[u16]) -> Key
 {
     let mut bytes = [0; 320];
     let answer = weigh(word, &mut bytes);
-    if let ReadAnswer::Refused(_) = answer {
+    if let Counted::Refused(_) = answer {
         return Key {
             answer,
             bytes: [0; 320],

@@ -2,7 +2,7 @@
 use formula::Word;
 use keying::fill::fill;
 use normaliser::as_handed_in;
-use recogniser::answer::ReadAnswer;
+use refusals::Counted;
 use refusals::Refusal;
 ghost use mathlib.Core.Path.{_≡_};
 ghost use lib.ListN.{length};
@@ -10,32 +10,32 @@ ghost use Rattle.weighing.specs.Keys.{keyLimit, zeros};
 ghost use Rattle.collation.specs.Keyed.{WeighRight};
 
 // Fills the key of a word's stored form, which is a word of its own.
-fn weigh_stored(word: &[u16], bytes: &mut [u8; 320]) -> ReadAnswer
+fn weigh_stored(word: &[u16], bytes: &mut [u8; 320]) -> Counted
     requires { ⌜ length (now bytes) ≡ keyLimit ⌝ }
     ensures { λ r. ⌜ WeighRight (now (word .entry)) r (now (bytes .exit)) ⌝ }
 {
     if Word::LIMIT < word.len() {
-        return ReadAnswer::Refused(Refusal::TooLong);
+        return Counted::Refused(Refusal::TooLong);
     }
     *bytes = [0; 320];
     let form = storage::stored(word);
     let count = form.count;
     let values = form.values;
     let answer = fill(&values[..count], bytes);
-    if let ReadAnswer::Refused(refusal) = answer {
-        return ReadAnswer::Refused(as_handed_in(word, refusal));
+    if let Counted::Refused(refusal) = answer {
+        return Counted::Refused(as_handed_in(word, refusal));
     }
     answer
 }
 
 // Fills a key of zeros with the weights of a word's stored form; with a refusal the bytes are of no use. A row of syllables is its own
 // stored form.
-pub fn weigh(word: &[u16], bytes: &mut [u8; 320]) -> ReadAnswer
+pub fn weigh(word: &[u16], bytes: &mut [u8; 320]) -> Counted
     requires { ⌜ now bytes ≡ zeros keyLimit ⌝ }
     ensures { λ r. ⌜ WeighRight (now (word .entry)) r (now (bytes .exit)) ⌝ }
 {
     let answer = fill(word, bytes);
-    if let ReadAnswer::Syllables(_) = answer {
+    if let Counted::Count(_) = answer {
         return answer;
     }
     weigh_stored(word, bytes)

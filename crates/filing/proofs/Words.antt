@@ -8,11 +8,12 @@ use Rattle.formula.specs.Limits.{limit}
 use Rattle.formula.specs.Syllable.{no-final}
 use Rattle.formula.specs.Row.{Gives}
 use Rattle.refusals.specs.Refusal.{numberOf, placeOf}
+use Rattle.refusals.specs.Outcome.{outcomeOf}
 use Rattle.refusals.specs.declared.Refusal.{Refusal}
-use Rattle.recogniser.specs.Answer.{Reads, outcomeOf, Answers, Readable}
+use Rattle.refusals.specs.declared.Counted.{Counted}
+use Rattle.refusals.specs.declared.Counted.the-variants.{Count, Refused}
+use Rattle.recogniser.specs.Answer.{Reads, Answers, Readable}
 use Rattle.reading.specs.Reading.{ReadRight}
-use Rattle.recogniser.specs.declared.answer.ReadAnswer.{ReadAnswer}
-use Rattle.recogniser.specs.declared.answer.ReadAnswer.the-variants.{Syllables, Refused}
 use Rattle.reading.specs.declared.read.Reading.{Reading}
 use Rattle.recogniser.proofs.Answered.{refused-no-row}
 use Rattle.recogniser.proofs.Counted.{count-limit}
@@ -25,10 +26,10 @@ use Rattle.filing.proofs.Rows.{row-gives}
 module _ (word : List ℕ) (readable : Readable word) (r : Reading) (right : ReadRight word r) where
   pub not-refused : (refusal : Refusal) → r .answer ≡ Refused refusal → ⊥
   not-refused refusal e =
-      refused-no-row word (numberOf refusal) (placeOf refusal) (subst (λ (a : ReadAnswer). Answers word (outcomeOf a)) e (right .answers))
+      refused-no-row word (numberOf refusal) (placeOf refusal) (subst (λ (a : Counted). Answers word (outcomeOf a)) e (right .answers))
       (readable .admissible) (readable .row) (readable .gives)
 
-  module _ (n : ℕ) (e : r .answer ≡ Syllables n) where
+  module _ (n : ℕ) (e : r .answer ≡ Count n) where
     has : Reads word n
     has = reads word r right n e
 

@@ -5,7 +5,7 @@ use book_frame::wide;
 use formula::Syllable;
 use formula::Word;
 use reading::read::read;
-use recogniser::answer::ReadAnswer;
+use refusals::Counted;
 use weighing::weigh::put_weights;
 ghost use mathlib.Core.Path.{_≡_};
 ghost use mathlib.Core.List.{_∷_};
@@ -66,7 +66,7 @@ fn keep_key(book: &[u8], at: usize, keys: &mut [u8])
     let reading = read(&values[..count]);
     let answer = reading.answer;
     let syllables = reading.syllables;
-    if let ReadAnswer::Syllables(number) = answer {
+    if let Counted::Count(number) = answer {
         put_key(keys, 5 * at, syllables, number);
     }
 }

@@ -14,13 +14,13 @@ use Rattle.formula.specs.Held.{wordOf}
 use Rattle.formula.specs.declared.Word.{Word}
 use Rattle.formula.proofs.Held.{held-front, held-fits, held-length}
 use Rattle.refusals.specs.Refusal.{numberOf, placeOf}
+use Rattle.refusals.specs.Outcome.{accepts, refuses}
 use Rattle.refusals.specs.declared.Refusal.the-variants.{TooLong}
 use Rattle.lines.specs.Line.{Decoding, values, faulty as broken, decodeFrom, refusedLine, answerOf, decodedOf}
 use Rattle.lines.specs.declared.LineAnswer.{LineAnswer}
 use Rattle.lines.specs.declared.LineAnswer.the-variants.{Values, Refused}
 use Rattle.lines.specs.declared.Decoded.{Decoded}
 use Rattle.lines.proofs.RoundTrip.{encode-decode, length-encode}
-use Rattle.writing.specs.Write.{written, refuses}
 use Rattle.interface.specs.Outputs.{DecodeWritten, writes, too-long, faulty, too-short}
 
 -- the line decodes to values, which the word holds
@@ -70,8 +70,8 @@ module _ (line : List ℕ) (held : Word) (h : Holds line held) where
 
   pub written-right : (before after : List ℕ) → held .count ≤ length before
       → after ≡ take (held .count) (held .values) ++ drop (length (take (held .count) (held .values))) before
-      → DecodeWritten line before after (written (held .count))
+      → DecodeWritten line before after (accepts (held .count))
   written-right before after fits is =
-      subst (λ (k : ℕ). DecodeWritten line before after (written k)) (sym count-is)
+      subst (λ (k : ℕ). DecodeWritten line before after (accepts k)) (sym count-is)
       (writes (h .short) (h .decodes) (omega (arith, count-is))
       (is ∙ ap (λ (l : List ℕ). l ++ drop (length l) before) (held-front held (h .word) (h .is))))

@@ -7,23 +7,23 @@ use native.Mathlib.Omega.{arith}
 use lib.ListN.{length, take, drop}
 use lib.Seq.{take-all}
 use Rattle.refusals.specs.Refusal.{numberOf, placeOf}
+use Rattle.refusals.specs.Outcome.{accepts, refuses, outcomeOf}
 use Rattle.refusals.specs.declared.Refusal.{Refusal}
-use Rattle.recogniser.specs.Answer.{accepts, refuses, outcomeOf}
-use Rattle.recogniser.specs.declared.answer.ReadAnswer.{ReadAnswer}
-use Rattle.recogniser.specs.declared.answer.ReadAnswer.the-variants.{Refused}
+use Rattle.refusals.specs.declared.Counted.{Counted}
+use Rattle.refusals.specs.declared.Counted.the-variants.{Refused}
 use Rattle.weighing.specs.Keys.{keyLimit, keyBytes}
 use Rattle.collation.specs.Keyed.{WeighedFor, WeighRight}
 use Rattle.collation.proofs.Weighing.{Weighed, weighed-refused, weighed-stores}
 use Rattle.interface.specs.Outputs.{KeyWritten, writes, word-refused, too-short}
 
-pub refused-right : (word : List ℕ) (answer : ReadAnswer) (bytes : List ℕ) → WeighRight word answer bytes → (refusal : Refusal)
+pub refused-right : (word : List ℕ) (answer : Counted) (bytes : List ℕ) → WeighRight word answer bytes → (refusal : Refusal)
     → answer ≡ Refused refusal → (before after : List ℕ) → after ≡ before → KeyWritten word before after (refuses (numberOf refusal) (placeOf refusal))
 refused-right word answer bytes right refusal e before after same = word-refused (weighed-refused word answer bytes right refusal e) same
 
 module _ (w : Weighed) where
   bytes-are : w .bytes ≡ keyBytes (weighed-stores w .reads .row)
   bytes-are =
-      subst (λ (a : ReadAnswer). WeighedFor (w .word) (outcomeOf a) (w .bytes)) (w .told) (w .right .weighed) (weighed-stores w .reads .row)
+      subst (λ (a : Counted). WeighedFor (w .word) (outcomeOf a) (w .bytes)) (w .told) (w .right .weighed) (weighed-stores w .reads .row)
       (weighed-stores w .reads .gives)
 
   pub short-right : (before after : List ℕ) → length before < keyLimit → after ≡ before → KeyWritten (w .word) before after (refuses 5 keyLimit)

@@ -8,18 +8,17 @@ use native.Mathlib.Omega.{arith}
 use lib.ListN.{length}
 use Rattle.letters.specs.Choice.{pick}
 use Rattle.formula.specs.Limits.{limit, lineLimit}
+use Rattle.refusals.specs.Outcome.{Outcome}
 use Rattle.lines.specs.Line.{isThree, valueOf, Decoding, values, faulty as broken, after, decodeFrom}
 use Rattle.lines.proofs.RoundTrip.{encode-decode, length-encode}
-use Rattle.recogniser.specs.Answer.{Outcome}
 use Rattle.recogniser.proofs.Counted.{count-limit}
 use Rattle.storage.specs.Stored.{storedForm}
-use Rattle.writing.specs.Write as writing
 use Rattle.packing.specs.Packing.{Fits}
-use Rattle.packing.specs.Answers.{readNumbers, writeNumbers}
+use Rattle.packing.specs.Answers.{outcomeNumbers}
 use Rattle.packing.proofs.WordFits.{small-fits, store-refused-small}
 use Rattle.interface.specs.Outputs as outputs
 
-pub key-fits : (word before after : List ℕ) (o : Outcome) → outputs.KeyWritten word before after o → Fits (readNumbers o)
+pub key-fits : (word before after : List ℕ) (o : Outcome) → outputs.KeyWritten word before after o → Fits (outcomeNumbers o)
 key-fits word before after o (outputs.writes s h e) =
     record { tag = omega arith; second = omega arith; first = omega (arith, count-limit (storedForm word) _ (s .reads)) }
 key-fits word before after o (outputs.word-refused r e) = small-fits _ 0 _ (omega arith) (store-refused-small word _ _ r)
@@ -46,7 +45,7 @@ faulty-by p (a ∷ b ∷ c ∷ line) = go (isThree a b c) (decodeFrom (p + 3) li
 word-short : (line word : List ℕ) → length line ≤ lineLimit → decodeFrom 0 line ≡ values word → length word ≤ limit
 word-short line word h d = omega (arith, length-encode word, ap length (encode-decode 0 line word d))
 
-pub decode-fits : (line before after : List ℕ) (o : writing.Outcome) → outputs.DecodeWritten line before after o → Fits (writeNumbers o)
+pub decode-fits : (line before after : List ℕ) (o : Outcome) → outputs.DecodeWritten line before after o → Fits (outcomeNumbers o)
 decode-fits line before after o (outputs.writes h d f e) =
     record { tag = omega arith; second = omega arith; first = omega (arith, word-short line _ h d) }
 decode-fits line before after o (outputs.too-long h e) = record { tag = omega arith; second = omega arith; first = omega arith }

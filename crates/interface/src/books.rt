@@ -5,36 +5,36 @@ ghost use Rattle.lookup.specs.Outcome.{checkOf};
 ghost use Rattle.ranking.specs.Rank.{rankOf};
 ghost use Rattle.wordbook.specs.Calls.{AddPromise, RemovePromise};
 ghost use Rattle.packing.specs.Packing.{pack, Packed};
-ghost use Rattle.packing.specs.Answers.{bookNumbers, FindAnswers};
+ghost use Rattle.packing.specs.Answers.{outcomeNumbers, FindAnswers};
 
 // Whether the buffer is a book.
 #[no_mangle]
 pub extern "C" fn jogcairn_book_check(book: &[u8]) -> u64
-    ensures { λ r. ⌜ r ≡ pack (bookNumbers (checkOf (entries (now (book .entry))))) ⌝ }
+    ensures { λ r. ⌜ r ≡ pack (outcomeNumbers (checkOf (entries (now (book .entry))))) ⌝ }
 {
-    packing::of_check(wordbook::check(book))
+    packing::of_counted(wordbook::check(book))
 }
 
 // Puts a live record with the word just after the last record.
 #[no_mangle]
 pub extern "C" fn jogcairn_book_add(book: &mut [u8], word: &[u16], stock: u32) -> u64
-    ensures { λ r. ⌜ Packed (AddPromise (now (word .entry)) stock (now (book .entry)) (now (book .exit))) bookNumbers r ⌝ }
+    ensures { λ r. ⌜ Packed (AddPromise (now (word .entry)) stock (now (book .entry)) (now (book .exit))) outcomeNumbers r ⌝ }
 {
-    packing::of_placed(wordbook::add(book, word, stock))
+    packing::of_counted(wordbook::add(book, word, stock))
 }
 
 // Marks the live record with the word as removed.
 #[no_mangle]
 pub extern "C" fn jogcairn_book_remove(book: &mut [u8], word: &[u16]) -> u64
-    ensures { λ r. ⌜ Packed (RemovePromise (now (word .entry)) (now (book .entry)) (now (book .exit))) bookNumbers r ⌝ }
+    ensures { λ r. ⌜ Packed (RemovePromise (now (word .entry)) (now (book .entry)) (now (book .exit))) outcomeNumbers r ⌝ }
 {
-    packing::of_placed(wordbook::remove(book, word))
+    packing::of_counted(wordbook::remove(book, word))
 }
 
 // Stock number and start of the live record with the word.
 #[no_mangle]
 pub extern "C" fn jogcairn_book_find(book: &[u8], word: &[u16]) -> u64
-    ensures { λ r. ⌜ Packed (FindAnswers (now (book .entry)) (now (word .entry))) bookNumbers r ⌝ }
+    ensures { λ r. ⌜ Packed (FindAnswers (now (book .entry)) (now (word .entry))) outcomeNumbers r ⌝ }
 {
     packing::of_found(wordbook::find(book, word))
 }
@@ -42,7 +42,7 @@ pub extern "C" fn jogcairn_book_find(book: &[u8], word: &[u16]) -> u64
 // Stock number and start of the live record with `rank` live records before it in word order.
 #[no_mangle]
 pub extern "C" fn jogcairn_book_rank(book: &[u8], rank: usize) -> u64
-    ensures { λ r. ⌜ r ≡ pack (bookNumbers (rankOf (entries (now (book .entry))) rank)) ⌝ }
+    ensures { λ r. ⌜ r ≡ pack (outcomeNumbers (rankOf (entries (now (book .entry))) rank)) ⌝ }
 {
     packing::of_found(wordbook::rank(book, rank))
 }

@@ -3,16 +3,14 @@ use collation::weigh::weigh;
 use lines::LineAnswer;
 use lines::decode;
 use normaliser::copy_out;
-use recogniser::answer::ReadAnswer;
+use refusals::Counted;
 use refusals::Refusal;
-use writing::WriteAnswer;
 ghost use mathlib.Core.Path.{_≡_};
 ghost use mathlib.Core.List.{_++_};
 ghost use Prim.Native.Nat.{_≤_};
 ghost use lib.ListN.{length, take, drop};
-ghost use Rattle.recogniser.specs.Answer.{outcomeOf};
+ghost use Rattle.refusals.specs.Outcome.{outcomeOf};
 ghost use Rattle.weighing.specs.Keys.{keyLimit};
-ghost use Rattle.writing.specs.Write.{outcomeOf as writeOutcomeOf};
 ghost use Rattle.interface.specs.Outputs.{KeyWritten, DecodeWritten};
 
 // How many bytes a key is held in.
@@ -31,38 +29,38 @@ fn copy_key(bytes: &[u8; KEY_SIZE], output: &mut [u8])
 }
 
 // Writes the key of a word to the front of the output.
-pub(crate) fn put_key(word: &[u16], output: &mut [u8]) -> ReadAnswer
+pub(crate) fn put_key(word: &[u16], output: &mut [u8]) -> Counted
     ensures { λ r. ⌜ KeyWritten (now (word .entry)) (now (output .entry)) (now (output .exit)) (outcomeOf r) ⌝ }
 {
     let mut bytes = [0; KEY_SIZE];
     let answer = weigh(word, &mut bytes);
     match answer {
-        ReadAnswer::Refused(refusal) => ReadAnswer::Refused(refusal),
-        ReadAnswer::Syllables(count) => {
+        Counted::Refused(refusal) => Counted::Refused(refusal),
+        Counted::Count(count) => {
             if output.len() < KEY_SIZE {
-                return ReadAnswer::Refused(Refusal::OutputTooShort(KEY_SIZE));
+                return Counted::Refused(Refusal::OutputTooShort(KEY_SIZE));
             }
             copy_key(&bytes, output);
-            ReadAnswer::Syllables(count)
+            Counted::Count(count)
         }
     }
 }
 
 // Writes the values of a line to the front of the output.
-pub(crate) fn put_values(line: &[u8], output: &mut [u16]) -> WriteAnswer
-    ensures { λ r. ⌜ DecodeWritten (now (line .entry)) (now (output .entry)) (now (output .exit)) (writeOutcomeOf r) ⌝ }
+pub(crate) fn put_values(line: &[u8], output: &mut [u16]) -> Counted
+    ensures { λ r. ⌜ DecodeWritten (now (line .entry)) (now (output .entry)) (now (output .exit)) (outcomeOf r) ⌝ }
 {
     let decoded = decode(line);
     let answer = decoded.answer;
     if let LineAnswer::Refused(refusal) = answer {
-        return WriteAnswer::Refused(refusal);
+        return Counted::Refused(refusal);
     }
     let word = decoded.word;
     let count = word.count;
     if output.len() < count {
-        return WriteAnswer::Refused(Refusal::OutputTooShort(count));
+        return Counted::Refused(Refusal::OutputTooShort(count));
     }
     let values = word.values;
     copy_out(&values[..count], output);
-    WriteAnswer::Written(count)
+    Counted::Count(count)
 }

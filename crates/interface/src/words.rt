@@ -8,16 +8,16 @@ ghost use Rattle.collation.specs.Comparison.{CompareAnswers};
 ghost use Rattle.writing.specs.Write.{WriteRight};
 ghost use Rattle.spelling.specs.Spell.{lists, SpellRight};
 ghost use Rattle.packing.specs.Packing.{Packed};
-ghost use Rattle.packing.specs.Answers.{RecordGivenRight, readNumbers, recordNumbers, partNumbers, writeNumbers, spellNumbers, compareNumbers};
+ghost use Rattle.packing.specs.Answers.{outcomeNumbers, RecordGivenRight, recordNumbers, compareNumbers};
 ghost use Rattle.interface.specs.Outputs.{KeyWritten, DecodeWritten};
 
 // How many syllables a word has.
 #[no_mangle]
 pub extern "C" fn jogcairn_read(word: &[u16]) -> u64
-    ensures { λ r. ⌜ Packed (Answers (now (word .entry))) readNumbers r ⌝ }
+    ensures { λ r. ⌜ Packed (Answers (now (word .entry))) outcomeNumbers r ⌝ }
 {
     let answer = recogniser::walk::answer_of(word);
-    packing::of_reading(answer)
+    packing::of_counted(answer)
 }
 
 // The record of the syllable `number`, from 0.
@@ -31,7 +31,7 @@ pub extern "C" fn jogcairn_record(word: &[u16], number: usize) -> u64
 // Place and length of the part of the syllable `number`, from 0.
 #[no_mangle]
 pub extern "C" fn jogcairn_part(word: &[u16], number: usize) -> u64
-    ensures { λ r. ⌜ Packed (PartAnswers (now (word .entry)) number) partNumbers r ⌝ }
+    ensures { λ r. ⌜ Packed (PartAnswers (now (word .entry)) number) outcomeNumbers r ⌝ }
 {
     packing::of_part(reading::parts::part_place(word, number))
 }
@@ -41,7 +41,7 @@ pub extern "C" fn jogcairn_part(word: &[u16], number: usize) -> u64
 pub extern "C" fn jogcairn_spell(word: &[u16], values: &mut [u16], starts: &mut [u16]) -> u64
     ensures { λ r. ⌜ Packed
         (SpellRight (now (word .entry)) (lists (now (values .entry)) (now (starts .entry))) (lists (now (values .exit)) (now (starts .exit))))
-        spellNumbers r ⌝ }
+        outcomeNumbers r ⌝ }
 {
     packing::of_spelling(spelling::spell(word, values, starts))
 }
@@ -49,25 +49,25 @@ pub extern "C" fn jogcairn_spell(word: &[u16], values: &mut [u16], starts: &mut 
 // Writes the word of records, seven bytes a syllable.
 #[no_mangle]
 pub extern "C" fn jogcairn_write(records: &[u8], word: &mut [u16]) -> u64
-    ensures { λ r. ⌜ Packed (WriteRight (now (records .entry)) (now (word .entry)) (now (word .exit))) writeNumbers r ⌝ }
+    ensures { λ r. ⌜ Packed (WriteRight (now (records .entry)) (now (word .entry)) (now (word .exit))) outcomeNumbers r ⌝ }
 {
-    packing::of_writing(writing::write(records, word))
+    packing::of_counted(writing::write(records, word))
 }
 
 // Writes the stored form of a word.
 #[no_mangle]
 pub extern "C" fn jogcairn_normalise(word: &[u16], output: &mut [u16]) -> u64
-    ensures { λ r. ⌜ Packed (NormaliseRight (now (word .entry)) (now (output .entry)) (now (output .exit))) readNumbers r ⌝ }
+    ensures { λ r. ⌜ Packed (NormaliseRight (now (word .entry)) (now (output .entry)) (now (output .exit))) outcomeNumbers r ⌝ }
 {
-    packing::of_normalising(normaliser::normalise(word, output))
+    packing::of_counted(normaliser::normalise(word, output))
 }
 
 // Writes the collation key of a word.
 #[no_mangle]
 pub extern "C" fn jogcairn_key(word: &[u16], key: &mut [u8]) -> u64
-    ensures { λ r. ⌜ Packed (KeyWritten (now (word .entry)) (now (key .entry)) (now (key .exit))) readNumbers r ⌝ }
+    ensures { λ r. ⌜ Packed (KeyWritten (now (word .entry)) (now (key .entry)) (now (key .exit))) outcomeNumbers r ⌝ }
 {
-    packing::of_reading(put_key(word, key))
+    packing::of_counted(put_key(word, key))
 }
 
 // How the first word stands to the second.
@@ -81,7 +81,7 @@ pub extern "C" fn jogcairn_compare(first: &[u16], second: &[u16]) -> u64
 // Writes the values of a line of UTF-8 bytes.
 #[no_mangle]
 pub extern "C" fn jogcairn_decode(line: &[u8], word: &mut [u16]) -> u64
-    ensures { λ r. ⌜ Packed (DecodeWritten (now (line .entry)) (now (word .entry)) (now (word .exit))) writeNumbers r ⌝ }
+    ensures { λ r. ⌜ Packed (DecodeWritten (now (line .entry)) (now (word .entry)) (now (word .exit))) outcomeNumbers r ⌝ }
 {
-    packing::of_writing(put_values(line, word))
+    packing::of_counted(put_values(line, word))
 }

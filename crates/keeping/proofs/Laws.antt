@@ -7,6 +7,7 @@ use mathlib.Core.Option.{Option, none, some}
 use Prim.Native.Nat.{ℕ, _+_, _<_}
 use native.Mathlib.Omega.{arith}
 use lib.ListN.{length, getD}
+use Rattle.refusals.specs.Outcome.{accepts, refuses}
 use Rattle.entries.specs.Entries.{Entry, Entries, book, wrong, entries}
 use Rattle.entries.specs.Book.{endOf, IsBook, Opened}
 use Rattle.entries.specs.Map.{lookup, without, newEntry}
@@ -15,7 +16,7 @@ use Rattle.entries.proofs.Agree.{Sound, sound}
 use Rattle.entries.proofs.Lookups.{lookup-added, lookup-others, lookup-removed, lookup-kept}
 use Rattle.entries.proofs.Added.{added-book, added-entries}
 use Rattle.entries.proofs.Removed.{removed-book, removed-entries}
-use Rattle.lookup.specs.Outcome.{finds, places, refuses, findOfEntry, findOf, removeOfEntry, removeOf, addOf}
+use Rattle.lookup.specs.Outcome.{finds, findOfEntry, findOf, removeOfEntry, removeOf, addOf}
 use Rattle.keeping.specs.Written.{AddRight, RemoveRight}
 use Rattle.keeping.proofs.Fitting.{Fitting, added-fitting}
 
@@ -35,11 +36,11 @@ pub record Added (before after w : List ℕ) (stock start : ℕ) : Type 0 where
   pub is-book : IsBook after (list ++ (newEntry start w stock ∷ []))
   pub is : entries after ≡ book (list ++ (newEntry start w stock ∷ [])) (start + 7 + length w)
 
-module _ (before after w : List ℕ) (stock start : ℕ) (small : Bytes before) (st : Storable w) (fits : stock < 4294967296) (r : AddRight w stock before after (places start)) where
+module _ (before after w : List ℕ) (stock start : ℕ) (small : Bytes before) (st : Storable w) (fits : stock < 4294967296) (r : AddRight w stock before after (accepts start)) where
   pub added : Added before after w stock start
   added = go (entries before) refl (r .answer)
     where
-      go : (x : Entries) → entries before ≡ x → places start ≡ addOf x (length before) w → Added before after w stock start
+      go : (x : Entries) → entries before ≡ x → accepts start ≡ addOf x (length before) w → Added before after w stock start
       go (wrong p) q e = let z : _≡_ {A = ℕ} 0 1 = cc in let y : ⊥ = omega arith in absurd y
       go (book es free) q e =
           let f : Fitting es free (length before) w start = added-fitting es free (length before) w start e in
@@ -72,11 +73,11 @@ pub record Removed (before after w : List ℕ) (start : ℕ) : Type 0 where
   pub is-book : IsBook after (without list w)
   pub is : entries after ≡ book (without list w) free
 
-module _ (before after w : List ℕ) (start : ℕ) (small : Bytes before) (r : RemoveRight w before after (places start)) where
+module _ (before after w : List ℕ) (start : ℕ) (small : Bytes before) (r : RemoveRight w before after (accepts start)) where
   pub removed : Removed before after w start
   removed = go (entries before) refl (r .answer)
     where
-      found : (es : List Entry) (free : ℕ) (o : Option Entry) → lookup es w ≡ o → entries before ≡ book es free → places start ≡ removeOfEntry o → Removed before after w start
+      found : (es : List Entry) (free : ℕ) (o : Option Entry) → lookup es w ≡ o → entries before ≡ book es free → accepts start ≡ removeOfEntry o → Removed before after w start
       found es free none l q e = let z : _≡_ {A = ℕ} 0 1 = cc in let y : ⊥ = omega arith in absurd y
       found es free (some x) l q e =
           let at : start ≡ x .start = cc in
@@ -84,7 +85,7 @@ module _ (before after w : List ℕ) (start : ℕ) (small : Bytes before) (r : R
           subst (λ (b : List ℕ). Removed before b w start) (sym (r .bytes ∙ ap (withRemoved before) at))
           (record { list = es; free = free; was = q; is-book = removed-book before w free x o l; is = removed-entries before w free x o l })
 
-      go : (x : Entries) → entries before ≡ x → places start ≡ removeOf x w → Removed before after w start
+      go : (x : Entries) → entries before ≡ x → accepts start ≡ removeOf x w → Removed before after w start
       go (wrong p) q e = let z : _≡_ {A = ℕ} 0 1 = cc in let y : ⊥ = omega arith in absurd y
       go (book es free) q e = found es free (lookup es w) refl q e
 

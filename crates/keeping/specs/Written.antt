@@ -3,23 +3,24 @@ use mathlib.Core.Path.{_≡_}
 use mathlib.Core.List.{List, [], _∷_, _++_}
 use Prim.Native.Nat.{ℕ, _+_}
 use lib.ListN.{length, take, drop}
+use Rattle.refusals.specs.Outcome.{Outcome, accepts, accepts-both, absent, refuses}
 use Rattle.entries.specs.Entries.{entries}
 use Rattle.entries.specs.Book.{numberBytes}
 use Rattle.entries.specs.Change.{withRecord, withRemoved}
-use Rattle.lookup.specs.Outcome.{Outcome, counts, finds, places, refuses, addOf, removeOf}
+use Rattle.lookup.specs.Outcome.{addOf, removeOf}
 
 -- the buffer after add: with one record more, or, "A refusal gives number and place and writes nothing", as it was
 abbrev pub bytesAdded : Outcome → List ℕ → List ℕ → ℕ → List ℕ
-bytesAdded (places start) bytes word stock = withRecord bytes start word stock
-bytesAdded (counts live) bytes word stock = bytes
-bytesAdded (finds start number) bytes word stock = bytes
+bytesAdded (accepts start) bytes word stock = withRecord bytes start word stock
+bytesAdded (accepts-both number start) bytes word stock = bytes
+bytesAdded absent bytes word stock = bytes
 bytesAdded (refuses number place) bytes word stock = bytes
 
 -- the buffer after remove: with one byte changed, or as it was
 abbrev pub bytesRemoved : Outcome → List ℕ → List ℕ
-bytesRemoved (places start) bytes = withRemoved bytes start
-bytesRemoved (counts live) bytes = bytes
-bytesRemoved (finds start number) bytes = bytes
+bytesRemoved (accepts start) bytes = withRemoved bytes start
+bytesRemoved (accepts-both number start) bytes = bytes
+bytesRemoved absent bytes = bytes
 bytesRemoved (refuses number place) bytes = bytes
 
 -- the promise of add, for a word in storage order

@@ -1,17 +1,17 @@
 // Adding and removing records: the decision first, then the bytes.
-use lookup::plan::Placed;
 use lookup::plan::plan_add;
 use lookup::plan::plan_remove;
+use refusals::Counted;
 ghost use mathlib.Core.Path.{_≡_};
 ghost use mathlib.Core.List.{map};
 ghost use Prim.Native.Nat.{_+_, _≤_, _<_};
 ghost use lib.ListN.{length};
 ghost use lib.Seq.{paste};
 ghost use Rattle.formula.specs.Limits.{limit};
+ghost use Rattle.refusals.specs.Outcome.{outcomeOf};
 ghost use Rattle.entries.specs.Limits.{bookLimit};
 ghost use Rattle.entries.specs.Book.{byteOf};
 ghost use Rattle.entries.specs.Change.{Storable};
-ghost use Rattle.lookup.specs.Outcome.{placedOutcome};
 ghost use Rattle.keeping.specs.Written.{withHead, AddRight, RemoveRight};
 
 // A count as a byte.
@@ -66,12 +66,12 @@ fn put_word(book: &mut [u8], from: usize, word: &[u16])
 }
 
 // Puts a live record with the word just after the last record.
-pub fn add(book: &mut [u8], word: &[u16], stock: u32) -> Placed
+pub fn add(book: &mut [u8], word: &[u16], stock: u32) -> Counted
     requires { ⌜ Storable (now word) ⌝ }
-    ensures { λ r. ⌜ AddRight (now (word .entry)) stock (now (book .entry)) (now (book .exit)) (placedOutcome r) ⌝ }
+    ensures { λ r. ⌜ AddRight (now (word .entry)) stock (now (book .entry)) (now (book .exit)) (outcomeOf r) ⌝ }
 {
     let plan = plan_add(book, word);
-    let Placed::At(start) = plan else {
+    let Counted::Count(start) = plan else {
         return plan;
     };
     put_head(book, start, word.len(), stock);
@@ -80,11 +80,11 @@ pub fn add(book: &mut [u8], word: &[u16], stock: u32) -> Placed
 }
 
 // Marks the live record with the word as removed.
-pub fn remove(book: &mut [u8], word: &[u16]) -> Placed
-    ensures { λ r. ⌜ RemoveRight (now (word .entry)) (now (book .entry)) (now (book .exit)) (placedOutcome r) ⌝ }
+pub fn remove(book: &mut [u8], word: &[u16]) -> Counted
+    ensures { λ r. ⌜ RemoveRight (now (word .entry)) (now (book .entry)) (now (book .exit)) (outcomeOf r) ⌝ }
 {
     let plan = plan_remove(book, word);
-    let Placed::At(start) = plan else {
+    let Counted::Count(start) = plan else {
         return plan;
     };
     let removed = b"M-";

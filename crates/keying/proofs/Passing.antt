@@ -11,12 +11,12 @@ use lib.ListN.{length, getD, take, length-reverse}
 use lib.Seq.{take-all}
 use Rattle.formula.specs.Limits.{limit}
 use Rattle.formula.specs.Row.{Row, Gives, Viable}
+use Rattle.refusals.specs.Outcome.{Outcome, accepts, accepts-both, absent, refuses}
 use Rattle.rows.specs.Kept.{KeptOk, step, run}
 use Rattle.rows.proofs.Viable.{read-back, stops, goes-on}
 use Rattle.transitions.specs.State.{stateOf, stateNumber}
 use Rattle.transitions.specs.Tables.{entryOf}
 use Rattle.transitions.proofs.Entered.{Enters, state-small, enters}
-use Rattle.recogniser.specs.Answer.{Outcome, accepts, refuses}
 use Rattle.recogniser.specs.Walked.{WalkStopped}
 use Rattle.recogniser.proofs.Kept.{kept-right}
 use Rattle.weighing.specs.Keys.{keyLimit, usedBytes, zeros, keyOf, keyBytes}
@@ -136,6 +136,8 @@ module _ {word : List ℕ} {at state count : ℕ} {w : Weights} {bytes : List �
 
     pub key-short : (o : Outcome) → KeyIfRead word o bytes
     key-short (accepts m) = λ row g. absurd (no-row row g)
+    key-short (accepts-both m n) = tt
+    key-short absent = tt
     key-short (refuses m place) = tt
 
   -- at the end of the word
@@ -161,6 +163,8 @@ module _ {word : List ℕ} {at state count : ℕ} {w : Weights} {bytes : List �
 
     pub key-whole : (new : List ℕ) → new ≡ putLast count (w .last) bytes → (o : Outcome) → KeyIfRead word o new
     key-whole new f (accepts m) = λ row g. f ∙ whole row g
+    key-whole new f (accepts-both m n) = tt
+    key-whole new f absent = tt
     key-whole new f (refuses m place) = tt
 
     pub size-whole : (new : List ℕ) → new ≡ putLast count (w .last) bytes → length new ≡ keyLimit

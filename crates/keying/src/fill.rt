@@ -2,8 +2,8 @@
 use crate::gain::gain;
 use crate::gain::weighing;
 use formula::Word;
-use recogniser::answer::ReadAnswer;
 use recogniser::walk::answer_at;
+use refusals::Counted;
 use refusals::Refusal;
 use transitions::tables::next;
 use transitions::tables::rules_of;
@@ -97,12 +97,12 @@ fn weights_after(
 }
 
 // Reads a word of any values and any length, and fills a key of zeros with its weights; with a refusal the bytes are of no use.
-pub fn fill(word: &[u16], bytes: &mut [u8; 320]) -> ReadAnswer
+pub fn fill(word: &[u16], bytes: &mut [u8; 320]) -> Counted
     requires { ⌜ now bytes ≡ zeros keyLimit ⌝ }
     ensures { λ r. ⌜ FillRight (now (word .entry)) r (now (bytes .exit)) ⌝ }
 {
     if Word::LIMIT < word.len() {
-        return ReadAnswer::Refused(Refusal::TooLong);
+        return Counted::Refused(Refusal::TooLong);
     }
     let mut weights = Weights { last: 0, before: 0 };
     let mut state = 0;

@@ -9,9 +9,10 @@ use borrow.Author.Tests.{le-leb, lt-leb}
 use lib.Dec.{leb}
 use lib.ListN.{length}
 use Rattle.letters.specs.Choice.{pick}
+use Rattle.refusals.specs.Outcome.{Outcome, accepts, refuses}
 use Rattle.entries.specs.Entries.{Entry, Entries, book, wrong}
 use Rattle.entries.specs.Map.{lookup}
-use Rattle.lookup.specs.Outcome.{Outcome, finds, places, refuses, findOfEntry, findOf, removeOfEntry, removeOf, addOfEntry, addOf}
+use Rattle.lookup.specs.Outcome.{finds, findOfEntry, findOf, removeOfEntry, removeOf, addOfEntry, addOf}
 use Rattle.lookup.specs.Look.{lookOfEntry, lookOf}
 use Rattle.lookup.specs.declared.look.Look.{Look}
 use Rattle.lookup.specs.declared.look.Look.the-variants.{Wrong, Live, Missing}
@@ -23,13 +24,13 @@ findBy (Missing f) = refuses 13 0
 
 abbrev pub removeBy : Look → Outcome
 removeBy (Wrong p) = refuses 11 p
-removeBy (Live s t) = places s
+removeBy (Live s t) = accepts s
 removeBy (Missing f) = refuses 13 0
 
 abbrev pub addBy : Look → ℕ → List ℕ → Outcome
 addBy (Wrong p) room w = refuses 11 p
 addBy (Live s t) room w = refuses 12 s
-addBy (Missing f) room w = pick (leb (f + 7 + length w) room) (places f) (refuses 14 f)
+addBy (Missing f) room w = pick (leb (f + 7 + length w) room) (accepts f) (refuses 14 f)
 
 pub find-by : (e : Entries) (w : List ℕ) → findBy (lookOf e w) ≡ findOf e w
 find-by (wrong p) w = refl
@@ -56,10 +57,10 @@ add-by (book es f) room w = go (lookup es w)
     go (some x) = refl
 
 -- the record fits, or it does not
-pub fits : (f room : ℕ) (w : List ℕ) → f + 7 + length w ≤ room → places f ≡ pick (leb (f + 7 + length w) room) (places f) (refuses 14 f)
+pub fits : (f room : ℕ) (w : List ℕ) → f + 7 + length w ≤ room → accepts f ≡ pick (leb (f + 7 + length w) room) (accepts f) (refuses 14 f)
 unfolding pick
-fits f room w h = ap (λ (t : Bool). pick t (places f) (refuses 14 f)) (sym (le-leb (f + 7 + length w) room h))
+fits f room w h = ap (λ (t : Bool). pick t (accepts f) (refuses 14 f)) (sym (le-leb (f + 7 + length w) room h))
 
-pub full : (f room : ℕ) (w : List ℕ) → room < f + 7 + length w → refuses 14 f ≡ pick (leb (f + 7 + length w) room) (places f) (refuses 14 f)
+pub full : (f room : ℕ) (w : List ℕ) → room < f + 7 + length w → refuses 14 f ≡ pick (leb (f + 7 + length w) room) (accepts f) (refuses 14 f)
 unfolding pick
-full f room w h = ap (λ (t : Bool). pick t (places f) (refuses 14 f)) (sym (lt-leb (f + 7 + length w) room h))
+full f room w h = ap (λ (t : Bool). pick t (accepts f) (refuses 14 f)) (sym (lt-leb (f + 7 + length w) room h))

@@ -4,10 +4,10 @@ use mathlib.Core.List.{List}
 use mathlib.Core.Option.{Option, none, some}
 use Prim.Native.Nat.{ℕ, _+_, _≤_}
 use lib.ListN.{length}
+use Rattle.refusals.specs.Outcome.{Outcome, accepts, accepts-both, absent, refuses}
 use Rattle.entries.specs.Limits.{bookLimit}
 use Rattle.entries.specs.Entries.{Entry, Entries, book, wrong, entries}
 use Rattle.entries.specs.Map.{lookup}
-use Rattle.lookup.specs.Outcome.{Outcome, counts, finds, places, refuses}
 use Rattle.lookup.specs.declared.look.Look.{Look}
 use Rattle.lookup.specs.declared.look.Look.the-variants.{Wrong, Live, Missing}
 
@@ -35,9 +35,9 @@ pub record LookRight (bytes word : List ℕ) (look : Look) : Type 0 where
 
 -- the seven bytes at the start of a record
 abbrev pub PlacedWithin : List ℕ → Outcome → Type 0
-PlacedWithin bytes (counts live) = Unit {0}
-PlacedWithin bytes (finds start stock) = Unit {0}
-PlacedWithin bytes (places start) = Within bytes start 7
+PlacedWithin bytes (accepts start) = Within bytes start 7
+PlacedWithin bytes (accepts-both stock start) = Unit {0}
+PlacedWithin bytes absent = Unit {0}
 PlacedWithin bytes (refuses number place) = Unit {0}
 
 pub record PlacedRight (bytes : List ℕ) (right outcome : Outcome) : Type 0 where

@@ -7,35 +7,23 @@ use lib.Dec.{leb}
 use lib.ListN.{length}
 use Rattle.letters.specs.Choice.{pick}
 use Rattle.refusals.specs.Refusal.{numberOf, placeOf}
+use Rattle.refusals.specs.Outcome.{Outcome, accepts, accepts-both, refuses}
 use Rattle.entries.specs.Entries.{Entry, Entries, book, wrong}
 use Rattle.entries.specs.Map.{liveCount, lookup}
 use Rattle.lookup.specs.declared.plan.Found.{Found}
 use Rattle.lookup.specs.declared.plan.Found.the-variants as found
-use Rattle.lookup.specs.declared.plan.Placed.{Placed}
-use Rattle.lookup.specs.declared.plan.Placed.the-variants as placed
 
--- an answer in document 01's terms
-pub data Outcome : Type 0 where
-  -- a book, and how many live records it has
-  counts : ℕ → Outcome
-  -- the start and the stock number of a record
-  finds : ℕ → ℕ → Outcome
-  -- the start of the record that is added or removed
-  places : ℕ → Outcome
-  -- the number and the place of a refusal
-  refuses : ℕ → ℕ → Outcome
+-- a record is told by its stock number and its start
+abbrev pub finds : ℕ → ℕ → Outcome
+finds start stock = accepts-both stock start
 
 abbrev pub foundOutcome : Found → Outcome
 foundOutcome (found.Entry start stock) = finds start stock
 foundOutcome (found.Refused refusal) = refuses (numberOf refusal) (placeOf refusal)
 
-abbrev pub placedOutcome : Placed → Outcome
-placedOutcome (placed.At start) = places start
-placedOutcome (placed.Refused refusal) = refuses (numberOf refusal) (placeOf refusal)
-
 -- check: "not a book", or the live count
 abbrev pub checkOf : Entries → Outcome
-checkOf (book list free) = counts (liveCount list)
+checkOf (book list free) = accepts (liveCount list)
 checkOf (wrong place) = refuses 11 place
 
 -- "Find gives start and stock number"; "find, remove: not live"
@@ -50,7 +38,7 @@ findOf (wrong place) word = refuses 11 place
 -- "Remove changes the record's 57 to 2D, no other byte, and gives its start"
 abbrev pub removeOfEntry : Option Entry → Outcome
 removeOfEntry none = refuses 13 0
-removeOfEntry (some entry) = places (entry .start)
+removeOfEntry (some entry) = accepts (entry .start)
 
 abbrev pub removeOf : Entries → List ℕ → Outcome
 removeOf (book list free) word = removeOfEntry (lookup list word)
@@ -59,7 +47,7 @@ removeOf (wrong place) word = refuses 11 place
 -- "add: word is live already"; "add: first free byte plus 7 plus n passes the buffer's end"
 abbrev pub addOfEntry : Option Entry → ℕ → ℕ → List ℕ → Outcome
 addOfEntry (some entry) free room word = refuses 12 (entry .start)
-addOfEntry none free room word = pick (leb (free + 7 + length word) room) (places free) (refuses 14 free)
+addOfEntry none free room word = pick (leb (free + 7 + length word) room) (accepts free) (refuses 14 free)
 
 -- `room` is how many bytes the buffer has
 abbrev pub addOf : Entries → ℕ → List ℕ → Outcome

@@ -1,23 +1,19 @@
 // The answers of find, add and remove, decided by reading alone.
 use crate::look::Look;
 use crate::look::look_up;
+use refusals::Counted;
 use refusals::Refusal;
 ghost use mathlib.Core.Path.{_≡_};
 ghost use lib.ListN.{length};
+ghost use Rattle.refusals.specs.Outcome.{outcomeOf};
 ghost use Rattle.entries.specs.Entries.{entries};
 ghost use Rattle.entries.specs.Change.{Storable};
-ghost use Rattle.lookup.specs.Outcome.{foundOutcome, placedOutcome, findOf, addOf, removeOf};
+ghost use Rattle.lookup.specs.Outcome.{foundOutcome, findOf, addOf, removeOf};
 ghost use Rattle.lookup.specs.Look.{PlacedRight};
 
 // The answer of find.
 pub enum Found {
     Entry { start: usize, stock: u32 },
-    Refused(Refusal),
-}
-
-// The answer of add and remove: where the record starts.
-pub enum Placed {
-    At(usize),
     Refused(Refusal),
 }
 
@@ -33,29 +29,29 @@ pub fn find(book: &[u8], word: &[u16]) -> Found
 }
 
 // Where a record with the word would be added.
-pub fn plan_add(book: &[u8], word: &[u16]) -> Placed
+pub fn plan_add(book: &[u8], word: &[u16]) -> Counted
     requires { ⌜ Storable (now word) ⌝ }
-    ensures { λ r. ⌜ PlacedRight (now (book .entry)) (addOf (entries (now (book .entry))) (length (now (book .entry))) (now (word .entry))) (placedOutcome r) ⌝ }
+    ensures { λ r. ⌜ PlacedRight (now (book .entry)) (addOf (entries (now (book .entry))) (length (now (book .entry))) (now (word .entry))) (outcomeOf r) ⌝ }
 {
     match look_up(book, word) {
-        Look::Wrong(place) => Placed::Refused(Refusal::NotABook(place)),
-        Look::Live { start, stock: _ } => Placed::Refused(Refusal::AlreadyLive(start)),
+        Look::Wrong(place) => Counted::Refused(Refusal::NotABook(place)),
+        Look::Live { start, stock: _ } => Counted::Refused(Refusal::AlreadyLive(start)),
         Look::Missing { free } => {
             if book.len() - free < 7 + word.len() {
-                return Placed::Refused(Refusal::BookFull(free));
+                return Counted::Refused(Refusal::BookFull(free));
             }
-            Placed::At(free)
+            Counted::Count(free)
         }
     }
 }
 
 // Where the live record with the word would be removed.
-pub fn plan_remove(book: &[u8], word: &[u16]) -> Placed
-    ensures { λ r. ⌜ PlacedRight (now (book .entry)) (removeOf (entries (now (book .entry))) (now (word .entry))) (placedOutcome r) ⌝ }
+pub fn plan_remove(book: &[u8], word: &[u16]) -> Counted
+    ensures { λ r. ⌜ PlacedRight (now (book .entry)) (removeOf (entries (now (book .entry))) (now (word .entry))) (outcomeOf r) ⌝ }
 {
     match look_up(book, word) {
-        Look::Wrong(place) => Placed::Refused(Refusal::NotABook(place)),
-        Look::Live { start, stock: _ } => Placed::At(start),
-        Look::Missing { free: _ } => Placed::Refused(Refusal::NotLive),
+        Look::Wrong(place) => Counted::Refused(Refusal::NotABook(place)),
+        Look::Live { start, stock: _ } => Counted::Count(start),
+        Look::Missing { free: _ } => Counted::Refused(Refusal::NotLive),
     }
 }

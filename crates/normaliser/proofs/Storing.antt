@@ -17,11 +17,12 @@ use Rattle.formula.specs.declared.Word.{Word}
 use Rattle.formula.proofs.Held.{held-front}
 use Rattle.formula.proofs.Lists.{both, both-left, both-right, every, every-at, at-every}
 use Rattle.refusals.specs.Refusal.{numberOf, placeOf}
+use Rattle.refusals.specs.Outcome.{Outcome, outcomeOf}
 use Rattle.refusals.specs.declared.Refusal.{Refusal}
-use Rattle.recogniser.specs.Answer.{Outcome, outcomeOf, Admissible, Reads, Readable, FirstForeign, RefusedWith, too-long, foreign, no-continuation, unfinished}
+use Rattle.refusals.specs.declared.Counted.{Counted}
+use Rattle.refusals.specs.declared.Counted.the-variants.{Count}
+use Rattle.recogniser.specs.Answer.{Admissible, Reads, Readable, FirstForeign, RefusedWith, too-long, foreign, no-continuation, unfinished}
 use Rattle.recogniser.specs.Concluded.{AdmittedTo}
-use Rattle.recogniser.specs.declared.answer.ReadAnswer.{ReadAnswer}
-use Rattle.recogniser.specs.declared.answer.ReadAnswer.the-variants.{Syllables}
 use Rattle.storage.specs.Stored.{isRunMark, goesBehind, insert, makesLongVowel, makesLetter, storedForm}
 use Rattle.storage.specs.Putting.{joinFront, putFront}
 use Rattle.storage.proofs.Composing.{stored-front}
@@ -117,12 +118,12 @@ module _ (word : List ℕ) (short : length word ≤ limit) where
           (store-refused (numberOf refusal) (placeOf refusal) r n)
 
 -- what is known of a word whose stored form is read
-module _ (word : List ℕ) (r : Normalised) (right : NormalRight word r) (n : ℕ) (e : r .answer ≡ Syllables n) where
+module _ (word : List ℕ) (r : Normalised) (right : NormalRight word r) (n : ℕ) (e : r .answer ≡ Count n) where
   pub stores : Stores word n
-  stores = subst (λ (a : ReadAnswer). StoreAnswers word (outcomeOf a)) e (right .answers)
+  stores = subst (λ (a : Counted). StoreAnswers word (outcomeOf a)) e (right .answers)
 
   pub held-form : r .word ≡ wordOf (storedForm word)
-  held-form = subst (λ (a : ReadAnswer). WordFor word (outcomeOf a) (r .word)) e (right .held)
+  held-form = subst (λ (a : Counted). WordFor word (outcomeOf a) (r .word)) e (right .held)
 
   held-count : r .word .count ≡ length (storedForm word)
   held-count = ap (λ (w : Word). w .count) held-form

@@ -8,14 +8,13 @@ use Rattle.formula.specs.Limits.{limit}
 use Rattle.formula.specs.Held.{wordOf}
 use Rattle.formula.specs.declared.Word.{Word}
 use Rattle.refusals.specs.Refusal.{numberOf, placeOf}
+use Rattle.refusals.specs.Outcome.{Outcome, accepts, accepts-both, absent, refuses, outcomeOf}
 use Rattle.refusals.specs.declared.Refusal.{Refusal}
-use Rattle.recogniser.specs.Answer.{Outcome, accepts, refuses, outcomeOf, Admissible, FirstForeign, RefusedWith, Reads}
+use Rattle.refusals.specs.declared.Counted.the-variants.{Refused}
+use Rattle.recogniser.specs.Answer.{Admissible, FirstForeign, RefusedWith, Reads}
 use Rattle.recogniser.specs.Concluded.{AdmittedTo}
-use Rattle.recogniser.specs.declared.answer.ReadAnswer.the-variants.{Refused}
 use Rattle.storage.specs.Stored.{storedForm}
 use Rattle.normaliser.specs.declared.Normalised.{Normalised}
-use Rattle.normaliser.specs.declared.NormaliseAnswer.{NormaliseAnswer}
-use Rattle.normaliser.specs.declared.NormaliseAnswer.the-variants.{Stored, Refused as Turned}
 
 -- the refusals of a word that is normalised first: 1 and 2 speak of the word as handed in, 3 and 4 of its stored form
 pub data StoreRefusedWith (word : List ℕ) : ℕ → ℕ → Type 0 where
@@ -30,22 +29,21 @@ pub record Stores (word : List ℕ) (n : ℕ) : Type 0 where
 
 abbrev pub StoreAnswers : List ℕ → Outcome → Type 0
 StoreAnswers word (accepts n) = Stores word n
+StoreAnswers word (accepts-both n m) = ⊥
+StoreAnswers word absent = ⊥
 StoreAnswers word (refuses number place) = StoreRefusedWith word number place
 
 -- the word that goes with an answer: the stored form, and none with a refusal
 abbrev pub WordFor : List ℕ → Outcome → Word → Type 0
 WordFor word (accepts n) held = held ≡ wordOf (storedForm word)
+WordFor word (accepts-both n m) held = ⊥
+WordFor word absent held = ⊥
 WordFor word (refuses number place) held = held ≡ wordOf []
 
 -- the promise of a stored word by value
 pub record NormalRight (word : List ℕ) (r : Normalised) : Type 0 where
   pub answers : StoreAnswers word (outcomeOf (r .answer))
   pub held : WordFor word (outcomeOf (r .answer)) (r .word)
-
--- the answer of the normaliser in document 01's terms: how many values it wrote, or a refusal
-abbrev pub normaliseOutcomeOf : NormaliseAnswer → Outcome
-normaliseOutcomeOf (Stored n) = accepts n
-normaliseOutcomeOf (Turned r) = refuses (numberOf r) (placeOf r)
 
 -- the promise of the normaliser, with the output as it was and as it is
 pub data NormaliseRight (word before after : List ℕ) : Outcome → Type 0 where

@@ -1,16 +1,17 @@
 // The normaliser: a word of any values to its stored form, which is then read.
 use formula::Word;
-use recogniser::answer::ReadAnswer;
+use refusals::Counted;
 use refusals::Refusal;
 ghost use mathlib.Core.Path.{_≡_};
 ghost use mathlib.Core.List.{_++_};
 ghost use Prim.Native.Nat.{_≤_};
 ghost use lib.ListN.{length, drop};
-ghost use Rattle.normaliser.specs.Normal.{refusedWord, HandedIn, NormalRight, PutRight, NormaliseRight, normaliseOutcomeOf};
+ghost use Rattle.refusals.specs.Outcome.{outcomeOf};
+ghost use Rattle.normaliser.specs.Normal.{refusedWord, HandedIn, NormalRight, PutRight, NormaliseRight};
 
 // A stored word by value, and how it reads. With a refusal the word is empty.
 pub struct Normalised {
-    pub answer: ReadAnswer,
+    pub answer: Counted,
     pub word: Word,
 }
 
@@ -18,7 +19,7 @@ fn refused(refusal: Refusal) -> Normalised
     ensures { λ r. ⌜ r ≡ refusedWord refusal ⌝ }
 {
     Normalised {
-        answer: ReadAnswer::Refused(refusal),
+        answer: Counted::Refused(refusal),
         word: Word::empty(),
     }
 }
@@ -44,15 +45,10 @@ pub fn normal_form(word: &[u16]) -> Normalised
     let count = form.count;
     let values = form.values;
     let answer = recogniser::walk::answer_of(&values[..count]);
-    if let ReadAnswer::Refused(refusal) = answer {
+    if let Counted::Refused(refusal) = answer {
         return refused(as_handed_in(word, refusal));
     }
     Normalised { answer, word: form }
-}
-
-pub enum NormaliseAnswer {
-    Stored(usize),
-    Refused(Refusal),
 }
 
 // Writes values to the front of a slice.
@@ -68,28 +64,28 @@ pub fn copy_out(values: &[u16], output: &mut [u16])
 }
 
 // Writes a stored form to the front of `output`, where there is room for it.
-fn put_out(values: &[u16], output: &mut [u16]) -> NormaliseAnswer
+fn put_out(values: &[u16], output: &mut [u16]) -> Counted
     requires { ⌜ length (now values) ≤ 64 ⌝ }
-    ensures { λ r. ⌜ PutRight (now (values .entry)) (now (output .entry)) (now (output .exit)) (normaliseOutcomeOf r) ⌝ }
+    ensures { λ r. ⌜ PutRight (now (values .entry)) (now (output .entry)) (now (output .exit)) (outcomeOf r) ⌝ }
 {
     if output.len() < values.len() {
-        return NormaliseAnswer::Refused(Refusal::OutputTooShort(values.len()));
+        return Counted::Refused(Refusal::OutputTooShort(values.len()));
     }
     copy_out(values, output);
-    NormaliseAnswer::Stored(values.len())
+    Counted::Count(values.len())
 }
 
 // Writes the stored form of a word to the front of `output`. A row of syllables is its own stored form.
-pub fn normalise(word: &[u16], output: &mut [u16]) -> NormaliseAnswer
-    ensures { λ r. ⌜ NormaliseRight (now (word .entry)) (now (output .entry)) (now (output .exit)) (normaliseOutcomeOf r) ⌝ }
+pub fn normalise(word: &[u16], output: &mut [u16]) -> Counted
+    ensures { λ r. ⌜ NormaliseRight (now (word .entry)) (now (output .entry)) (now (output .exit)) (outcomeOf r) ⌝ }
 {
     if recogniser::walk::is_row(word) {
         return put_out(word, output);
     }
     let normal = normal_form(word);
     let answer = normal.answer;
-    if let ReadAnswer::Refused(refusal) = answer {
-        return NormaliseAnswer::Refused(refusal);
+    if let Counted::Refused(refusal) = answer {
+        return Counted::Refused(refusal);
     }
     let form = normal.word;
     let count = form.count;

@@ -13,6 +13,7 @@ use lib.Dec.{T, eqb, leb}
 use lib.ListN.{length, getD, drop, length-append, length-drop}
 use Rattle.letters.specs.Choice.{pick}
 use Rattle.formula.proofs.Lists.{sameList, both-left}
+use Rattle.refusals.specs.Outcome.{Outcome, accepts, refuses}
 use Rattle.storage.specs.Stored.{storedForm}
 use Rattle.entries.specs.Limits.{bookLimit}
 use Rattle.entries.specs.Entries.{Entry, entryAt, isFramed, mayFollow, Entries, book, wrong, zeroTail, entriesFrom, entries}
@@ -21,13 +22,13 @@ use Rattle.entries.specs.Map.{lookup, counted, liveCount}
 use Rattle.entries.proofs.Tests.{is-true}
 use Rattle.entries.proofs.Records.{framed-true, length-record, end-length}
 use Rattle.entries.proofs.Agree.{Sound, sound}
-use Rattle.lookup.specs.Outcome.{Outcome, checkOf, findOfEntry, findOf, removeOfEntry, removeOf, addOfEntry, addOf, places, refuses}
+use Rattle.lookup.specs.Outcome.{checkOf, findOfEntry, findOf, removeOfEntry, removeOf, addOfEntry, addOf}
 use Rattle.keeping.proofs.Laws.{Bytes}
 use Rattle.ranking.specs.Rank.{rankOf, Among}
 use Rattle.ranking.proofs.Laws.{rank-below, rank-too-high, rank-of-no-book}
 use Rattle.wordbook.specs.Calls.{WordRefused, empty, refused, CallAnswers, word-refused, word-stored, AddPromise, RemovePromise}
 use Rattle.packing.specs.Packing.{answer, Fits}
-use Rattle.packing.specs.Answers.{bookNumbers, FindAnswers}
+use Rattle.packing.specs.Answers.{outcomeNumbers, FindAnswers}
 use Rattle.packing.proofs.WordFits.{small-fits, store-refused-small}
 
 -- the first wrong place is at most n
@@ -115,93 +116,93 @@ live-near (x ∷ es) =
     omega (arith, length-append (recordBytes x) (records es), length-record x)
 
 module _ (bytes word : List ℕ) where
-  check-by : (e : Entries) → Bounded bookLimit e → Sound bytes e → Fits (bookNumbers (checkOf e))
+  check-by : (e : Entries) → Bounded bookLimit e → Sound bytes e → Fits (outcomeNumbers (checkOf e))
   check-by (book es free) b s =
       record { tag = omega arith; second = omega arith; first = omega (arith, live-near es, book-end bytes es (s .0), end-length 0 es) }
   check-by (wrong place) b s = record { tag = omega arith; second = omega arith; first = omega arith }
 
-  wrong-fits : (place : ℕ) → place ≤ bookLimit → Fits (bookNumbers (refuses 11 place))
+  wrong-fits : (place : ℕ) → place ≤ bookLimit → Fits (outcomeNumbers (refuses 11 place))
   wrong-fits place h = record { tag = omega arith; second = omega arith; first = omega arith }
 
-  find-entry : (es : List Entry) → IsBook bytes es → (o : Option Entry) → lookup es word ≡ o → Fits (bookNumbers (findOfEntry o))
+  find-entry : (es : List Entry) → IsBook bytes es → (o : Option Entry) → lookup es word ≡ o → Fits (outcomeNumbers (findOfEntry o))
   find-entry es is none e = record { tag = omega arith; second = omega arith; first = omega arith }
   find-entry es is (some entry) e =
       let p = looked 0 [] es word entry (is .good) e in
       let h = p .before in
       record { tag = omega arith; second = omega (arith, book-end bytes es is); first = p .stock }
 
-  find-by : (e : Entries) → Bounded bookLimit e → Sound bytes e → Fits (bookNumbers (findOf e word))
+  find-by : (e : Entries) → Bounded bookLimit e → Sound bytes e → Fits (outcomeNumbers (findOf e word))
   find-by (book es free) b s = find-entry es (s .0) (lookup es word) refl
   find-by (wrong place) b s = wrong-fits place b
 
-  remove-entry : (es : List Entry) → IsBook bytes es → (o : Option Entry) → lookup es word ≡ o → Fits (bookNumbers (removeOfEntry o))
+  remove-entry : (es : List Entry) → IsBook bytes es → (o : Option Entry) → lookup es word ≡ o → Fits (outcomeNumbers (removeOfEntry o))
   remove-entry es is none e = record { tag = omega arith; second = omega arith; first = omega arith }
   remove-entry es is (some entry) e =
       let h = looked 0 [] es word entry (is .good) e .before in
       record { tag = omega arith; second = omega arith; first = omega (arith, book-end bytes es is) }
 
-  remove-by : (e : Entries) → Bounded bookLimit e → Sound bytes e → Fits (bookNumbers (removeOf e word))
+  remove-by : (e : Entries) → Bounded bookLimit e → Sound bytes e → Fits (outcomeNumbers (removeOf e word))
   remove-by (book es free) b s = remove-entry es (s .0) (lookup es word) refl
   remove-by (wrong place) b s = wrong-fits place b
 
-  pick-fits : (t : Bool) (x y : Outcome) → Fits (bookNumbers x) → Fits (bookNumbers y) → Fits (bookNumbers (pick t x y))
+  pick-fits : (t : Bool) (x y : Outcome) → Fits (outcomeNumbers x) → Fits (outcomeNumbers y) → Fits (outcomeNumbers (pick t x y))
   unfolding pick
   pick-fits true x y f g = f
   pick-fits false x y f g = g
 
   add-entry : (es : List Entry) (free room : ℕ) → IsBook bytes es → free ≡ endOf 0 es → (o : Option Entry) → lookup es word ≡ o
-      → Fits (bookNumbers (addOfEntry o free room word))
+      → Fits (outcomeNumbers (addOfEntry o free room word))
   add-entry es free room is end (some entry) e =
       let h = looked 0 [] es word entry (is .good) e .before in
       record { tag = omega arith; second = omega arith; first = omega (arith, book-end bytes es is) }
   add-entry es free room is end none e =
       let h = book-end bytes es is in
-      pick-fits _ (places free) (refuses 14 free)
+      pick-fits _ (accepts free) (refuses 14 free)
       (record { tag = omega arith; second = omega arith; first = omega arith })
       (record { tag = omega arith; second = omega arith; first = omega arith })
 
-  add-by : (room : ℕ) (e : Entries) → Bounded bookLimit e → Sound bytes e → Fits (bookNumbers (addOf e room word))
+  add-by : (room : ℕ) (e : Entries) → Bounded bookLimit e → Sound bytes e → Fits (outcomeNumbers (addOf e room word))
   add-by room (book es free) b s = add-entry es free room (s .0) (s .1) (lookup es word) refl
   add-by room (wrong place) b s = wrong-fits place b
 
-word-fits : (word : List ℕ) (number place : ℕ) → WordRefused word number place → Fits (bookNumbers (refuses number place))
+word-fits : (word : List ℕ) (number place : ℕ) → WordRefused word number place → Fits (outcomeNumbers (refuses number place))
 word-fits word number place (empty e) = record { tag = omega arith; second = omega arith; first = omega arith }
 word-fits word number place (refused h r) = small-fits number 0 place (omega arith) (store-refused-small word number place r)
 
-call-fits : (word : List ℕ) (right o : Outcome) → Fits (bookNumbers right) → CallAnswers word right o → Fits (bookNumbers o)
+call-fits : (word : List ℕ) (right o : Outcome) → Fits (outcomeNumbers right) → CallAnswers word right o → Fits (outcomeNumbers o)
 call-fits word right o f (word-refused r) = word-fits word _ _ r
 call-fits word right o f (word-stored s) = f
 
 module _ (bytes : List ℕ) (small : Bytes bytes) where
-  pub check-fits : Fits (bookNumbers (checkOf (entries bytes)))
+  pub check-fits : Fits (outcomeNumbers (checkOf (entries bytes)))
   check-fits = check-by bytes [] (entries bytes) (bounded bytes) (sound bytes small)
 
-  rank-by : (number : ℕ) (e : Entries) → entries bytes ≡ e → Bounded bookLimit e → Sound bytes e → Fits (bookNumbers (rankOf (entries bytes) number))
+  rank-by : (number : ℕ) (e : Entries) → entries bytes ≡ e → Bounded bookLimit e → Sound bytes e → Fits (outcomeNumbers (rankOf (entries bytes) number))
   rank-by number (book es free) e b s = go (decLt number (liveCount es))
     where
-      go : Dec (number < liveCount es) → Fits (bookNumbers (rankOf (entries bytes) number))
+      go : Dec (number < liveCount es) → Fits (outcomeNumbers (rankOf (entries bytes) number))
       go (yes h) =
           let r = rank-below bytes es (s .0) number h in
           let p = among-placed 0 [] es (r .entry) (s .0 .good) (r .among) in
           let q = p .before in
-          subst (λ (o : Outcome). Fits (bookNumbers o)) (sym (r .found))
+          subst (λ (o : Outcome). Fits (outcomeNumbers o)) (sym (r .found))
           (record { tag = omega arith; second = omega (arith, book-end bytes es (s .0)); first = p .stock })
       go (no h) =
-          subst (λ (o : Outcome). Fits (bookNumbers o)) (sym (rank-too-high bytes es (s .0) number (omega arith)))
+          subst (λ (o : Outcome). Fits (outcomeNumbers o)) (sym (rank-too-high bytes es (s .0) number (omega arith)))
           (record { tag = omega arith; second = omega arith; first = omega (arith, live-near es, book-end bytes es (s .0), end-length 0 es) })
   rank-by number (wrong place) e b s =
-      subst (λ (o : Outcome). Fits (bookNumbers o)) (sym (rank-of-no-book bytes place number e)) (wrong-fits bytes [] place b)
+      subst (λ (o : Outcome). Fits (outcomeNumbers o)) (sym (rank-of-no-book bytes place number e)) (wrong-fits bytes [] place b)
 
-  pub rank-fits : (number : ℕ) → Fits (bookNumbers (rankOf (entries bytes) number))
+  pub rank-fits : (number : ℕ) → Fits (outcomeNumbers (rankOf (entries bytes) number))
   rank-fits number = rank-by number (entries bytes) refl (bounded bytes) (sound bytes small)
 
-  pub find-fits : (word : List ℕ) (o : Outcome) → FindAnswers bytes word o → Fits (bookNumbers o)
+  pub find-fits : (word : List ℕ) (o : Outcome) → FindAnswers bytes word o → Fits (outcomeNumbers o)
   find-fits word o c = call-fits word _ o (find-by bytes (storedForm word) (entries bytes) (bounded bytes) (sound bytes small)) c
 
-  pub add-fits : (word : List ℕ) (stock : ℕ) (after : List ℕ) (o : Outcome) → AddPromise word stock bytes after o → Fits (bookNumbers o)
+  pub add-fits : (word : List ℕ) (stock : ℕ) (after : List ℕ) (o : Outcome) → AddPromise word stock bytes after o → Fits (outcomeNumbers o)
   add-fits word stock after o p =
       call-fits word _ o (add-by bytes (storedForm word) (length bytes) (entries bytes) (bounded bytes) (sound bytes small)) (p .answers)
 
-  pub remove-fits : (word after : List ℕ) (o : Outcome) → RemovePromise word bytes after o → Fits (bookNumbers o)
+  pub remove-fits : (word after : List ℕ) (o : Outcome) → RemovePromise word bytes after o → Fits (outcomeNumbers o)
   remove-fits word after o p =
       call-fits word _ o (remove-by bytes (storedForm word) (entries bytes) (bounded bytes) (sound bytes small)) (p .answers)

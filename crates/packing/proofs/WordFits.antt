@@ -20,12 +20,13 @@ use Rattle.formula.specs.Syllable.{Final, no-final, plain, stacked, kinzi, grea
 use Rattle.formula.specs.Row.{Row, isRowAfter}
 use Rattle.formula.specs.Record.{finalNumberOf, linkOf, recordOf}
 use Rattle.formula.specs.Spelled.{spelled}
+use Rattle.refusals.specs.Outcome.{Outcome, accepts, accepts-both, absent, refuses}
 use Rattle.rows.proofs.Sound.{apart}
 use Rattle.rows.proofs.Complete.{first}
 use Rattle.rows.proofs.Viable.{only-row}
 use Rattle.recogniser.specs.Answer as reading
-use Rattle.reading.specs.Records.{RecordOutcome, found, no-syllable, refuses, HasRecord, RecordAnswers}
-use Rattle.reading.specs.Parts as parts
+use Rattle.reading.specs.Records.{HasRecord, RecordAnswers}
+use Rattle.reading.specs.Parts.{PartAnswers}
 use Rattle.recogniser.proofs.Counted.{count-limit}
 use Rattle.storage.specs.Stored.{storedForm}
 use Rattle.normaliser.specs.Normal as normal
@@ -37,8 +38,7 @@ use Rattle.weighing.specs.declared.order.Order.the-variants.{Less, Equal, Great
 use Rattle.collation.specs.Comparison.{CompareOutcome, ordered, first-refuses, second-refuses, CompareAnswers}
 use Rattle.entries.proofs.Tests.{is-true}
 use Rattle.packing.specs.Packing.{answer, Fits}
-use Rattle.packing.specs.Answers.{readNumbers, bytesNumbers, RecordGiven, RecordGivenRight, outcomeNumbers, recordNumbers}
-use Rattle.packing.specs.Answers.{partNumbers, writeNumbers, spellNumbers, compareNumbers}
+use Rattle.packing.specs.Answers.{outcomeNumbers, bytesNumbers, RecordGiven, RecordGivenRight, givenNumbers, recordNumbers, compareNumbers}
 
 -- a refusal of a word: its number is one of document 01's, and its place at most the limit
 pub record Small (number place : ℕ) : Type 0 where
@@ -60,26 +60,29 @@ store-refused-small word number place (normal.outcome a r) = refused-small (stor
 pub small-fits : (number second place : ℕ) → second < 0x1000000 → Small number place → Fits (answer number second place)
 small-fits number second place h s = record { tag = omega arith; second = h; first = omega arith }
 
-pub read-fits : (word : List ℕ) (o : reading.Outcome) → reading.Answers word o → Fits (readNumbers o)
-read-fits word (reading.accepts n) r = record { tag = omega arith; second = omega arith; first = omega (arith, count-limit word n r) }
-read-fits word (reading.refuses number place) r = small-fits number 0 place (omega arith) (refused-small word number place r)
+pub read-fits : (word : List ℕ) (o : Outcome) → reading.Answers word o → Fits (outcomeNumbers o)
+read-fits word (accepts n) r = record { tag = omega arith; second = omega arith; first = omega (arith, count-limit word n r) }
+read-fits word (accepts-both n m) r = absurd r
+read-fits word absent r = absurd r
+read-fits word (refuses number place) r = small-fits number 0 place (omega arith) (refused-small word number place r)
 
-pub normalise-fits : (word before after : List ℕ) (o : reading.Outcome) → normal.NormaliseRight word before after o → Fits (readNumbers o)
+pub normalise-fits : (word before after : List ℕ) (o : Outcome) → normal.NormaliseRight word before after o → Fits (outcomeNumbers o)
 normalise-fits word before after o (normal.writes s h e) =
     record { tag = omega arith; second = omega arith; first = omega (arith, s .reads .admissible .short) }
 normalise-fits word before after o (normal.word-refused r e) = small-fits _ 0 _ (omega arith) (store-refused-small word _ _ r)
 normalise-fits word before after o (normal.too-short s h e) =
     record { tag = omega arith; second = omega arith; first = omega (arith, s .reads .admissible .short) }
 
-pub part-fits : (word : List ℕ) (number : ℕ) (o : parts.PartOutcome) → parts.PartAnswers word number o → Fits (partNumbers o)
-part-fits word number (parts.stands place size) p =
+pub part-fits : (word : List ℕ) (number : ℕ) (o : Outcome) → PartAnswers word number o → Fits (outcomeNumbers o)
+part-fits word number (accepts size) p = absurd p
+part-fits word number (accepts-both place size) p =
     let w = p .within in
     let s = p .admissible .short in
     record { tag = omega arith; second = omega arith; first = omega arith }
-part-fits word number parts.no-syllable p = record { tag = omega arith; second = omega arith; first = omega arith }
-part-fits word number (parts.refuses refusal place) p = small-fits refusal 0 place (omega arith) (refused-small word refusal place p)
+part-fits word number absent p = record { tag = omega arith; second = omega arith; first = omega arith }
+part-fits word number (refuses refusal place) p = small-fits refusal 0 place (omega arith) (refused-small word refusal place p)
 
-pub write-fits : (bytes before after : List ℕ) (o : writing.Outcome) → writing.WriteRight bytes before after o → Fits (writeNumbers o)
+pub write-fits : (bytes before after : List ℕ) (o : Outcome) → writing.WriteRight bytes before after o → Fits (outcomeNumbers o)
 write-fits bytes before after o (writing.writes r h e) = record { tag = omega arith; second = omega arith; first = omega (arith, r .short) }
 write-fits bytes before after o (writing.no-such-row n e) = record { tag = omega arith; second = omega arith; first = omega arith }
 write-fits bytes before after o (writing.too-short r h e) = record { tag = omega arith; second = omega arith; first = omega (arith, r .short) }
@@ -98,8 +101,8 @@ spelled-count word row r =
 spelled-size : (word : List ℕ) (row : Row) → spelling.ReadAs word row → length (spelling.joined (spelled row)) ≤ 190
 spelled-size word row r = spelled-within row (r .gives .is-row) (let s = r .admissible .short in omega (arith, ap length (r .gives .joined)))
 
-pub spell-fits : (word : List ℕ) (before after : spelling.Lists) (o : spelling.Outcome) → spelling.SpellRight word before after o
-    → Fits (spellNumbers o)
+pub spell-fits : (word : List ℕ) (before after : spelling.Lists) (o : Outcome) → spelling.SpellRight word before after o
+    → Fits (outcomeNumbers o)
 spell-fits word before after o (spelling.spelled-out r h i w) =
     record { tag = omega arith; second = omega (arith, spelled-count word _ r); first = omega (arith, spelled-size word _ r) }
 spell-fits word before after o (spelling.word-refused r e) = small-fits _ 0 _ (omega arith) (refused-small word _ _ r)
@@ -208,11 +211,13 @@ row-at f (s ∷ row) (suc k) d t h = row-at (finalOf s) row k d (first f s row t
 pub record-fits : (word : List ℕ) (number : ℕ) (given : RecordGiven) → RecordGivenRight word number given → Fits (recordNumbers given)
 record-fits word number given r = go (given .outcome) r
   where
-    go : (o : RecordOutcome) → RecordAnswers word number o (given .bytes) → Fits (outcomeNumbers o (given .bytes))
-    go found r =
-        subst (λ (l : List ℕ). Fits (bytesNumbers l)) (sym (r .is))
-        (bytes-fit (getD (r .row) number (bare 0x1000)) (row-at no-final (r .row) number (bare 0x1000) (r .gives .is-row) (r .below)))
-    go no-syllable r = record { tag = omega arith; second = omega arith; first = omega arith }
+    go : (o : Outcome) → RecordAnswers word number o (given .bytes) → Fits (givenNumbers o (given .bytes))
+    go (accepts size) r =
+        let h = r .1 in
+        subst (λ (l : List ℕ). Fits (bytesNumbers l)) (sym (h .is))
+        (bytes-fit (getD (h .row) number (bare 0x1000)) (row-at no-final (h .row) number (bare 0x1000) (h .gives .is-row) (h .below)))
+    go (accepts-both first second) r = absurd r
+    go absent r = record { tag = omega arith; second = omega arith; first = omega arith }
     go (refuses refusal place) r = small-fits refusal 0 place (omega arith) (refused-small word refusal place (r .refused))
 
 -- each of a record's seven bytes is one

@@ -1,32 +1,24 @@
 // Answers as one number of 64 bits each, for callers in other languages.
 use collation::compare::Compared;
 use lookup::plan::Found;
-use lookup::plan::Placed;
-use normaliser::NormaliseAnswer;
 use reading::parts::PartAnswer;
 use reading::records::RecordAnswer;
 use reading::records::SyllableRecord;
-use recogniser::answer::ReadAnswer;
+use refusals::Counted;
 use refusals::Refusal;
 use spelling::SpellAnswer;
-use wordbook::Checked;
-use writing::WriteAnswer;
 ghost use mathlib.Core.Path.{_≡_};
 ghost use Prim.Native.Nat.{_<_};
 ghost use Rattle.refusals.specs.Refusal.{numberOf, placeOf};
-ghost use Rattle.recogniser.specs.Answer.{outcomeOf};
+ghost use Rattle.refusals.specs.Outcome.{outcomeOf};
 ghost use Rattle.reading.specs.Records.{recordOutcomeOf};
 ghost use Rattle.reading.specs.Parts.{partOutcomeOf};
-ghost use Rattle.normaliser.specs.Normal.{normaliseOutcomeOf};
-ghost use Rattle.writing.specs.Write.{outcomeOf as writeOutcomeOf};
-ghost use Rattle.spelling.specs.Spell.{outcomeOf as spellOutcomeOf};
+ghost use Rattle.spelling.specs.Spell.{spellOutcomeOf};
 ghost use Rattle.collation.specs.Comparison.{compareOutcomeOf};
 ghost use Rattle.entries.specs.Entries.{number};
-ghost use Rattle.lookup.specs.Outcome.{foundOutcome, placedOutcome};
-ghost use Rattle.wordbook.specs.Calls.{checkedOutcome};
+ghost use Rattle.lookup.specs.Outcome.{foundOutcome};
 ghost use Rattle.packing.specs.Packing.{answer, pack};
-ghost use Rattle.packing.specs.Answers.{readNumbers, bytesNumbers, outcomeNumbers, partNumbers, writeNumbers};
-ghost use Rattle.packing.specs.Answers.{spellNumbers, compareNumbers, bookNumbers};
+ghost use Rattle.packing.specs.Answers.{outcomeNumbers, bytesNumbers, givenNumbers, compareNumbers};
 
 // The number of a tag, a second number and a first; each is cut to its 8, 24 or 32 bits.
 fn packed(tag: u64, second: u64, first: u64) -> u64
@@ -65,19 +57,19 @@ fn of_bytes(bytes: [u8; 7]) -> u64
     packed(0, second, first)
 }
 
-// The number of syllables.
-pub fn of_reading(answer: ReadAnswer) -> u64
-    ensures { λ r. ⌜ r ≡ pack (readNumbers (outcomeOf answer)) ⌝ }
+// A number that a call tells: of syllables, of values, of live records, or where a record starts.
+pub fn of_counted(answer: Counted) -> u64
+    ensures { λ r. ⌜ r ≡ pack (outcomeNumbers (outcomeOf answer)) ⌝ }
 {
     match answer {
-        ReadAnswer::Syllables(count) => packed(0, 0, count as u64),
-        ReadAnswer::Refused(refusal) => refused(refusal, 0),
+        Counted::Count(count) => packed(0, 0, count as u64),
+        Counted::Refused(refusal) => refused(refusal, 0),
     }
 }
 
 // A record, or that there is no such syllable.
 pub fn of_record(given: SyllableRecord) -> u64
-    ensures { λ r. ⌜ r ≡ pack (outcomeNumbers (recordOutcomeOf (given .answer)) (given .bytes)) ⌝ }
+    ensures { λ r. ⌜ r ≡ pack (givenNumbers (recordOutcomeOf (given .answer)) (given .bytes)) ⌝ }
 {
     let answer = given.answer;
     match answer {
@@ -92,7 +84,7 @@ pub fn of_record(given: SyllableRecord) -> u64
 
 // Place and length of a part, or that there is no such syllable.
 pub fn of_part(answer: PartAnswer) -> u64
-    ensures { λ r. ⌜ r ≡ pack (partNumbers (partOutcomeOf answer)) ⌝ }
+    ensures { λ r. ⌜ r ≡ pack (outcomeNumbers (partOutcomeOf answer)) ⌝ }
 {
     match answer {
         PartAnswer::At { place, size } => packed(0, size as u64, place as u64),
@@ -101,29 +93,9 @@ pub fn of_part(answer: PartAnswer) -> u64
     }
 }
 
-// The number of values that are stored.
-pub fn of_normalising(answer: NormaliseAnswer) -> u64
-    ensures { λ r. ⌜ r ≡ pack (readNumbers (normaliseOutcomeOf answer)) ⌝ }
-{
-    match answer {
-        NormaliseAnswer::Stored(count) => packed(0, 0, count as u64),
-        NormaliseAnswer::Refused(refusal) => refused(refusal, 0),
-    }
-}
-
-// The number of values that are written.
-pub fn of_writing(answer: WriteAnswer) -> u64
-    ensures { λ r. ⌜ r ≡ pack (writeNumbers (writeOutcomeOf answer)) ⌝ }
-{
-    match answer {
-        WriteAnswer::Written(count) => packed(0, 0, count as u64),
-        WriteAnswer::Refused(refusal) => refused(refusal, 0),
-    }
-}
-
 // The numbers of values and of syllables.
 pub fn of_spelling(answer: SpellAnswer) -> u64
-    ensures { λ r. ⌜ r ≡ pack (spellNumbers (spellOutcomeOf answer)) ⌝ }
+    ensures { λ r. ⌜ r ≡ pack (outcomeNumbers (spellOutcomeOf answer)) ⌝ }
 {
     match answer {
         SpellAnswer::Spelled { values, starts } => packed(0, starts as u64, values as u64),
@@ -144,32 +116,12 @@ pub fn of_comparison(answer: Compared) -> u64
     }
 }
 
-// The number of live records.
-pub fn of_check(answer: Checked) -> u64
-    ensures { λ r. ⌜ r ≡ pack (bookNumbers (checkedOutcome answer)) ⌝ }
-{
-    match answer {
-        Checked::Live(count) => packed(0, 0, count as u64),
-        Checked::Refused(refusal) => refused(refusal, 0),
-    }
-}
-
 // The stock number and the start of a record.
 pub fn of_found(answer: Found) -> u64
-    ensures { λ r. ⌜ r ≡ pack (bookNumbers (foundOutcome answer)) ⌝ }
+    ensures { λ r. ⌜ r ≡ pack (outcomeNumbers (foundOutcome answer)) ⌝ }
 {
     match answer {
         Found::Entry { start, stock } => packed(0, start as u64, stock as u64),
         Found::Refused(refusal) => refused(refusal, 0),
-    }
-}
-
-// The start of a record.
-pub fn of_placed(answer: Placed) -> u64
-    ensures { λ r. ⌜ r ≡ pack (bookNumbers (placedOutcome answer)) ⌝ }
-{
-    match answer {
-        Placed::At(start) => packed(0, 0, start as u64),
-        Placed::Refused(refusal) => refused(refusal, 0),
     }
 }

@@ -13,11 +13,11 @@ use borrow.Author.Tests.{lt-leb}
 use Rattle.letters.specs.Choice.{pick}
 use Rattle.formula.specs.Limits.{lineLimit}
 use Rattle.weighing.specs.Keys.{keyLimit, zeros}
+use Rattle.refusals.specs.Outcome.{outcomeOf}
 use Rattle.refusals.specs.declared.Refusal.{Refusal}
 use Rattle.refusals.specs.declared.Refusal.the-variants.{TooLong}
-use Rattle.recogniser.specs.declared.answer.ReadAnswer.{ReadAnswer}
-use Rattle.recogniser.specs.declared.answer.ReadAnswer.the-variants.{Syllables, Refused}
-use Rattle.recogniser.specs.Answer.{outcomeOf}
+use Rattle.refusals.specs.declared.Counted.{Counted}
+use Rattle.refusals.specs.declared.Counted.the-variants.{Count, Refused}
 use Rattle.recogniser.proofs.Counted.{count-limit}
 use Rattle.storage.specs.Stored.{storedForm}
 use Rattle.normaliser.specs.Normal.{StoreAnswers}
@@ -37,7 +37,7 @@ pub refused-short : (number place : ℕ) → number < 2 ^ 64 → place < 2 ^ 64
     → length ((0x4E ∷ 0x4F ∷ 0x20 ∷ decimalOf number) ++ (0x20 ∷ decimalOf place)) ≤ 800
 refused-short number place h k = simp length-append (omega (arith, decimal-short number h, decimal-short place k))
 
-pub answer-written : {a b c d e text : List ℕ} {i j k l : ℕ} (number : ℕ) (answer : ReadAnswer) (key : List ℕ) → text ≡ answerText answer key → number < 2 ^ 64
+pub answer-written : {a b c d e text : List ℕ} {i j k l : ℕ} (number : ℕ) (answer : Counted) (key : List ℕ) → text ≡ answerText answer key → number < 2 ^ 64
     → 1024 ≤ length a → Put a 0 (decimalOf number) b i → Put b i (0x20 ∷ []) c j → PutWithin 800 c j text d k → Put d k (0x0A ∷ []) e l
     → Written a (printed number answer key) e l
 unfolding printed
@@ -68,8 +68,8 @@ line-refused line decoded refusal e told = record { right = rw (← e, told) (re
 pub key-printable : (word : List ℕ) (key : Key) → KeyRight word key → Printable (key .answer)
 key-printable word key right = go (key .answer) (right .answers)
   where
-    go : (answer : ReadAnswer) → StoreAnswers word (outcomeOf answer) → Printable answer
-    go (Syllables count) stores = count-limit (storedForm word) count (stores .reads)
+    go : (answer : Counted) → StoreAnswers word (outcomeOf answer) → Printable answer
+    go (Count count) stores = count-limit (storedForm word) count (stores .reads)
     go (Refused refusal) stores = tt
 
 pub line-read : (line : List ℕ) (decoded : Decoded) (key : Key) → decoded ≡ decodedOf line → decoded .answer ≡ Values

@@ -13,17 +13,17 @@ use Rattle.lines.specs.declared.Decoded.{Decoded}
 use Rattle.refusals.specs.Refusal.{numberOf, placeOf}
 use Rattle.refusals.specs.declared.Refusal.{Refusal}
 use Rattle.refusals.specs.declared.Refusal.the-variants.{NoSuchRow}
-use Rattle.recogniser.specs.declared.answer.ReadAnswer.{ReadAnswer}
-use Rattle.recogniser.specs.declared.answer.ReadAnswer.the-variants.{Syllables, Refused}
+use Rattle.refusals.specs.declared.Counted.{Counted}
+use Rattle.refusals.specs.declared.Counted.the-variants.{Count, Refused}
 use Rattle.collation.specs.Keyed.{KeyRight}
 use Rattle.collation.specs.declared.key.Key.{Key}
 use Rattle.key_text.specs.Text.{decimalOf, keyText}
 use Rattle.key_text.specs.Put.{Written}
 
 -- the refusal of an answer; one that is none is never asked for it
-abbrev pub refusalIn : ReadAnswer → Refusal
+abbrev pub refusalIn : Counted → Refusal
 refusalIn (Refused refusal) = refusal
-refusalIn (Syllables count) = NoSuchRow
+refusalIn (Count count) = NoSuchRow
 
 -- "OK, syllable count, key"
 unfoldable pub acceptedText : ℕ → List ℕ → List ℕ
@@ -33,17 +33,17 @@ acceptedText count key = (0x4F ∷ 0x4B ∷ 0x20 ∷ decimalOf count) ++ (0x20 �
 unfoldable pub refusedText : Refusal → List ℕ
 refusedText refusal = (0x4E ∷ 0x4F ∷ 0x20 ∷ decimalOf (numberOf refusal)) ++ (0x20 ∷ decimalOf (placeOf refusal))
 
-abbrev pub answerText : ReadAnswer → List ℕ → List ℕ
-answerText (Syllables count) key = acceptedText count key
+abbrev pub answerText : Counted → List ℕ → List ℕ
+answerText (Count count) key = acceptedText count key
 answerText (Refused refusal) key = refusedText refusal
 
 -- "with one space between fields and 0A at the end: line number from 1", and then the answer
-unfoldable pub printed : ℕ → ReadAnswer → List ℕ → List ℕ
+unfoldable pub printed : ℕ → Counted → List ℕ → List ℕ
 printed number answer key = decimalOf number ++ (0x20 ∷ answerText answer key) ++ (0x0A ∷ [])
 
 -- the answers that a line has: no word has more syllables than values
-abbrev pub Printable : ReadAnswer → Type 0
-Printable (Syllables count) = count ≤ limit
+abbrev pub Printable : Counted → Type 0
+Printable (Count count) = count ≤ limit
 Printable (Refused refusal) = Unit {0}
 
 -- the key of a line as decoded: that of its values, or all zeros with the refusal of the line

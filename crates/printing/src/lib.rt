@@ -6,7 +6,7 @@ use key_text::put_decimal;
 use key_text::put_key;
 use lines::LineAnswer;
 use lines::decode;
-use recogniser::answer::ReadAnswer;
+use refusals::Counted;
 use refusals::Refusal;
 ghost use Prim.Native.Nat.{_+_, _≤_};
 ghost use mathlib.Core.Path.{_≡_};
@@ -27,7 +27,7 @@ pub fn answer_line(line: &[u8]) -> Key
     let answer = decoded.answer;
     if let LineAnswer::Refused(refusal) = answer {
         return Key {
-            answer: ReadAnswer::Refused(refusal),
+            answer: Counted::Refused(refusal),
             bytes: [0; 320],
         };
     }
@@ -38,12 +38,12 @@ pub fn answer_line(line: &[u8]) -> Key
 }
 
 // The refusal of an answer that is one.
-fn refusal_in(answer: ReadAnswer) -> Refusal
+fn refusal_in(answer: Counted) -> Refusal
     ensures { λ r. ⌜ r ≡ refusalIn answer ⌝ }
 {
     match answer {
-        ReadAnswer::Refused(refusal) => refusal,
-        ReadAnswer::Syllables(_) => Refusal::NoSuchRow,
+        Counted::Refused(refusal) => refusal,
+        Counted::Count(_) => Refusal::NoSuchRow,
     }
 }
 
@@ -76,13 +76,13 @@ fn put_refused(out: &mut [u8], at: usize, refusal: Refusal) -> usize
 }
 
 // Writes what is printed for a line of this number and this answer to the front of the output, and answers how many bytes that is.
-fn put_answer(out: &mut [u8], number: u64, answer: ReadAnswer, key: &[u8; 320]) -> usize
+fn put_answer(out: &mut [u8], number: u64, answer: Counted, key: &[u8; 320]) -> usize
     requires { ⌜ (1024 ≤ length (now out)) × Printable answer ⌝ }
     ensures { λ r. ⌜ Written (now (out .entry)) (printed number answer (now (key .entry))) (now (out .exit)) r ⌝ }
 {
     let numbered = put_decimal(out, 0, number);
     let spaced = put(out, numbered, b' ');
-    let ReadAnswer::Syllables(count) = answer else {
+    let Counted::Count(count) = answer else {
         let refused = put_refused(out, spaced, refusal_in(answer));
         return put(out, refused, b'\n');
     };

@@ -8,6 +8,7 @@ use native.Mathlib.Omega.{arith}
 use lib.Dec.{T}
 use lib.ListN.{length, getD, take, drop, length-append, length-drop, List·getD-append}
 use lib.Seq.{length-take-le, take-at, drop-at}
+use Rattle.refusals.specs.Outcome.{refuses}
 use Rattle.entries.specs.Entries.{Entry, entryAt, isFramed, Entries, entries}
 use Rattle.entries.specs.Book.{Opened}
 use Rattle.entries.specs.Map.{liveCount}
@@ -15,7 +16,7 @@ use Rattle.entries.proofs.Records.{framed-true}
 use Rattle.entries.proofs.Agree.{opened-is}
 use Rattle.opening.specs.Opening.{openingOf}
 use Rattle.opening.specs.declared.open.Opening.the-variants.{Book}
-use Rattle.lookup.specs.Outcome.{finds, refuses}
+use Rattle.lookup.specs.Outcome.{finds}
 use Rattle.filing.specs.Filing.{AllKeyed, mostLive, FiledRight}
 use Rattle.filing.proofs.Live.{keyed-at}
 use Rattle.ranking.specs.Sorting.{inOrder, goesBefore, frontInOrder}

@@ -12,6 +12,7 @@ use native.Mathlib.Omega.{arith}
 use lib.Dec.{T}
 use lib.ListN.{length, getD, getElem?}
 use Rattle.letters.specs.Choice.{pick}
+use Rattle.refusals.specs.Outcome.{refuses}
 use Rattle.entries.specs.Entries.{Entry, entryAt, Entries, wrong, entries}
 use Rattle.entries.specs.Book.{IsBook}
 use Rattle.entries.specs.Map.{liveCount}
@@ -19,7 +20,7 @@ use Rattle.entries.specs.Rank.{insert, sortedOnto, sorted, liveBefore, AllBehin
 use Rattle.entries.proofs.Tests.{of-true}
 use Rattle.entries.proofs.Agree.{complete}
 use Rattle.entries.proofs.Ranked.{rank-of-book, rising-of-book}
-use Rattle.lookup.specs.Outcome.{finds, refuses}
+use Rattle.lookup.specs.Outcome.{finds}
 use Rattle.filing.specs.Filing.{before}
 use Rattle.filing.proofs.Laws.{before-irreflexive, before-transitive, before-total}
 use Rattle.ranking.specs.Rank.{rankOfEntry, rankOf, Among, HasRank}

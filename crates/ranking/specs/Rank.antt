@@ -7,11 +7,12 @@ use mathlib.Core.Option.{Option, none, some}
 use Prim.Native.Nat.{ℕ, _≤_, _<_}
 use lib.Dec.{T}
 use lib.ListN.{length, getD, take, drop, getElem?}
+use Rattle.refusals.specs.Outcome.{Outcome, refuses}
 use Rattle.entries.specs.Entries.{Entry, isFramed, Entries, book, wrong, entries}
 use Rattle.entries.specs.Book.{IsBook}
 use Rattle.entries.specs.Map.{liveCount}
 use Rattle.entries.specs.Rank.{sorted, liveBefore}
-use Rattle.lookup.specs.Outcome.{Outcome, finds, refuses}
+use Rattle.lookup.specs.Outcome.{finds}
 use Rattle.filing.specs.Filing.{before, startOf, mostLive}
 
 -- the entry's "start and stock number"; 15 where there is none: "rank not below the live count", with the live count

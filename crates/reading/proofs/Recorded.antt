@@ -14,9 +14,10 @@ use Rattle.formula.specs.Row.{Row, Gives}
 use Rattle.formula.specs.Record.{recordOf}
 use Rattle.formula.specs.Numbers.{numbersOf, nothing}
 use Rattle.formula.specs.declared.Syllable.{Syllable as Numbers}
-use Rattle.recogniser.specs.Answer.{Reads, accepts, outcomeOf, Answers}
-use Rattle.recogniser.specs.declared.answer.ReadAnswer.{ReadAnswer}
-use Rattle.recogniser.specs.declared.answer.ReadAnswer.the-variants.{Syllables}
+use Rattle.refusals.specs.Outcome.{accepts, outcomeOf}
+use Rattle.refusals.specs.declared.Counted.{Counted}
+use Rattle.refusals.specs.declared.Counted.the-variants.{Count}
+use Rattle.recogniser.specs.Answer.{Reads, Answers}
 use Rattle.recogniser.proofs.Counted.{count-limit}
 use Rattle.reading.specs.Reading.{nothings, SyllablesFor, ReadRight}
 use Rattle.reading.specs.Records.{medialWeightBy, bytesBy, HasRecord}
@@ -46,12 +47,12 @@ numbers-at (s ∷ row) rest zero d h = refl
 numbers-at (s ∷ row) rest (suc k) d h = numbers-at row rest k d (le-of-suc-le-suc h)
 
 -- what is known of a reading that has n syllables
-module _ (word : List ℕ) (reading : Reading) (right : ReadRight word reading) (n : ℕ) (e : reading .answer ≡ Syllables n) where
+module _ (word : List ℕ) (reading : Reading) (right : ReadRight word reading) (n : ℕ) (e : reading .answer ≡ Count n) where
   pub reads : Reads word n
-  reads = subst (λ (a : ReadAnswer). Answers word (outcomeOf a)) e (right .answers)
+  reads = subst (λ (a : Counted). Answers word (outcomeOf a)) e (right .answers)
 
   pub syllables : (row : Row) → Gives row word → reading .syllables ≡ map numbersOf row ++ nothings (limit - n)
-  syllables = subst (λ (a : ReadAnswer). SyllablesFor word (outcomeOf a) (reading .syllables)) e (right .syllables)
+  syllables = subst (λ (a : Counted). SyllablesFor word (outcomeOf a) (reading .syllables)) e (right .syllables)
 
   pub has-record : (k : ℕ) → k < n → (d : Numbers) (bytes : List ℕ) → bytes ≡ bytesBy (getD (reading .syllables) k d) → HasRecord word k bytes
   has-record k h d bytes b =

@@ -8,6 +8,7 @@ use lib.ListN.{length, getD, take, drop}
 use Rattle.letters.specs.Choice.{pick}
 use Rattle.formula.specs.Row.{Row, parts, join, Gives}
 use Rattle.refusals.specs.Refusal.{numberOf, placeOf}
+use Rattle.refusals.specs.Outcome.{Outcome, accepts, accepts-both, absent, refuses}
 use Rattle.recogniser.specs.Answer.{Admissible, RefusedWith}
 use Rattle.reading.specs.declared.parts.PartAnswer.{PartAnswer}
 use Rattle.reading.specs.declared.parts.PartAnswer.the-variants.{At, NoSyllable, Refused}
@@ -18,15 +19,10 @@ pub record PartRight (word : List ℕ) (number : ℕ) (part : List ℕ) : Type 0
   pub has : Admissible word → (row : Row) → Gives row word → part ≡ getD (parts row) number []
   pub refused : (Admissible word → (row : Row) → Gives row word → ⊥) → part ≡ []
 
--- where a part stands, in document 01's terms: its place and its length, or that there is none
-pub data PartOutcome : Type 0 where
-  stands : ℕ → ℕ → PartOutcome
-  no-syllable : PartOutcome
-  refuses : ℕ → ℕ → PartOutcome
-
-abbrev pub partOutcomeOf : PartAnswer → PartOutcome
-partOutcomeOf (At place size) = stands place size
-partOutcomeOf NoSyllable = no-syllable
+-- a part tells its place and its length
+abbrev pub partOutcomeOf : PartAnswer → Outcome
+partOutcomeOf (At place size) = accepts-both place size
+partOutcomeOf NoSyllable = absent
 partOutcomeOf (Refused r) = refuses (numberOf r) (placeOf r)
 
 -- "Parts joined give the word": the part begins where those before it, joined, end
@@ -47,9 +43,10 @@ pub record NoPart (word : List ℕ) (number : ℕ) : Type 0 where
   pub gives : Gives row word
   pub beyond : length row ≤ number
 
-abbrev pub PartAnswers : List ℕ → ℕ → PartOutcome → Type 0
-PartAnswers word number (stands place size) = HasPart word number place size
-PartAnswers word number no-syllable = NoPart word number
+abbrev pub PartAnswers : List ℕ → ℕ → Outcome → Type 0
+PartAnswers word number (accepts size) = ⊥
+PartAnswers word number (accepts-both place size) = HasPart word number place size
+PartAnswers word number absent = NoPart word number
 PartAnswers word number (refuses refusal place) = RefusedWith word refusal place
 
 -- where the syllable ends, by the places where syllables begin; an inner contract cites it

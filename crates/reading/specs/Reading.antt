@@ -8,9 +8,10 @@ use Rattle.formula.specs.Limits.{limit}
 use Rattle.formula.specs.Row.{Row, Gives}
 use Rattle.formula.specs.Numbers.{numbersOf, nothing}
 use Rattle.formula.specs.declared.Syllable.{Syllable as Numbers}
+use Rattle.refusals.specs.Outcome.{Outcome, accepts, accepts-both, absent, refuses, outcomeOf}
 use Rattle.refusals.specs.declared.Refusal.{Refusal}
-use Rattle.recogniser.specs.Answer.{Outcome, accepts, refuses, outcomeOf, Answers}
-use Rattle.recogniser.specs.declared.answer.ReadAnswer.the-variants.{Refused}
+use Rattle.refusals.specs.declared.Counted.the-variants.{Refused}
+use Rattle.recogniser.specs.Answer.{Answers}
 use Rattle.reading.specs.declared.read.Reading.{Reading}
 
 -- the syllables of a reading: those of the row by numbers, and nothing behind them; nothing with a refusal
@@ -19,6 +20,8 @@ nothings n = replicate n nothing
 
 abbrev pub SyllablesFor : List ℕ → Outcome → List Numbers → Type 0
 SyllablesFor word (accepts n) syllables = (row : Row) → Gives row word → syllables ≡ map numbersOf row ++ nothings (limit - n)
+SyllablesFor word (accepts-both n m) syllables = ⊥
+SyllablesFor word absent syllables = ⊥
 SyllablesFor word (refuses number place) syllables = syllables ≡ nothings limit
 
 -- the promise of a reading

@@ -12,20 +12,16 @@ use Rattle.formula.specs.Row.{Row, Gives}
 use Rattle.formula.specs.Record.{recordOf}
 use Rattle.formula.specs.declared.Syllable.{Syllable as Numbers}
 use Rattle.refusals.specs.Refusal.{numberOf, placeOf}
+use Rattle.refusals.specs.Outcome.{Outcome, accepts, accepts-both, absent, refuses}
 use Rattle.recogniser.specs.Answer.{Admissible, RefusedWith}
 use Rattle.reading.specs.declared.records.RecordAnswer.{RecordAnswer}
 use Rattle.reading.specs.declared.records.RecordAnswer.the-variants.{Found, NoSyllable, Refused}
 use Rattle.reading.specs.declared.records.SyllableRecord.{SyllableRecord}
 
--- an answer in document 01's terms
-pub data RecordOutcome : Type 0 where
-  found : RecordOutcome
-  no-syllable : RecordOutcome
-  refuses : ℕ → ℕ → RecordOutcome
-
-abbrev pub recordOutcomeOf : RecordAnswer → RecordOutcome
-recordOutcomeOf Found = found
-recordOutcomeOf NoSyllable = no-syllable
+-- a record that is found tells how many bytes it has, "seven bytes by value"
+abbrev pub recordOutcomeOf : RecordAnswer → Outcome
+recordOutcomeOf Found = accepts 7
+recordOutcomeOf NoSyllable = absent
 recordOutcomeOf (Refused r) = refuses (numberOf r) (placeOf r)
 
 abbrev pub noBytes : List ℕ
@@ -52,9 +48,10 @@ pub record NoReading (word : List ℕ) (number place : ℕ) (bytes : List ℕ) :
   pub refused : RefusedWith word number place
   pub is : bytes ≡ noBytes
 
-abbrev pub RecordAnswers : List ℕ → ℕ → RecordOutcome → List ℕ → Type 0
-RecordAnswers word number found bytes = HasRecord word number bytes
-RecordAnswers word number no-syllable bytes = NoRecord word number bytes
+abbrev pub RecordAnswers : List ℕ → ℕ → Outcome → List ℕ → Type 0
+RecordAnswers word number (accepts size) bytes = (size ≡ 7) × HasRecord word number bytes
+RecordAnswers word number (accepts-both size other) bytes = ⊥
+RecordAnswers word number absent bytes = NoRecord word number bytes
 RecordAnswers word number (refuses refusal place) bytes = NoReading word refusal place bytes
 
 -- the promise of a record by number

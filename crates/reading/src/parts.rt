@@ -2,7 +2,7 @@
 use crate::read::conclude;
 use crate::scan::scan_word;
 use formula::Word;
-use recogniser::answer::ReadAnswer;
+use refusals::Counted;
 use refusals::Refusal;
 ghost use mathlib.Core.Path.{_≡_};
 ghost use Prim.Native.Nat.{_<_, _≤_};
@@ -43,8 +43,8 @@ pub fn part_place(word: &[u16], number: usize) -> PartAnswer
     let scan = scan_word(word);
     let answer = conclude(word, scan.at, scan.window);
     let count = match answer {
-        ReadAnswer::Refused(refusal) => return PartAnswer::Refused(refusal),
-        ReadAnswer::Syllables(count) => count,
+        Counted::Refused(refusal) => return PartAnswer::Refused(refusal),
+        Counted::Count(count) => count,
     };
     if count <= number {
         return PartAnswer::NoSyllable;

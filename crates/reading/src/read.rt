@@ -3,22 +3,23 @@ use crate::scan::scan_word;
 use formula::Syllable;
 use formula::Window;
 use formula::Word;
-use recogniser::answer::ReadAnswer;
 use recogniser::answer::answer_where;
+use refusals::Counted;
 use refusals::Refusal;
 ghost use mathlib.Core.Path.{_≡_};
-ghost use Rattle.recogniser.specs.Answer.{Answers, outcomeOf};
+ghost use Rattle.refusals.specs.Outcome.{outcomeOf};
+ghost use Rattle.recogniser.specs.Answer.{Answers};
 ghost use Rattle.reading.specs.Reading.{ReadRight, refusedReading};
 ghost use Rattle.reading.specs.Scanned.{Stopped};
 
 // A word as read. `syllables` has its syllables first, and nothing behind them or with a refusal.
 pub struct Reading {
-    pub answer: ReadAnswer,
+    pub answer: Counted,
     pub syllables: [Syllable; Word::LIMIT],
 }
 
 // The answer where a scan of the word has stopped.
-pub(crate) fn conclude(word: &[u16], at: usize, window: Window) -> ReadAnswer
+pub(crate) fn conclude(word: &[u16], at: usize, window: Window) -> Counted
     requires { ⌜ Stopped (now word) at window ⌝ }
     ensures { λ r. ⌜ Answers (now (word .entry)) (outcomeOf r) ⌝ }
 {
@@ -30,7 +31,7 @@ fn refused(refusal: Refusal) -> Reading
     ensures { λ r. ⌜ r ≡ refusedReading refusal ⌝ }
 {
     Reading {
-        answer: ReadAnswer::Refused(refusal),
+        answer: Counted::Refused(refusal),
         syllables: [Syllable::nothing(); Word::LIMIT],
     }
 }
@@ -44,7 +45,7 @@ pub fn read(word: &[u16]) -> Reading
     }
     let scan = scan_word(word);
     let answer = conclude(word, scan.at, scan.window);
-    if let ReadAnswer::Refused(refusal) = answer {
+    if let Counted::Refused(refusal) = answer {
         return refused(refusal);
     }
     let syllables = scan.syllables;

@@ -2,7 +2,7 @@
 use crate::read::read;
 use formula::Syllable;
 use letters::weight::Weighed;
-use recogniser::answer::ReadAnswer;
+use refusals::Counted;
 use refusals::Refusal;
 ghost use mathlib.Core.Path.{_≡_};
 ghost use Rattle.reading.specs.Records.{medialWeightBy, bytesBy, withoutRecord, RecordRight};
@@ -54,8 +54,8 @@ pub fn record_at(word: &[u16], number: usize) -> SyllableRecord
     let reading = read(word);
     let answer = reading.answer;
     match answer {
-        ReadAnswer::Refused(refusal) => without_record(RecordAnswer::Refused(refusal)),
-        ReadAnswer::Syllables(count) => {
+        Counted::Refused(refusal) => without_record(RecordAnswer::Refused(refusal)),
+        Counted::Count(count) => {
             if count <= number {
                 return without_record(RecordAnswer::NoSyllable);
             }

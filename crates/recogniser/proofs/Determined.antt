@@ -7,7 +7,8 @@ use native.Mathlib.Decide.{decLt}
 use native.Mathlib.Omega.{arith}
 use lib.ListN.{length}
 use Rattle.formula.specs.Row.{LongestViable}
-use Rattle.recogniser.specs.Answer.{Outcome, accepts, refuses, Admissible, FirstForeign, RefusedWith, too-long, foreign, no-continuation, unfinished, Answers}
+use Rattle.refusals.specs.Outcome.{Outcome, accepts, accepts-both, absent, refuses}
+use Rattle.recogniser.specs.Answer.{Admissible, FirstForeign, RefusedWith, too-long, foreign, no-continuation, unfinished, Answers}
 use Rattle.recogniser.proofs.Answered.{refused-no-row}
 
 -- two places neither of which comes before the other
@@ -50,6 +51,12 @@ module _ (word : List ℕ) where
   -- two answers that meet the promise are the same in document 01's terms
   pub answers-alike : (o r : Outcome) → Answers word o → Answers word r → o ≡ r
   answers-alike (accepts n) (accepts m) a b = ap accepts (sym (a .count) ∙ ap length (b .only (a .row) (a .gives)) ∙ b .count)
+  answers-alike (accepts n) (accepts-both m k) a b = absurd b
+  answers-alike (accepts n) absent a b = absurd b
   answers-alike (accepts n) (refuses m q) a b = absurd (refused-no-row word m q b (a .admissible) (a .row) (a .gives))
+  answers-alike (accepts-both n k) r a b = absurd a
+  answers-alike absent r a b = absurd a
+  answers-alike (refuses n p) (accepts-both m k) a b = absurd b
+  answers-alike (refuses n p) absent a b = absurd b
   answers-alike (refuses n p) (accepts m) a b = absurd (refused-no-row word n p a (b .admissible) (b .row) (b .gives))
   answers-alike (refuses n p) (refuses m q) a b = refused-alike n p m q a b

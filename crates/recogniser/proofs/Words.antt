@@ -7,7 +7,7 @@ use mathlib.Core.Option.{Option, none, some, Option·some-injective}
 use Prim.Native.Nat.{ℕ, suc, _+_, _≤_, _<_}
 use native.Mathlib.Numerals.{add-one}
 use native.Mathlib.Omega.{arith}
-use lib.Dec.{T, eqb, leb, eqb→eq, leb→le}
+use lib.Dec.{T, leb, leb→le}
 use lib.ListN.{length, getD, take, drop, length-drop, length-reverse}
 use lib.Seq.{take-all, drop-cons}
 use Rattle.letters.specs.Choice.{pick}
@@ -21,7 +21,9 @@ use Rattle.formula.proofs.Lists.{both-left, both-right, every, All, every-all, 
 use Rattle.rows.specs.Kept.{endOf, step, run}
 use Rattle.rows.proofs.Sound.{sound}
 use Rattle.rows.proofs.Viable.{read-back, only-row, unfinished, alive, stops, goes-on, longest}
-use Rattle.recogniser.specs.Answer.{Outcome, accepts, refuses, Admissible, RefusedWith, no-continuation, unfinished as open-end, Answers}
+use Rattle.refusals.specs.Outcome.{Outcome, accepts, refuses}
+use Rattle.refusals.proofs.Same.{sameOutcome, same-outcome}
+use Rattle.recogniser.specs.Answer.{Admissible, RefusedWith, no-continuation, unfinished as open-end, Answers}
 
 -- the answer of the machine
 abbrev atEnd : Bool → ℕ → ℕ → Outcome
@@ -123,21 +125,6 @@ starred =
       readable ((13 ∷ 0 ∷ 0 ∷ 9 ∷ 0 ∷ []) ∷ []) ((0x1000 ∷ 0x1031 ∷ 0x102C ∷ 0x103A ∷ []) ∷ []),
     )
     ∷ []
-
-abbrev sameOutcome : Outcome → Outcome → Bool
-sameOutcome (accepts n) (accepts m) = eqb n m
-sameOutcome (accepts n) (refuses m q) = false
-sameOutcome (refuses n p) (accepts m) = false
-sameOutcome (refuses n p) (refuses m q) = eqb n m && eqb p q
-
-same-outcome : (o r : Outcome) → T (sameOutcome o r) → o ≡ r
-same-outcome (accepts n) (accepts m) t = ap accepts (eqb→eq n m t)
-same-outcome (accepts n) (refuses m q) t = absurd t
-same-outcome (refuses n p) (accepts m) t = absurd t
-same-outcome (refuses n p) (refuses m q) t =
-    let e : n ≡ m = eqb→eq n m (both-left (eqb n m) (eqb p q) t) in
-    let d : p ≡ q = eqb→eq p q (both-right (eqb n m) (eqb p q) t) in
-    rw (e, d)
 
 -- the row that was kept has these weights and spelled syllables
 abbrev hasForms : Expected → Option Row → Bool

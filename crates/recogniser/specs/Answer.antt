@@ -9,18 +9,7 @@ use lib.ListN.{length, getD}
 use Rattle.letters.specs.Letters.{isAdmitted}
 use Rattle.formula.specs.Limits.{limit}
 use Rattle.formula.specs.Row.{Row, Gives, Viable, LongestViable}
-use Rattle.refusals.specs.Refusal.{numberOf, placeOf}
-use Rattle.recogniser.specs.declared.answer.ReadAnswer.{ReadAnswer}
-use Rattle.recogniser.specs.declared.answer.ReadAnswer.the-variants.{Syllables, Refused}
-
--- an answer in document 01's terms: the number of syllables, or a refusal's number and place
-pub data Outcome : Type 0 where
-  accepts : ℕ → Outcome
-  refuses : ℕ → ℕ → Outcome
-
-abbrev pub outcomeOf : ReadAnswer → Outcome
-outcomeOf (Syllables n) = accepts n
-outcomeOf (Refused r) = refuses (numberOf r) (placeOf r)
+use Rattle.refusals.specs.Outcome.{Outcome, accepts, accepts-both, absent, refuses}
 
 -- a word that passes the tests 1 and 2
 pub record Admissible (word : List ℕ) : Type 0 where
@@ -49,8 +38,11 @@ pub record Reads (word : List ℕ) (n : ℕ) : Type 0 where
   pub only : (other : Row) → Gives other word → other ≡ row
   pub count : length row ≡ n
 
+-- the promise of a reading: the number of syllables, or a refusal
 abbrev pub Answers : List ℕ → Outcome → Type 0
 Answers word (accepts n) = Reads word n
+Answers word (accepts-both n m) = ⊥
+Answers word absent = ⊥
 Answers word (refuses number place) = RefusedWith word number place
 
 -- some row gives the word, and only one

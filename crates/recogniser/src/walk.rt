@@ -1,14 +1,15 @@
 // One pass over a word for its answer alone: the state of the reading and the number of syllables, by the tables of `transitions`.
-use crate::answer::ReadAnswer;
 use crate::answer::answer_where;
 use formula::Word;
+use refusals::Counted;
 use refusals::Refusal;
 use transitions::tables::next;
 use transitions::tables::rules_of;
 ghost use Prim.Native.Nat.{_≤_};
 ghost use lib.ListN.{length};
 ghost use Rattle.formula.specs.Limits.{limit};
-ghost use Rattle.recogniser.specs.Answer.{Answers, outcomeOf, RowTest};
+ghost use Rattle.refusals.specs.Outcome.{outcomeOf};
+ghost use Rattle.recogniser.specs.Answer.{Answers, RowTest};
 ghost use Rattle.recogniser.specs.Walked.{WalkStopped};
 
 // The entry of a refused value.
@@ -43,7 +44,7 @@ pub(crate) fn walk_word(word: &[u16]) -> Walk
 }
 
 // The answer where a walk over the word has stopped.
-pub fn answer_at(word: &[u16], at: usize, state: usize, count: usize) -> ReadAnswer
+pub fn answer_at(word: &[u16], at: usize, state: usize, count: usize) -> Counted
     requires { ⌜ WalkStopped (now word) at state count ⌝ }
     ensures { λ r. ⌜ Answers (now (word .entry)) (outcomeOf r) ⌝ }
 {
@@ -51,11 +52,11 @@ pub fn answer_at(word: &[u16], at: usize, state: usize, count: usize) -> ReadAns
 }
 
 // The answer for a word of any values and any length.
-pub fn answer_of(word: &[u16]) -> ReadAnswer
+pub fn answer_of(word: &[u16]) -> Counted
     ensures { λ r. ⌜ Answers (now (word .entry)) (outcomeOf r) ⌝ }
 {
     if Word::LIMIT < word.len() {
-        return ReadAnswer::Refused(Refusal::TooLong);
+        return Counted::Refused(Refusal::TooLong);
     }
     let walk = walk_word(word);
     answer_at(word, walk.at, walk.state, walk.count)
@@ -66,7 +67,7 @@ pub fn is_row(word: &[u16]) -> bool
     ensures { λ r. ⌜ RowTest (now (word .entry)) r ⌝ }
 {
     let answer = answer_of(word);
-    let ReadAnswer::Syllables(_) = answer else {
+    let Counted::Count(_) = answer else {
         return false;
     };
     true

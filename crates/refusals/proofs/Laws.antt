@@ -1,4 +1,4 @@
--- Number and place determine the refusal: both give it back, the number as the index of its variant.
+-- Number and place determine the refusal: both give it back, the number as the index of its variant. So an outcome determines a counted answer.
 -- Assumes nothing.
 use mathlib.Core.Path.{_≡_, refl}
 use mathlib.Core.List.{[], _∷_}
@@ -6,7 +6,10 @@ use Prim.Native.Nat.{ℕ}
 use lib.ListN.{getD}
 use Rattle.refusals.specs.declared.Refusal.{Refusal}
 use Rattle.refusals.specs.declared.Refusal.the-variants.{TooLong, Foreign, NoContinuation, Unfinished, OutputTooShort, NoSuchRow, FaultyLine, EmptyWord, NotABook, AlreadyLive, NotLive, BookFull, RankTooHigh}
+use Rattle.refusals.specs.declared.Counted.{Counted}
+use Rattle.refusals.specs.declared.Counted.the-variants.{Count, Refused}
 use Rattle.refusals.specs.Refusal.{numberOf, placeOf}
+use Rattle.refusals.specs.Outcome.{outcomeOf}
 
 -- the refusal of a number and a place; `NotLive` stands where there is no refusal, at 0, 9 and 10
 refusalOf : ℕ → ℕ → Refusal
@@ -36,3 +39,10 @@ refusalOf-own (RankTooHigh p) = refl
 -- refusals with equal number and equal place are equal
 pub number-place-injective : (r s : Refusal) → numberOf r ≡ numberOf s → placeOf r ≡ placeOf s → r ≡ s
 number-place-injective r s e f = cc (refusalOf-own r, refusalOf-own s)
+
+-- counted answers with equal outcomes are equal
+pub counted-once : (a b : Counted) → outcomeOf a ≡ outcomeOf b → a ≡ b
+counted-once (Count n) (Count m) e = cc
+counted-once (Count n) (Refused s) e = cc
+counted-once (Refused r) (Count m) e = cc
+counted-once (Refused r) (Refused s) e = cc (number-place-injective r s (cc) (cc))

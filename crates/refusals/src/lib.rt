@@ -1,4 +1,4 @@
-// The refusals of document 01 as one enum, with the number and the place of each.
+// What a call answers: a number that it tells, or one of document 01's refusals, each with its number and its place.
 use formula::Word;
 ghost use mathlib.Core.Path.{_≡_};
 ghost use Rattle.refusals.specs.Refusal.{numberOf, placeOf};
@@ -62,4 +62,10 @@ impl Refusal {
             Refusal::RankTooHigh(place) => place,
         }
     }
+}
+
+// A number that a call tells, or why it is refused.
+pub enum Counted {
+    Count(usize),
+    Refused(Refusal),
 }

@@ -13,17 +13,18 @@ use Rattle.formula.specs.Numbers.{numbersOf}
 use Rattle.formula.specs.Spelled.{spelled}
 use Rattle.formula.specs.declared.Syllable.{Syllable as Numbers}
 use Rattle.refusals.specs.Refusal.{numberOf, placeOf}
+use Rattle.refusals.specs.Outcome.{outcomeOf, accepts-both, refuses}
 use Rattle.refusals.specs.declared.Refusal.{Refusal}
-use Rattle.recogniser.specs.Answer.{outcomeOf as readOutcomeOf, Reads, Answers}
+use Rattle.refusals.specs.declared.Counted.{Counted}
+use Rattle.refusals.specs.declared.Counted.the-variants.{Count, Refused}
+use Rattle.recogniser.specs.Answer.{Reads, Answers}
 use Rattle.reading.specs.Reading.{nothings, SyllablesFor, ReadRight}
-use Rattle.recogniser.specs.declared.answer.ReadAnswer.{ReadAnswer}
-use Rattle.recogniser.specs.declared.answer.ReadAnswer.the-variants.{Syllables, Refused as Turned}
 use Rattle.reading.specs.declared.read.Reading.{Reading}
 use Rattle.recogniser.proofs.Counted.{count-limit}
 use Rattle.reading.proofs.Recorded.{reads}
-use Rattle.spelling.specs.Spell.{joined, spells, refuses, ReadAs, Lists, lists, SpellRight, spelled-out, word-refused, values-too-short, starts-too-short}
+use Rattle.spelling.specs.Spell.{joined, ReadAs, Lists, lists, SpellRight, spelled-out, word-refused, values-too-short, starts-too-short}
 use Rattle.spelling.specs.Plain.{spelledBy, spelledFront}
-use Rattle.spelling.specs.Put.{Counted, Room, SyllablesPut}
+use Rattle.spelling.specs.Put.{SpelledSize, Room, SyllablesPut}
 use Rattle.spelling.proofs.Plains.{spelled-row}
 
 -- a row has as many spelled syllables as syllables
@@ -32,18 +33,18 @@ spelled-count [] = refl
 spelled-count (s ∷ row) = ap suc (spelled-count row)
 
 -- a reading that refuses the word
-pub spell-refused : (word : List ℕ) (reading : Reading) → ReadRight word reading → (refusal : Refusal) → reading .answer ≡ Turned refusal → (lent : Lists)
+pub spell-refused : (word : List ℕ) (reading : Reading) → ReadRight word reading → (refusal : Refusal) → reading .answer ≡ Refused refusal → (lent : Lists)
     → SpellRight word lent lent (refuses (numberOf refusal) (placeOf refusal))
-spell-refused word reading right refusal e lent = word-refused (subst (λ (a : ReadAnswer). Answers word (readOutcomeOf a)) e (right .answers)) refl
+spell-refused word reading right refusal e lent = word-refused (subst (λ (a : Counted). Answers word (outcomeOf a)) e (right .answers)) refl
 
 -- what is known of a reading that has n syllables
-module _ (word : List ℕ) (reading : Reading) (right : ReadRight word reading) (n : ℕ) (e : reading .answer ≡ Syllables n) where
+module _ (word : List ℕ) (reading : Reading) (right : ReadRight word reading) (n : ℕ) (e : reading .answer ≡ Count n) where
   read-row : Reads word n
   read-row = reads word reading right n e
 
   held-syllables : reading .syllables ≡ map numbersOf (read-row .row) ++ nothings (limit - n)
   held-syllables =
-      subst (λ (a : ReadAnswer). SyllablesFor word (readOutcomeOf a) (reading .syllables)) e (right .syllables) (read-row .row) (read-row .gives)
+      subst (λ (a : Counted). SyllablesFor word (outcomeOf a) (reading .syllables)) e (right .syllables) (read-row .row) (read-row .gives)
 
   held-count : length (map numbersOf (read-row .row)) ≡ n
   held-count = length-map (read-row .row) numbersOf ∙ read-row .count
@@ -67,7 +68,7 @@ module _ (word : List ℕ) (reading : Reading) (right : ReadRight word reading) 
   pub syllables-few : n ≤ limit
   syllables-few = count-limit word n read-row
 
-  module _ (values starts : List ℕ) (size : ℕ) (sized : Counted (reading .syllables) n size) where
+  module _ (values starts : List ℕ) (size : ℕ) (sized : SpelledSize (reading .syllables) n size) where
     size-is : size ≡ length (joined (spelled (read-row .row)))
     size-is = sized ∙ ap (λ (l : List (List ℕ)). length (joined l)) front-spelled
 
@@ -85,7 +86,7 @@ module _ (word : List ℕ) (reading : Reading) (right : ReadRight word reading) 
         record { held = syllables-held; short = syllables-few; values-fit = omega (arith, sized); starts-fit = more }
 
     pub spell-done : size ≤ length values → n ≤ length starts → (after : Lists) → SyllablesPut (reading .syllables) n (lists values starts) after
-        → SpellRight word (lists values starts) after (spells size n)
+        → SpellRight word (lists values starts) after (accepts-both size n)
     spell-done enough more after p =
         rw (← counted, size-is)
         (spelled-out read-as (omega (arith, size-is)) (omega (arith, counted))

@@ -7,11 +7,12 @@ use native.Mathlib.Omega.{arith}
 use lib.ListN.{length}
 use Rattle.formula.specs.Row.{Row}
 use Rattle.formula.specs.Spelled.{spelled}
+use Rattle.refusals.specs.Outcome.{Outcome, refuses}
 use Rattle.rows.proofs.Viable.{only-row}
-use Rattle.recogniser.specs.Answer.{RefusedWith, Outcome as ReadOutcome, refuses as turns, accepts}
+use Rattle.recogniser.specs.Answer.{RefusedWith}
 use Rattle.recogniser.proofs.Answered.{refused-no-row}
 use Rattle.recogniser.proofs.Determined.{answers-alike}
-use Rattle.spelling.specs.Spell.{joined, Outcome, refuses, ReadAs, Lists, lists, SpellRight, spelled-out, word-refused, values-too-short, starts-too-short}
+use Rattle.spelling.specs.Spell.{joined, ReadAs, Lists, lists, SpellRight, spelled-out, word-refused, values-too-short, starts-too-short}
 
 -- two outcomes of spelling the same word to the same lists are the same, and so is what they leave there
 pub record Same (first second : Outcome) (after final : Lists) : Type 0 where
@@ -28,13 +29,6 @@ module _ (word : List ℕ) where
   refused-not-read : (number place : ℕ) (row : Row) → RefusedWith word number place → ReadAs word row → ⊥
   refused-not-read number place row w p = refused-no-row word number place w (p .admissible) row (p .gives)
 
-  same-refusal : (n p m q : ℕ) → RefusedWith word n p → RefusedWith word m q → refuses n p ≡ refuses m q
-  same-refusal n p m q a b = ap turned (answers-alike word (turns n p) (turns m q) a b)
-    where
-      turned : ReadOutcome → Outcome
-      turned (accepts k) = refuses 0 0
-      turned (turns k l) = refuses k l
-
 module _ (word : List ℕ) (before after final : Lists) where
   pub spell-determined : (first second : Outcome) → SpellRight word before after first → SpellRight word before final second → Same first second after final
   spell-determined first second (spelled-out {row = r} p l k e) (spelled-out {row = s} q m j f) =
@@ -50,7 +44,8 @@ module _ (word : List ℕ) (before after final : Lists) where
       let z : ⊥ = omega (arith, ap (λ (t : Row). length (spelled t)) one) in
       absurd z
   spell-determined first second (word-refused w e) (spelled-out {row = s} q m j f) = absurd (refused-not-read word _ _ s w q)
-  spell-determined first second (word-refused w e) (word-refused v f) = record { outcome = same-refusal word _ _ _ _ w v; left = e ∙ sym f }
+  spell-determined first second (word-refused {number = n} {place = p} w e) (word-refused {number = m} {place = q} v f) =
+      record { outcome = answers-alike word (refuses n p) (refuses m q) w v; left = e ∙ sym f }
   spell-determined first second (word-refused w e) (values-too-short {row = s} q m f) = absurd (refused-not-read word _ _ s w q)
   spell-determined first second (word-refused w e) (starts-too-short {row = s} q m j f) = absurd (refused-not-read word _ _ s w q)
   spell-determined first second (values-too-short {row = r} p l e) (spelled-out {row = s} q m j f) =

@@ -16,7 +16,7 @@ use Rattle.syllable_text.specs.Part.{partAfter, PartPut}
 use Rattle.syllable_text.proofs.Putting.{put-length, put-behind}
 use Rattle.spelling.specs.Spell.{joined, startsFrom, spelledStarts, lists}
 use Rattle.spelling.specs.Plain.{plainBytes, spelledBy, spelledFront}
-use Rattle.spelling.specs.Put.{Counted, SyllableRoom, SyllablePut, Room, SyllablesPut}
+use Rattle.spelling.specs.Put.{SpelledSize, SyllableRoom, SyllablePut, Room, SyllablesPut}
 use Rattle.spelling.proofs.Plains.{part-spelled, by-small}
 
 joined-more : (parts : List (List ℕ)) (more : List ℕ) → joined (parts ++ (more ∷ [])) ≡ joined parts ++ more
@@ -55,7 +55,7 @@ module _ (syllables : List Numbers) (number : ℕ) where
 -- the pass that counts
 pub record Measured (syllables : List Numbers) (count size number : ℕ) : Type 0 where
   pub within : number ≤ count
-  pub counted : Counted syllables number size
+  pub counted : SpelledSize syllables number size
   pub small : size ≤ 13 * number
 
 pub measured-none : (syllables : List Numbers) (count : ℕ) → Measured syllables count 0 0
@@ -73,7 +73,7 @@ module _ (syllables : List Numbers) (count size number : ℕ) (p : Measured syll
         small = omega (arith, p .small, s .small);
       }
 
-  pub measured-all : count ≤ number → Counted syllables count size
+  pub measured-all : count ≤ number → SpelledSize syllables count size
   measured-all end = let same : number ≡ count = (let w = p .within in omega arith) in rw (← same) (p .counted)
 
 -- fewer syllables have no more values

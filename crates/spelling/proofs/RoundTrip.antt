@@ -11,15 +11,16 @@ use Rattle.formula.specs.Limits.{limit}
 use Rattle.formula.specs.Syllable.{Syllable, syllable, bare}
 use Rattle.formula.specs.Row.{Row, join, Gives}
 use Rattle.formula.specs.Record.{recordOf, recordBytes}
+use Rattle.refusals.specs.Outcome.{Outcome, accepts, accepts-both, absent, refuses, outcomeOf}
 use Rattle.rows.proofs.Viable.{only-row}
-use Rattle.recogniser.specs.Answer.{accepts, outcomeOf as readOutcomeOf, Reads}
+use Rattle.recogniser.specs.Answer.{Reads}
 use Rattle.reading.specs.Reading.{ReadRight}
-use Rattle.reading.specs.Records.{RecordOutcome, found, no-syllable, refuses as turns, recordOutcomeOf, HasRecord, RecordAnswers, RecordRight}
+use Rattle.reading.specs.Records.{recordOutcomeOf, HasRecord, RecordAnswers, RecordRight}
 use Rattle.reading.specs.declared.read.Reading.{Reading}
 use Rattle.reading.specs.declared.records.SyllableRecord.{SyllableRecord}
 use Rattle.recogniser.proofs.Answered.{refused-no-row}
 use Rattle.recogniser.proofs.Determined.{answers-alike}
-use Rattle.writing.specs.Write.{Outcome, written, refuses, Recorded, WriteRight, writes, no-such-row, too-short}
+use Rattle.writing.specs.Write.{Recorded, WriteRight, writes, no-such-row, too-short}
 use Rattle.writing.proofs.Laws.{write-determined}
 use Rattle.spelling.proofs.Admitted.{row-reads}
 
@@ -60,7 +61,7 @@ pub record RecordsRead (word : List ℕ) (n : ℕ) (bytes : List ℕ) : Type 0 w
 
 -- the word is written: so many values, at the front of the output, the rest untouched
 pub record WrittenTo (word before after : List ℕ) (outcome : Outcome) : Type 0 where
-  pub counted : outcome ≡ written (length word)
+  pub counted : outcome ≡ accepts (length word)
   pub front : after ≡ word ++ drop (length word) before
 
 -- the writer accepts the bytes: they are a row's records, and its word is what it wrote
@@ -71,7 +72,7 @@ pub record Accepted (bytes before after : List ℕ) (n : ℕ) : Type 0 where
   pub front : after ≡ join row ++ drop (length (join row)) before
 
 -- what the writer accepts is a row's records, and the row has at most as many values as the limit
-pub accepted-row : (bytes before after : List ℕ) (outcome : Outcome) (n : ℕ) → WriteRight bytes before after outcome → outcome ≡ written n
+pub accepted-row : (bytes before after : List ℕ) (outcome : Outcome) (n : ℕ) → WriteRight bytes before after outcome → outcome ≡ accepts n
     → Accepted bytes before after n
 accepted-row bytes before after outcome n (writes {row = row} p l e) f = record { row = row; recorded = p; count = cc; front = e }
 accepted-row bytes before after outcome n (no-such-row p e) f = let z : _≡_ {A = ℕ} 0 1 = cc in let no : ⊥ = omega arith in absurd no
@@ -81,7 +82,7 @@ accepted-row bytes before after outcome n (too-short p l e) f = let z : _≡_ {A
 pub row-accepted : (bytes before after : List ℕ) (outcome : Outcome) (row : Row) → Recorded bytes row → length (join row) ≤ length before
     → WriteRight bytes before after outcome → WrittenTo (join row) before after outcome
 row-accepted bytes before after outcome row p room w =
-    let same = write-determined bytes before after (join row ++ drop (length (join row)) before) outcome (written (length (join row))) w (writes p room refl) in
+    let same = write-determined bytes before after (join row ++ drop (length (join row)) before) outcome (accepts (length (join row))) w (writes p room refl) in
     record { counted = same .outcome; front = same .output }
 
 -- all else is refused with 6
@@ -103,7 +104,7 @@ records-of word n bytes r b row g =
     }
 
 -- writing the records read from a readable word gives the word
-pub read-then-write : (word : List ℕ) (reading : Reading) (n : ℕ) → ReadRight word reading → readOutcomeOf (reading .answer) ≡ accepts n
+pub read-then-write : (word : List ℕ) (reading : Reading) (n : ℕ) → ReadRight word reading → outcomeOf (reading .answer) ≡ accepts n
     → (bytes : List ℕ) → RecordsRead word n bytes → (before after : List ℕ) (outcome : Outcome) → length word ≤ length before → WriteRight bytes before after outcome
     → WrittenTo word before after outcome
 read-then-write word reading n right accepted bytes b before after outcome room w =
@@ -114,11 +115,11 @@ read-then-write word reading n right accepted bytes b before after outcome room 
 -- the reading of a word is right, and its records are the bytes
 pub record ReadBack (word bytes : List ℕ) (reading : Reading) : Type 0 where
   pub n : ℕ
-  pub accepted : readOutcomeOf (reading .answer) ≡ accepts n
+  pub accepted : outcomeOf (reading .answer) ≡ accepts n
   pub row-records : (row : Row) → Gives row word → recordBytes row ≡ bytes
   pub records : RecordsRead word n bytes
   pub by-number : (number : ℕ) → number < n → (r : SyllableRecord) → RecordRight word number r
-      → (recordOutcomeOf (r .answer) ≡ found) × (r .bytes ≡ take 7 (drop (7 * number) bytes))
+      → (recordOutcomeOf (r .answer) ≡ accepts 7) × (r .bytes ≡ take 7 (drop (7 * number) bytes))
 
 module _ (word bytes : List ℕ) (row : Row) (g : Gives row word) (p : recordBytes row ≡ bytes) (short : length word ≤ limit) where
   row-read : Reads word (length row)
@@ -143,20 +144,23 @@ module _ (word bytes : List ℕ) (row : Row) (g : Gives row word) (p : recordByt
         };
       }
 
-  asked : (number : ℕ) → number < length row → (o : RecordOutcome) (b : List ℕ) → RecordAnswers word number o b
-      → (o ≡ found) × (b ≡ take 7 (drop (7 * number) bytes))
-  asked number below found b h =
-      (refl, h .is ∙ ap (λ (t : Row). recordOf (getD t number (bare 0x1000))) (same-row (h .row) (h .gives)) ∙ sym (record-is number below))
-  asked number below no-syllable b h =
+  asked : (number : ℕ) → number < length row → (o : Outcome) (b : List ℕ) → RecordAnswers word number o b
+      → (o ≡ accepts 7) × (b ≡ take 7 (drop (7 * number) bytes))
+  asked number below (accepts size) b h = (
+    ap accepts (h .0),
+    h .1 .is ∙ ap (λ (t : Row). recordOf (getD t number (bare 0x1000))) (same-row (h .1 .row) (h .1 .gives)) ∙ sym (record-is number below),
+  )
+  asked number below (accepts-both size other) b h = absurd h
+  asked number below absent b h =
       let z : ⊥ = (let far = h .beyond in omega (arith, ap length (same-row (h .row) (h .gives)))) in
       absurd z
-  asked number below (turns refusal place) b h = absurd (refused-no-row word refusal place (h .refused) (row-read .admissible) row g)
+  asked number below (refuses refusal place) b h = absurd (refused-no-row word refusal place (h .refused) (row-read .admissible) row g)
 
   read-back : (reading : Reading) → ReadRight word reading → ReadBack word bytes reading
   read-back reading right =
       record {
         n = length row;
-        accepted = answers-alike word (readOutcomeOf (reading .answer)) (accepts (length row)) (right .answers) row-read;
+        accepted = answers-alike word (outcomeOf (reading .answer)) (accepts (length row)) (right .answers) row-read;
         row-records = λ other h. ap recordBytes (same-row other h) ∙ p;
         records = records-read;
         by-number = λ number below r h. asked number below (recordOutcomeOf (r .answer)) (r .bytes) h;
@@ -173,7 +177,7 @@ pub recorded-reads : (bytes : List ℕ) (row : Row) → Recorded bytes row → R
 recorded-reads bytes row p = row-reads row (join row) (record { is-row = p .is-row; joined = refl }) (p .short)
 
 -- reading what was written from an accepted list of bytes gives that list of bytes back, record by record
-pub write-then-read : (bytes before after : List ℕ) (outcome : Outcome) (count : ℕ) → WriteRight bytes before after outcome → outcome ≡ written count
+pub write-then-read : (bytes before after : List ℕ) (outcome : Outcome) (count : ℕ) → WriteRight bytes before after outcome → outcome ≡ accepts count
     → (reading : Reading) → ReadRight (take count after) reading → ReadBack (take count after) bytes reading
 write-then-read bytes before after outcome count w done reading right =
     let a = accepted-row bytes before after outcome count w done in

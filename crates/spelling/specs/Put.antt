@@ -11,8 +11,8 @@ use Rattle.spelling.specs.Spell.{joined, spelledStarts, Lists}
 use Rattle.spelling.specs.Plain.{spelledBy, spelledFront}
 
 -- how many values the first syllables are spelled with
-abbrev pub Counted : List Numbers → ℕ → ℕ → Type 0
-Counted syllables count size = size ≡ length (joined (spelledFront syllables count))
+abbrev pub SpelledSize : List Numbers → ℕ → ℕ → Type 0
+SpelledSize syllables count size = size ≡ length (joined (spelledFront syllables count))
 
 -- a syllable has a place of its own among the starts, and room among the values
 pub record SyllableRoom (syllable : Numbers) (number at : ℕ) (values starts : List ℕ) : Type 0 where

@@ -8,6 +8,7 @@ use Rattle.formula.specs.Limits.{limit}
 use Rattle.formula.specs.Row.{Row, Gives}
 use Rattle.formula.specs.Spelled.{spelled}
 use Rattle.refusals.specs.Refusal.{numberOf, placeOf}
+use Rattle.refusals.specs.Outcome.{Outcome, accepts-both, refuses}
 use Rattle.recogniser.specs.Answer.{Admissible, RefusedWith}
 use Rattle.spelling.specs.declared.SpellAnswer.{SpellAnswer}
 use Rattle.spelling.specs.declared.SpellAnswer.the-variants.{Spelled, Refused}
@@ -30,14 +31,10 @@ spelledStarts syllables = startsFrom 0 syllables
 abbrev pub spelledLimit : ℕ
 spelledLimit = 3 * limit - 2
 
--- "Success .. tells how many values or bytes it wrote to each"; "A refusal gives number and place"
-pub data Outcome : Type 0 where
-  spells : ℕ → ℕ → Outcome
-  refuses : ℕ → ℕ → Outcome
-
-abbrev pub outcomeOf : SpellAnswer → Outcome
-outcomeOf (Spelled values starts) = spells values starts
-outcomeOf (Refused refusal) = refuses (numberOf refusal) (placeOf refusal)
+-- "Success .. tells how many values or bytes it wrote to each"
+abbrev pub spellOutcomeOf : SpellAnswer → Outcome
+spellOutcomeOf (Spelled values starts) = accepts-both values starts
+spellOutcomeOf (Refused refusal) = refuses (numberOf refusal) (placeOf refusal)
 
 -- the word passes the tests 1 and 2, and the row gives it
 pub record ReadAs (word : List ℕ) (row : Row) : Type 0 where
@@ -60,7 +57,7 @@ pub record Written (row : Row) (before after : Lists) : Type 0 where
 -- what the outcome says of the word, and of the lists before and after; a refusal "writes nothing"
 pub data SpellRight (word : List ℕ) (before after : Lists) : Outcome → Type 0 where
   spelled-out : {row : Row} → ReadAs word row → length (joined (spelled row)) ≤ length (before .values) → length (spelled row) ≤ length (before .starts)
-      → Written row before after → SpellRight word before after (spells (length (joined (spelled row))) (length (spelled row)))
+      → Written row before after → SpellRight word before after (accepts-both (length (joined (spelled row))) (length (spelled row)))
   -- 1 to 4: "The reader and the spelling-out do not" normalise
   word-refused : {number place : ℕ} → RefusedWith word number place → after ≡ before → SpellRight word before after (refuses number place)
   -- 5: "lent output too short"; place: "values or bytes needed"; "the first list is tested first"

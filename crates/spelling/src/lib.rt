@@ -1,14 +1,14 @@
 // Words spelled out: each syllable by itself, with its final as a letter and 103A.
 use formula::Syllable;
 use formula::Word;
-use recogniser::answer::ReadAnswer;
+use refusals::Counted;
 use refusals::Refusal;
 ghost use mathlib.Core.Path.{_≡_};
 ghost use Prim.Native.Nat.{_≤_};
 ghost use lib.ListN.{length};
 ghost use Rattle.spelling.specs.Plain.{plainLink, plainBytes};
-ghost use Rattle.spelling.specs.Put.{Counted, SyllableRoom, SyllablePut, Room, SyllablesPut};
-ghost use Rattle.spelling.specs.Spell.{outcomeOf, lists, SpellRight};
+ghost use Rattle.spelling.specs.Put.{SpelledSize, SyllableRoom, SyllablePut, Room, SyllablesPut};
+ghost use Rattle.spelling.specs.Spell.{spellOutcomeOf, lists, SpellRight};
 
 // How many values and how many starts were written, or why none was.
 pub enum SpellAnswer {
@@ -35,7 +35,7 @@ fn plain_record(syllable: Syllable) -> [u8; 7]
 // How many values the first syllables are spelled with.
 fn measure(syllables: [Syllable; Word::LIMIT], count: usize) -> usize
     requires { ⌜ (count ≤ length syllables) × (count ≤ 64) ⌝ }
-    ensures { λ r. ⌜ Counted syllables count r ⌝ }
+    ensures { λ r. ⌜ SpelledSize syllables count r ⌝ }
 {
     let mut size = 0;
     let mut number = 0;
@@ -76,13 +76,13 @@ fn put(syllables: [Syllable; Word::LIMIT], count: usize, values: &mut [u16], sta
 
 // Writes a word's spelled syllables to the front of `values`, and the place there where each begins to the front of `starts`.
 pub fn spell(word: &[u16], values: &mut [u16], starts: &mut [u16]) -> SpellAnswer
-    ensures { λ r. ⌜ SpellRight (now (word .entry)) (lists (now (values .entry)) (now (starts .entry))) (lists (now (values .exit)) (now (starts .exit))) (outcomeOf r) ⌝ }
+    ensures { λ r. ⌜ SpellRight (now (word .entry)) (lists (now (values .entry)) (now (starts .entry))) (lists (now (values .exit)) (now (starts .exit))) (spellOutcomeOf r) ⌝ }
 {
     let reading = reading::read::read(word);
     let answer = reading.answer;
     match answer {
-        ReadAnswer::Refused(refusal) => SpellAnswer::Refused(refusal),
-        ReadAnswer::Syllables(count) => {
+        Counted::Refused(refusal) => SpellAnswer::Refused(refusal),
+        Counted::Count(count) => {
             let syllables = reading.syllables;
             let size = measure(syllables, count);
             if values.len() < size {

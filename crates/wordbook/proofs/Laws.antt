@@ -5,11 +5,12 @@ use mathlib.Core.Path.{_≡_, refl, sym, subst, _∙_}
 use mathlib.Core.List.{List}
 use Prim.Native.Nat.{ℕ, _<_}
 use native.Mathlib.Omega.{arith}
+use Rattle.refusals.specs.Outcome.{Outcome, accepts, refuses}
 use Rattle.recogniser.proofs.Answered.{refused-no-row}
 use Rattle.storage.specs.Stored.{storedForm}
 use Rattle.normaliser.specs.Normal.{StoreRefusedWith, Stores, too-long, foreign, outcome as of-outcome}
 use Rattle.entries.specs.Entries.{entries}
-use Rattle.lookup.specs.Outcome.{Outcome, finds, places, refuses, findOf}
+use Rattle.lookup.specs.Outcome.{finds, findOf}
 use Rattle.keeping.specs.Written.{AddRight, RemoveRight}
 use Rattle.keeping.proofs.Laws.{Bytes, Added, added, find-added, find-others, Removed, removed, find-removed, find-kept}
 use Rattle.wordbook.specs.Calls.{WordRefused, empty, refused, WordStored, CallAnswers, word-refused, word-stored, AddPromise, RemovePromise}
@@ -32,16 +33,16 @@ stored-answer word answer outcome s (word-refused r) = absurd (word-clash word _
 stored-answer word answer outcome s (word-stored t) = refl
 
 -- a call that places a record had a word that is stored
-placed-answer : (word : List ℕ) (answer outcome : Outcome) (start : ℕ) → outcome ≡ places start → CallAnswers word answer outcome → WordStored word × (outcome ≡ answer)
+placed-answer : (word : List ℕ) (answer outcome : Outcome) (start : ℕ) → outcome ≡ accepts start → CallAnswers word answer outcome → WordStored word × (outcome ≡ answer)
 placed-answer word answer outcome start e (word-refused r) = let z : _≡_ {A = ℕ} 0 1 = cc in let y : ⊥ = omega arith in absurd y
 placed-answer word answer outcome start e (word-stored s) = (s, refl)
 
-module _ (word before after : List ℕ) (stock start : ℕ) (small : Bytes before) (fits : stock < 4294967296) (p : AddPromise word stock before after (places start)) where
+module _ (word before after : List ℕ) (stock start : ℕ) (small : Bytes before) (fits : stock < 4294967296) (p : AddPromise word stock before after (accepts start)) where
   add-stored : WordStored word
-  add-stored = placed-answer word _ (places start) start refl (p .answers) .0
+  add-stored = placed-answer word _ (accepts start) start refl (p .answers) .0
 
-  add-right : AddRight (storedForm word) stock before after (places start)
-  add-right = record { answer = placed-answer word _ (places start) start refl (p .answers) .1; bytes = p .bytes }
+  add-right : AddRight (storedForm word) stock before after (accepts start)
+  add-right = record { answer = placed-answer word _ (accepts start) start refl (p .answers) .1; bytes = p .bytes }
 
   -- after add the buffer is a book, with one entry more at its end
   pub add-makes-book : Added before after (storedForm word) stock start
@@ -61,9 +62,9 @@ module _ (word before after : List ℕ) (stock start : ℕ) (small : Bytes befor
       subst (λ (o : Outcome). CallAnswers other o answer)
       (sym (find-others before after (storedForm word) stock start small (stored-storable word add-stored) fits add-right (storedForm other) n)) c
 
-module _ (word before after : List ℕ) (start : ℕ) (small : Bytes before) (p : RemovePromise word before after (places start)) where
-  remove-right : RemoveRight (storedForm word) before after (places start)
-  remove-right = record { answer = placed-answer word _ (places start) start refl (p .answers) .1; bytes = p .bytes }
+module _ (word before after : List ℕ) (start : ℕ) (small : Bytes before) (p : RemovePromise word before after (accepts start)) where
+  remove-right : RemoveRight (storedForm word) before after (accepts start)
+  remove-right = record { answer = placed-answer word _ (accepts start) start refl (p .answers) .1; bytes = p .bytes }
 
   -- after remove the buffer is a book, with the word's entry removed
   pub remove-makes-book : Removed before after (storedForm word) start

@@ -7,19 +7,14 @@ use lib.ListN.{length}
 use Rattle.formula.specs.Held.{wordOf}
 use Rattle.formula.specs.declared.Word.{Word}
 use Rattle.refusals.specs.Refusal.{numberOf, placeOf}
+use Rattle.refusals.specs.Outcome.{Outcome, refuses}
 use Rattle.storage.specs.Stored.{storedForm}
 use Rattle.normaliser.specs.Normal.{StoreRefusedWith, Stores}
 use Rattle.entries.specs.Entries.{entries}
-use Rattle.lookup.specs.Outcome.{Outcome, counts, refuses, addOf, removeOf}
+use Rattle.lookup.specs.Outcome.{addOf, removeOf}
 use Rattle.keeping.specs.Written.{bytesAdded, bytesRemoved}
-use Rattle.wordbook.specs.declared.Checked.{Checked}
-use Rattle.wordbook.specs.declared.Checked.the-variants as checked
 use Rattle.wordbook.specs.declared.enter.EnterAnswer.{EnterAnswer}
 use Rattle.wordbook.specs.declared.enter.EnterAnswer.the-variants as entered
-
-abbrev pub checkedOutcome : Checked → Outcome
-checkedOutcome (checked.Live count) = counts count
-checkedOutcome (checked.Refused refusal) = refuses (numberOf refusal) (placeOf refusal)
 
 -- "Tests run in the order 1, 7, 8, 2, 3 or 4": the refusals of a word that is handed in with a book
 pub data WordRefused (word : List ℕ) : ℕ → ℕ → Type 0 where

@@ -1,7 +1,7 @@
 // The word that is handed in with a book: it is normalised first, and an empty one is refused.
 use formula::Word;
 use normaliser::normal_form;
-use recogniser::answer::ReadAnswer;
+use refusals::Counted;
 use refusals::Refusal;
 ghost use Rattle.wordbook.specs.Calls.{EnteredFor};
 
@@ -30,7 +30,7 @@ pub(crate) fn enter(word: &[u16]) -> Entered
     let normal = normal_form(word);
     let form = normal.word;
     let answer = normal.answer;
-    if let ReadAnswer::Refused(refusal) = answer {
+    if let Counted::Refused(refusal) = answer {
         return Entered {
             answer: EnterAnswer::Refused(refusal),
             word: form,

@@ -1,34 +1,29 @@
 // The word book: the calls on a book in a lent buffer, for every buffer and every word.
 use lookup::plan::Found;
-use lookup::plan::Placed;
 use opening::open::Opening;
 use opening::open::open_book;
+use refusals::Counted;
 use refusals::Refusal;
 ghost use mathlib.Core.Path.{_≡_};
+ghost use Rattle.refusals.specs.Outcome.{outcomeOf};
 ghost use Rattle.storage.specs.Stored.{storedForm};
 ghost use Rattle.entries.specs.Entries.{entries};
-ghost use Rattle.lookup.specs.Outcome.{foundOutcome, placedOutcome, checkOf, findOf};
+ghost use Rattle.lookup.specs.Outcome.{foundOutcome, checkOf, findOf};
 ghost use Rattle.ranking.specs.Rank.{rankOf};
-ghost use Rattle.wordbook.specs.Calls.{checkedOutcome, CallAnswers, AddPromise, RemovePromise};
+ghost use Rattle.wordbook.specs.Calls.{CallAnswers, AddPromise, RemovePromise};
 
 pub mod enter; // enter.rt: the word that is handed in with a book
 
 use crate::enter::EnterAnswer;
 use crate::enter::enter;
 
-// The answer of check: how many live records there are, or why the buffer is no book.
-pub enum Checked {
-    Live(usize),
-    Refused(Refusal),
-}
-
-// Whether the buffer is a book.
-pub fn check(book: &[u8]) -> Checked
-    ensures { λ r. ⌜ checkedOutcome r ≡ checkOf (entries (now (book .entry))) ⌝ }
+// Whether the buffer is a book, and how many live records it has.
+pub fn check(book: &[u8]) -> Counted
+    ensures { λ r. ⌜ outcomeOf r ≡ checkOf (entries (now (book .entry))) ⌝ }
 {
     match open_book(book) {
-        Opening::Wrong(place) => Checked::Refused(Refusal::NotABook(place)),
-        Opening::Book { live, free: _ } => Checked::Live(live),
+        Opening::Wrong(place) => Counted::Refused(Refusal::NotABook(place)),
+        Opening::Book { live, free: _ } => Counted::Count(live),
     }
 }
 
@@ -48,13 +43,13 @@ pub fn find(book: &[u8], word: &[u16]) -> Found
 }
 
 // Puts a live record with the word just after the last record, and gives its start.
-pub fn add(book: &mut [u8], word: &[u16], stock: u32) -> Placed
-    ensures { λ r. ⌜ AddPromise (now (word .entry)) stock (now (book .entry)) (now (book .exit)) (placedOutcome r) ⌝ }
+pub fn add(book: &mut [u8], word: &[u16], stock: u32) -> Counted
+    ensures { λ r. ⌜ AddPromise (now (word .entry)) stock (now (book .entry)) (now (book .exit)) (outcomeOf r) ⌝ }
 {
     let entered = enter(word);
     let answer = entered.answer;
     if let EnterAnswer::Refused(refusal) = answer {
-        return Placed::Refused(refusal);
+        return Counted::Refused(refusal);
     }
     let form = entered.word;
     let count = form.count;
@@ -63,13 +58,13 @@ pub fn add(book: &mut [u8], word: &[u16], stock: u32) -> Placed
 }
 
 // Marks the live record with the word as removed, and gives its start.
-pub fn remove(book: &mut [u8], word: &[u16]) -> Placed
-    ensures { λ r. ⌜ RemovePromise (now (word .entry)) (now (book .entry)) (now (book .exit)) (placedOutcome r) ⌝ }
+pub fn remove(book: &mut [u8], word: &[u16]) -> Counted
+    ensures { λ r. ⌜ RemovePromise (now (word .entry)) (now (book .entry)) (now (book .exit)) (outcomeOf r) ⌝ }
 {
     let entered = enter(word);
     let answer = entered.answer;
     if let EnterAnswer::Refused(refusal) = answer {
-        return Placed::Refused(refusal);
+        return Counted::Refused(refusal);
     }
     let form = entered.word;
     let count = form.count;

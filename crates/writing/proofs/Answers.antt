@@ -13,7 +13,8 @@ use Rattle.formula.specs.Limits.{limit}
 use Rattle.formula.specs.Syllable.{no-final}
 use Rattle.formula.specs.Row.{Row, IsRow, join}
 use Rattle.formula.specs.Record.{recordBytes}
-use Rattle.writing.specs.Write.{written, refuses, Recorded, WriteRight, writes, no-such-row, too-short}
+use Rattle.refusals.specs.Outcome.{accepts, refuses}
+use Rattle.writing.specs.Write.{Recorded, WriteRight, writes, no-such-row, too-short}
 use Rattle.writing.specs.Records.{rowOf, areRecords}
 use Rattle.writing.specs.Size.{sizeOf}
 use Rattle.writing.specs.Put.{RowFits, RowPut}
@@ -80,5 +81,5 @@ module _ (bytes before : List ℕ) (count : ℕ) (s : Sized bytes count) where
   pub row-fits : count ≤ length before → RowFits bytes (length before)
   row-fits enough = record { are-records = s .are-records; fits = omega (arith, s .counted) }
 
-  pub write-done : count ≤ length before → (after : List ℕ) (result : ℕ) → RowPut bytes before after result → WriteRight bytes before after (written result)
+  pub write-done : count ≤ length before → (after : List ℕ) (result : ℕ) → RowPut bytes before after result → WriteRight bytes before after (accepts result)
   write-done enough after result p = rw (p .counted) (writes (s .recorded) (omega (arith, s .counted)) (p .put))

@@ -7,7 +7,8 @@ use native.Mathlib.Omega.{arith}
 use lib.ListN.{length}
 use Rattle.formula.specs.Row.{Row, IsRow, join}
 use Rattle.formula.specs.Record.{recordBytes}
-use Rattle.writing.specs.Write.{Outcome, Recorded, WriteRight, writes, no-such-row, too-short}
+use Rattle.refusals.specs.Outcome.{Outcome}
+use Rattle.writing.specs.Write.{Recorded, WriteRight, writes, no-such-row, too-short}
 use Rattle.writing.proofs.Answers.{read-row}
 
 -- two rows with the same records are the same row

@@ -7,18 +7,7 @@ use lib.ListN.{length, drop}
 use Rattle.formula.specs.Limits.{limit}
 use Rattle.formula.specs.Row.{Row, IsRow, join}
 use Rattle.formula.specs.Record.{recordBytes}
-use Rattle.refusals.specs.Refusal.{numberOf, placeOf}
-use Rattle.writing.specs.declared.WriteAnswer.{WriteAnswer}
-use Rattle.writing.specs.declared.WriteAnswer.the-variants.{Written, Refused}
-
--- "Success .. tells how many values or bytes it wrote"; "A refusal gives number and place"
-pub data Outcome : Type 0 where
-  written : ℕ → Outcome
-  refuses : ℕ → ℕ → Outcome
-
-abbrev pub outcomeOf : WriteAnswer → Outcome
-outcomeOf (Written n) = written n
-outcomeOf (Refused refusal) = refuses (numberOf refusal) (placeOf refusal)
+use Rattle.refusals.specs.Outcome.{Outcome, accepts, refuses}
 
 -- "The writer accepts exactly the rows that the reader can produce": the row has these records, and its word is no longer than a word may be
 pub record Recorded (bytes : List ℕ) (row : Row) : Type 0 where
@@ -30,7 +19,7 @@ pub record Recorded (bytes : List ℕ) (row : Row) : Type 0 where
 pub data WriteRight (bytes before after : List ℕ) : Outcome → Type 0 where
   -- "Success writes what it needs at the front of an output, the rest untouched, and tells how many values"
   writes : {row : Row} → Recorded bytes row → length (join row) ≤ length before → after ≡ join row ++ drop (length (join row)) before
-      → WriteRight bytes before after (written (length (join row)))
+      → WriteRight bytes before after (accepts (length (join row)))
   -- 6: "records no reader yields, or over 64 values when written"; place 0; a refusal "writes nothing"
   no-such-row : ((row : Row) → Recorded bytes row → ⊥) → after ≡ before → WriteRight bytes before after (refuses 6 0)
   -- 5: "lent output too short"; place: "values or bytes needed"

@@ -1,24 +1,20 @@
 // The writer: the word that a row of syllable records gives, seven bytes a syllable in word order.
+use refusals::Counted;
 use refusals::Refusal;
-ghost use Rattle.writing.specs.Write.{outcomeOf, WriteRight};
+ghost use Rattle.refusals.specs.Outcome.{outcomeOf};
+ghost use Rattle.writing.specs.Write.{WriteRight};
 
 mod row; // row.rt: the passes over the records
 
-// How many values were written, or why none was.
-pub enum WriteAnswer {
-    Written(usize),
-    Refused(Refusal),
-}
-
-// Writes the word of the records to the front of the output; with refusal 6 or 5 nothing is written.
-pub fn write(records: &[u8], output: &mut [u16]) -> WriteAnswer
+// Writes the word of the records to the front of the output, and tells how many values that is; with refusal 6 or 5 nothing is written.
+pub fn write(records: &[u8], output: &mut [u16]) -> Counted
     ensures { λ r. ⌜ WriteRight (now (records .entry)) (now (output .entry)) (now (output .exit)) (outcomeOf r) ⌝ }
 {
     let row::Size::Values(count) = row::measure(records) else {
-        return WriteAnswer::Refused(Refusal::NoSuchRow);
+        return Counted::Refused(Refusal::NoSuchRow);
     };
     if output.len() < count {
-        return WriteAnswer::Refused(Refusal::OutputTooShort(count));
+        return Counted::Refused(Refusal::OutputTooShort(count));
     }
-    WriteAnswer::Written(row::put_row(records, output))
+    Counted::Count(row::put_row(records, output))
 }

@@ -5,8 +5,9 @@ use mathlib.Core.List.{List}
 use Prim.Native.Nat.{ℕ}
 use borrow.Author.Needs.{needs}
 use Rattle.formula.proofs.Held.{held-front, held-fits, held-length}
-use Rattle.recogniser.specs.Answer.{outcomeOf, Answers}
-use Rattle.recogniser.specs.declared.answer.ReadAnswer.{ReadAnswer}
+use Rattle.refusals.specs.Outcome.{outcomeOf}
+use Rattle.refusals.specs.declared.Counted.{Counted}
+use Rattle.recogniser.specs.Answer.{Answers}
 use Rattle.storage.specs.Stored.{storedForm}
 use Rattle.normaliser.specs.Normal.{too-long, StoreAnswers, WordFor, NormalRight}
 use Rattle.normaliser.proofs.Storing.{word-admissible, refused-right}
@@ -54,7 +55,7 @@ returns-2 c =
     (record {
       answers =
           refused-right word (s .before .if1 .left) (k .before .answer .given .0 .0) (c .before .as-handed-in .result)
-          (subst (λ (w : ReadAnswer). Answers (storedForm word) (outcomeOf w)) (k .before .answer .given .1) r) (c .before .as-handed-in .ensures);
+          (subst (λ (w : Counted). Answers (storedForm word) (outcomeOf w)) (k .before .answer .given .1) r) (c .before .as-handed-in .ensures);
       held = refl;
     })
 
@@ -68,12 +69,12 @@ returns-3 c =
     let word = s .before .before .before .args .word .now in
     let r = subst (λ (l : List ℕ). Answers l (outcomeOf (a .answer-of .result))) (held-front (s .stored .result) (storedForm word) (s .stored .ensures)) (a .answer-of .ensures) in
     let e = c .enum-told .given .1 in
-    let q = subst (λ (w : ReadAnswer). Answers (storedForm word) (outcomeOf w)) e r in
+    let q = subst (λ (w : Counted). Answers (storedForm word) (outcomeOf w)) e r in
     record {
       answers =
-          subst (λ (w : ReadAnswer). StoreAnswers word (outcomeOf w)) (sym e)
+          subst (λ (w : Counted). StoreAnswers word (outcomeOf w)) (sym e)
           (record { admissible = word-admissible word (s .before .if1 .left) (q .admissible); reads = q });
-      held = subst (λ (w : ReadAnswer). WordFor word (outcomeOf w) (s .stored .result)) (sym e) (s .stored .ensures);
+      held = subst (λ (w : Counted). WordFor word (outcomeOf w) (s .stored .result)) (sym e) (s .stored .ensures);
     }
 
 pub normal-form-spec : {M : Type 1} → statement M

@@ -7,10 +7,11 @@ use native.Mathlib.Omega.{arith}
 use lib.ListN.{length}
 use lib.Seq.{length-take-le}
 use borrow.Author.Needs.{needs}
-use Rattle.recogniser.specs.Answer.{outcomeOf, Readable, RowTest}
-use Rattle.recogniser.specs.declared.answer.ReadAnswer.{ReadAnswer}
+use Rattle.refusals.specs.Outcome.{outcomeOf}
+use Rattle.refusals.specs.declared.Counted.{Counted}
+use Rattle.recogniser.specs.Answer.{Readable, RowTest}
 use Rattle.storage.proofs.Rows.{gives-stored}
-use Rattle.normaliser.specs.Normal.{StoreAnswers, word-refused, normaliseOutcomeOf}
+use Rattle.normaliser.specs.Normal.{StoreAnswers, word-refused}
 use Rattle.normaliser.proofs.Storing.{stores, held-limit, held-room, held-values, readable-stores, put-right}
 use Rattle.normaliser.proofs.normalise.Statement.{statement}
 use Rattle.normaliser.proofs.normalise.Tie as tie
@@ -34,7 +35,7 @@ returns c =
     let a = p .before .before .before in
     let word = a .before .before .before .args .word .now in
     let readable : Readable word = subst (RowTest word) (p .before .before .if1 .taken) (a .is-row .ensures) in
-    put-right word word (a .before .before .before .args .output .now) _ (length (readable .row)) (normaliseOutcomeOf (p .put-out .result)) (readable-stores word readable)
+    put-right word word (a .before .before .before .args .output .now) _ (length (readable .row)) (outcomeOf (p .put-out .result)) (readable-stores word readable)
     (sym (gives-stored (readable .row) word (readable .gives))) (p .put-out .ensures)
 
 normal-form-requires : tie.Need-normal-form-requires
@@ -47,7 +48,7 @@ returns-2 : tie.Need-returns-2
 returns-2 c =
     let a = c .before .before .before in
     let word = a .before .before .before .before .before .args .word .now in
-    word-refused (subst (λ (w : ReadAnswer). StoreAnswers word (outcomeOf w)) (c .before .answer .given .1) (a .normal-form .ensures .answers)) refl
+    word-refused (subst (λ (w : Counted). StoreAnswers word (outcomeOf w)) (c .before .answer .given .1) (a .normal-form .ensures .answers)) refl
 
 enum-told : tie.Need-enum-told
 enum-told c = search needs
@@ -84,7 +85,7 @@ returns-3 c =
     let a = e .before .before in
     let word = a .before .before .before .before .before .args .word .now in
     let n = e .enum-told .given .0 .0 in
-    put-right word _ (a .before .before .before .before .before .args .output .now) _ n (normaliseOutcomeOf (p .put-out2 .result))
+    put-right word _ (a .before .before .before .before .before .args .output .now) _ n (outcomeOf (p .put-out2 .result))
     (stores word (a .normal-form .result) (a .normal-form .ensures) n (e .enum-told .given .1))
     (held-values word (a .normal-form .result) (a .normal-form .ensures) n (e .enum-told .given .1)) (p .put-out2 .ensures)
 

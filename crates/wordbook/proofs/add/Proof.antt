@@ -7,11 +7,12 @@ use Prim.Native.Nat.{ℕ}
 use lib.ListN.{length}
 use denote.Ref.{now}
 use Rattle.refusals.specs.Refusal.{numberOf, placeOf}
+use Rattle.refusals.specs.Outcome.{outcomeOf}
 use Rattle.storage.specs.Stored.{storedForm}
 use Rattle.entries.specs.Entries.{entries}
 use Rattle.wordbook.specs.declared.enter.EnterAnswer.{EnterAnswer}
 use Rattle.entries.specs.Change.{Storable}
-use Rattle.lookup.specs.Outcome.{placedOutcome, addOf}
+use Rattle.lookup.specs.Outcome.{addOf}
 use Rattle.keeping.specs.Written.{AddRight}
 use Rattle.wordbook.specs.Calls.{WordRefused, HeldForm, EnteredFor, CallAnswers, word-refused, word-stored}
 use Rattle.wordbook.proofs.Stored.{stored-storable, form-front, form-fits, form-length}
@@ -61,7 +62,7 @@ returns-2 c =
     let t = c .before .before .before .before .before .before .before in
     let s = t .before .before .before .before .before .args in
     let h = form t in
-    let outcome = placedOutcome (c .before .before .add .result) in
+    let outcome = outcomeOf (c .before .before .add .result) in
     let r : AddRight (storedForm (now (s .word))) (s .stock) (now (s .book)) (c .before .before .add .last .0) outcome =
     subst (λ (w : List ℕ). AddRight w (s .stock) (now (s .book)) (c .before .before .add .last .0) outcome) (form-front h) (c .before .before .add .ensures) in
     record {

@@ -3,16 +3,17 @@
 use borrow.Author.Needs.{needs}
 use mathlib.Core.Path.{_≡_, refl, sym, ap, _∙_}
 use denote.Ref.{now}
+use Rattle.refusals.specs.Outcome.{Outcome, accepts, refuses}
 use Rattle.entries.specs.Entries.{Entries, book, wrong, entries}
 use Rattle.opening.specs.Opening.{openingOf}
 use Rattle.opening.specs.declared.open.Opening.{Opening}
 use Rattle.opening.specs.declared.open.Opening.the-variants.{Book, Wrong}
-use Rattle.lookup.specs.Outcome.{Outcome, counts, refuses, checkOf}
+use Rattle.lookup.specs.Outcome.{checkOf}
 use Rattle.wordbook.proofs.check.Statement.{statement}
 use Rattle.wordbook.proofs.check.Tie as tie
 
 abbrev checkBy : Opening → Outcome
-checkBy (Book live free) = counts live
+checkBy (Book live free) = accepts live
 checkBy (Wrong place) = refuses 11 place
 
 check-by : (e : Entries) → checkBy (openingOf e) ≡ checkOf e

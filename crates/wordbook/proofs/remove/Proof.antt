@@ -6,10 +6,11 @@ use mathlib.Core.List.{List}
 use Prim.Native.Nat.{ℕ}
 use denote.Ref.{now}
 use Rattle.refusals.specs.Refusal.{numberOf, placeOf}
+use Rattle.refusals.specs.Outcome.{outcomeOf}
 use Rattle.storage.specs.Stored.{storedForm}
 use Rattle.entries.specs.Entries.{entries}
 use Rattle.wordbook.specs.declared.enter.EnterAnswer.{EnterAnswer}
-use Rattle.lookup.specs.Outcome.{placedOutcome, removeOf}
+use Rattle.lookup.specs.Outcome.{removeOf}
 use Rattle.keeping.specs.Written.{RemoveRight}
 use Rattle.wordbook.specs.Calls.{WordRefused, HeldForm, EnteredFor, CallAnswers, word-refused, word-stored}
 use Rattle.wordbook.proofs.Stored.{form-front, form-fits, form-length}
@@ -57,7 +58,7 @@ returns-2 c =
     let t = c .before .before .before .before .before .before .before in
     let s = t .before .before .before .before .before .args in
     let h = form t in
-    let outcome = placedOutcome (c .before .before .remove .result) in
+    let outcome = outcomeOf (c .before .before .remove .result) in
     let r : RemoveRight (storedForm (now (s .word))) (now (s .book)) (c .before .before .remove .last .0) outcome =
     subst (λ (w : List ℕ). RemoveRight w (now (s .book)) (c .before .before .remove .last .0) outcome) (form-front h) (c .before .before .remove .ensures) in
     record {

@@ -2,8 +2,8 @@
 -- Assumes nothing.
 use mathlib.Core.Path.{refl, sym, subst}
 use borrow.Author.Needs.{needs}
-use Rattle.recogniser.specs.Answer.{outcomeOf}
-use Rattle.recogniser.specs.declared.answer.ReadAnswer.{ReadAnswer}
+use Rattle.refusals.specs.Outcome.{outcomeOf}
+use Rattle.refusals.specs.declared.Counted.{Counted}
 use Rattle.weighing.specs.Keys.{keyLimit, zeros}
 use Rattle.collation.specs.Keyed.{KeyFor}
 use Rattle.collation.proofs.Weighing.{weighed-key}
@@ -22,7 +22,7 @@ returns c =
     let word = a .before .before .before .args .word .now in
     record {
       answers = a .weigh .ensures .answers;
-      bytes = subst (λ (w : ReadAnswer). KeyFor word (outcomeOf w) (zeros keyLimit)) (sym (c .enum-told .given .1)) refl;
+      bytes = subst (λ (w : Counted). KeyFor word (outcomeOf w) (zeros keyLimit)) (sym (c .enum-told .given .1)) refl;
     }
 
 enum-told-2 : tie.Need-enum-told-2

@@ -7,11 +7,11 @@ use Rattle.interface.proofs.books.jogcairn_book_check.Tie as tie
 check-requires : tie.Need-check-requires
 check-requires c κs = search needs
 
-of-check-requires : tie.Need-of-check-requires
-of-check-requires c κs = search needs
+of-counted-requires : tie.Need-of-counted-requires
+of-counted-requires c κs = search needs
 
 returns : tie.Need-returns
-returns c = rw (← c .before .check .ensures) (c .of-check .ensures)
+returns c = rw (← c .before .check .ensures) (c .of-counted .ensures)
 
 pub jogcairn-book-check-spec : {M : Type 1} → statement M
-jogcairn-book-check-spec = tie.close (tie.spec check-requires of-check-requires returns)
+jogcairn-book-check-spec = tie.close (tie.spec check-requires of-counted-requires returns)

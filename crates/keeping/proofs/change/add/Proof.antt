@@ -8,11 +8,12 @@ use native.Mathlib.Omega.{arith}
 use lib.ListN.{length}
 use lib.Seq.{paste}
 use denote.Ref.{now}
+use Rattle.refusals.specs.Outcome.{accepts, outcomeOf}
+use Rattle.refusals.specs.declared.Counted.{Counted}
 use Rattle.entries.specs.Entries.{entries}
 use Rattle.entries.specs.Book.{byteOf}
-use Rattle.lookup.specs.Outcome.{places, placedOutcome, addOf}
+use Rattle.lookup.specs.Outcome.{addOf}
 use Rattle.lookup.specs.Look.{PlacedRight}
-use Rattle.lookup.specs.declared.plan.Placed.{Placed}
 use Rattle.keeping.proofs.Fitting.{added-room}
 use Rattle.keeping.proofs.Words.{written}
 use Rattle.keeping.proofs.change.add.Statement.{statement}
@@ -23,10 +24,10 @@ start-of c = c .before .before .before .before .before .before .before
 
 -- the plan has a place
 planned : (c : tie.After-known-told) → let s = start-of c .args in
-    PlacedRight (now (s .book)) (addOf (entries (now (s .book))) (length (now (s .book))) (now (s .word))) (places (c .before .plan .given .0 .0))
+    PlacedRight (now (s .book)) (addOf (entries (now (s .book))) (length (now (s .book))) (now (s .word))) (accepts (c .before .plan .given .0 .0))
 planned c =
     let s = start-of c .args in
-    subst (λ (p : Placed). PlacedRight (now (s .book)) (addOf (entries (now (s .book))) (length (now (s .book))) (now (s .word))) (placedOutcome p)) (c .before .plan .given .1)
+    subst (λ (p : Counted). PlacedRight (now (s .book)) (addOf (entries (now (s .book))) (length (now (s .book))) (now (s .word))) (outcomeOf p)) (c .before .plan .given .1)
     (c .before .before .before .plan-add .ensures)
 
 room : (c : tie.After-known-told) → let s = start-of c .args in c .before .plan .given .0 .0 + 7 + length (now (s .word)) ≤ length (now (s .book))

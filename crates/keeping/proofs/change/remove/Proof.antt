@@ -4,19 +4,20 @@ use borrow.Author.Needs.{needs}
 use mathlib.Core.Path.{refl, subst}
 use native.Mathlib.Omega.{arith}
 use denote.Ref.{now}
+use Rattle.refusals.specs.Outcome.{accepts, outcomeOf}
+use Rattle.refusals.specs.declared.Counted.{Counted}
 use Rattle.entries.specs.Entries.{entries}
-use Rattle.lookup.specs.Outcome.{places, placedOutcome, removeOf}
+use Rattle.lookup.specs.Outcome.{removeOf}
 use Rattle.lookup.specs.Look.{PlacedRight}
-use Rattle.lookup.specs.declared.plan.Placed.{Placed}
 use Rattle.keeping.proofs.change.remove.Statement.{statement}
 use Rattle.keeping.proofs.change.remove.Tie as tie
 
 -- the plan has a place
 planned : (c : tie.After-known-told) → let s = c .before .before .before .before .before .before .before .args in
-    PlacedRight (now (s .book)) (removeOf (entries (now (s .book))) (now (s .word))) (places (c .before .plan .given .0 .0))
+    PlacedRight (now (s .book)) (removeOf (entries (now (s .book))) (now (s .word))) (accepts (c .before .plan .given .0 .0))
 planned c =
     let s = c .before .before .before .before .before .before .before .args in
-    subst (λ (p : Placed). PlacedRight (now (s .book)) (removeOf (entries (now (s .book))) (now (s .word))) (placedOutcome p)) (c .before .plan .given .1)
+    subst (λ (p : Counted). PlacedRight (now (s .book)) (removeOf (entries (now (s .book))) (now (s .word))) (outcomeOf p)) (c .before .plan .given .1)
     (c .before .before .before .plan-remove .ensures)
 
 plan-remove-requires : tie.Need-plan-remove-requires

@@ -5,9 +5,10 @@ use Prim.Native.Nat.{_-_, _≤_}
 use native.Mathlib.Omega.{arith}
 use lib.ListN.{length, getD}
 use borrow.Author.Needs.{needs}
+use Rattle.refusals.specs.Outcome.{outcomeOf}
 use Rattle.transitions.specs.Tables.{entryOf, entryBy}
 use Rattle.transitions.proofs.Entered.{next-entry}
-use Rattle.recogniser.specs.Answer.{outcomeOf, too-long}
+use Rattle.recogniser.specs.Answer.{too-long}
 use Rattle.keying.specs.Filling.{Filled}
 use Rattle.keying.proofs.Passing.{at-start, small, sized, refused, fits, some-left, next, stopped-short, key-short, stopped-end, key-whole, size-whole}
 use Rattle.keying.proofs.fill.fill.Statement.{statement}

@@ -3,8 +3,9 @@
 use mathlib.Core.Path.{subst}
 use native.Mathlib.Omega.{arith}
 use borrow.Author.Needs.{needs}
-use Rattle.recogniser.specs.Answer.{outcomeOf, Answers, Reads, too-long}
-use Rattle.recogniser.specs.declared.answer.ReadAnswer.{ReadAnswer}
+use Rattle.refusals.specs.Outcome.{outcomeOf}
+use Rattle.refusals.specs.declared.Counted.{Counted}
+use Rattle.recogniser.specs.Answer.{Answers, Reads, too-long}
 use Rattle.recogniser.proofs.Counted.{count-limit}
 use Rattle.reading.proofs.Parted.{from-to, part-placed}
 use Rattle.reading.proofs.parts.part_place.Statement.{statement}
@@ -14,7 +15,7 @@ use Rattle.reading.proofs.parts.part_place.Tie as tie
 reads : (c : tie.After-known-told2) → Reads (c .before .before .before .before .before .before .before .args .word .now) (c .before .answer2 .given .0 .0)
 reads c =
     let a = c .before .before .before in
-    subst (λ (w : ReadAnswer). Answers (a .before .before .before .before .args .word .now) (outcomeOf w)) (c .before .answer2 .given .1) (a .conclude .ensures)
+    subst (λ (w : Counted). Answers (a .before .before .before .before .args .word .now) (outcomeOf w)) (c .before .answer2 .given .1) (a .conclude .ensures)
 
 returns : tie.Need-returns
 returns c = too-long (c .if1 .taken)
@@ -31,7 +32,7 @@ enum-known-answer c = search needs
 returns-2 : tie.Need-returns-2
 returns-2 c =
     let a = c .before .before .before in
-    subst (λ (w : ReadAnswer). Answers (a .before .before .before .before .args .word .now) (outcomeOf w)) (c .before .answer .given .1) (a .conclude .ensures)
+    subst (λ (w : Counted). Answers (a .before .before .before .before .args .word .now) (outcomeOf w)) (c .before .answer .given .1) (a .conclude .ensures)
 
 enum-known-answer-2 : tie.Need-enum-known-answer-2
 enum-known-answer-2 c = search needs

@@ -2,8 +2,9 @@
 -- Assumes nothing.
 use mathlib.Core.Path.{refl, sym, subst}
 use borrow.Author.Needs.{needs}
-use Rattle.recogniser.specs.Answer.{outcomeOf, too-long, Answers}
-use Rattle.recogniser.specs.declared.answer.ReadAnswer.{ReadAnswer}
+use Rattle.refusals.specs.Outcome.{outcomeOf}
+use Rattle.refusals.specs.declared.Counted.{Counted}
+use Rattle.recogniser.specs.Answer.{too-long, Answers}
 use Rattle.reading.specs.Reading.{SyllablesFor, ReadRight}
 use Rattle.reading.proofs.Stopped.{syllables-right}
 use Rattle.reading.proofs.read.read.Statement.{statement}
@@ -34,7 +35,7 @@ returns-2 c =
     let word = c .before .before .before .before .before .before .before .before .args .word .now in
     subst (ReadRight word) (sym (c .refused2 .ensures))
     (record {
-      answers = subst (λ (a : ReadAnswer). Answers word (outcomeOf a)) (c .before .before .answer .given .1) (c .before .before .before .before .conclude .ensures);
+      answers = subst (λ (a : Counted). Answers word (outcomeOf a)) (c .before .before .answer .given .1) (c .before .before .before .before .conclude .ensures);
       syllables = refl;
     })
 
@@ -50,9 +51,9 @@ returns-3 c =
     record {
       answers = a .conclude .ensures;
       syllables =
-          subst (λ (r : ReadAnswer). SyllablesFor word (outcomeOf r) (scan .syllables)) (sym e)
+          subst (λ (r : Counted). SyllablesFor word (outcomeOf r) (scan .syllables)) (sym e)
           (syllables-right word (scan .at) (scan .window) (a .before .scan-word .ensures .stopped) (c .before .enum-told .given .0 .0)
-          (subst (λ (r : ReadAnswer). Answers word (outcomeOf r)) e (a .conclude .ensures)) (scan .syllables) (a .before .scan-word .ensures .whole));
+          (subst (λ (r : Counted). Answers word (outcomeOf r)) e (a .conclude .ensures)) (scan .syllables) (a .before .scan-word .ensures .whole));
     }
 
 pub read-spec : {M : Type 1} → statement M

@@ -3,8 +3,9 @@
 use mathlib.Core.Path.{refl, sym, subst}
 use native.Mathlib.Omega.{arith}
 use borrow.Author.Needs.{needs}
-use Rattle.recogniser.specs.Answer.{outcomeOf, Answers}
-use Rattle.recogniser.specs.declared.answer.ReadAnswer.{ReadAnswer}
+use Rattle.refusals.specs.Outcome.{outcomeOf}
+use Rattle.refusals.specs.declared.Counted.{Counted}
+use Rattle.recogniser.specs.Answer.{Answers}
 use Rattle.recogniser.proofs.Counted.{count-limit}
 use Rattle.reading.specs.Records.{RecordRight}
 use Rattle.reading.proofs.Recorded.{reads, has-record}
@@ -62,15 +63,17 @@ returns-2 c =
     let a = c .before .before .before .before in
     let s = a .before .before .args in
     subst (RecordRight (s .word .now) (s .number)) (sym (c .without-record .ensures))
-    (record { refused = subst (λ (r : ReadAnswer). Answers (s .word .now) (outcomeOf r)) (c .before .before .answer .given .1) (a .read .ensures .answers); is = refl })
+    (record { refused = subst (λ (r : Counted). Answers (s .word .now) (outcomeOf r)) (c .before .before .answer .given .1) (a .read .ensures .answers); is = refl })
 
 returns-3 : tie.Need-returns-3
 returns-3 c =
     let e = c .before .before .before in
     let a = e .before .before .before .before in
-    let s = a .before .before .args in
-    has-record (s .word .now) (a .read .result) (a .read .ensures) (e .before .before .answer2 .given .0 .0) (e .before .before .answer2 .given .1) (s .number) (e .if1 .left)
-    _ (c .bytes-of .result) (c .bytes-of .ensures)
+    let s = a .before .before .args in (
+      refl,
+      has-record (s .word .now) (a .read .result) (a .read .ensures) (e .before .before .answer2 .given .0 .0) (e .before .before .answer2 .given .1) (s .number) (e .if1 .left)
+          _ (c .bytes-of .result) (c .bytes-of .ensures),
+    )
 
 pub record-at-spec : {M : Type 1} → statement M
 record-at-spec =

@@ -6,8 +6,8 @@ use native.Mathlib.Omega.{arith}
 use Prim.Native.Nat.{_≤_}
 use lib.ListN.{length}
 use denote.Ref.{now}
-use Rattle.recogniser.specs.Answer.{outcomeOf}
-use Rattle.recogniser.specs.declared.answer.ReadAnswer.{ReadAnswer}
+use Rattle.refusals.specs.Outcome.{outcomeOf}
+use Rattle.refusals.specs.declared.Counted.{Counted}
 use Rattle.normaliser.specs.Normal.{StoreAnswers, WordFor}
 use Rattle.wordbook.specs.Calls.{empty, refused}
 use Rattle.wordbook.proofs.enter.enter.Statement.{statement}
@@ -32,7 +32,7 @@ returns-2 : tie.Need-returns-2
 returns-2 c =
     let n = c .before .before .before .before in
     let word = now (n .before .before .before .args .word) in
-    refused (some (n .before)) (subst (λ (a : ReadAnswer). StoreAnswers word (outcomeOf a)) (c .before .answer .given .1) (n .normal-form .ensures .answers))
+    refused (some (n .before)) (subst (λ (a : Counted). StoreAnswers word (outcomeOf a)) (c .before .answer .given .1) (n .normal-form .ensures .answers))
 
 enum-told : tie.Need-enum-told
 enum-told c = search needs
@@ -46,9 +46,9 @@ returns-3 c =
           record {
             some = some (n .before);
             syllables = c .enum-told .given .0 .0;
-            stores = subst (λ (a : ReadAnswer). StoreAnswers word (outcomeOf a)) (c .enum-told .given .1) (n .normal-form .ensures .answers);
+            stores = subst (λ (a : Counted). StoreAnswers word (outcomeOf a)) (c .enum-told .given .1) (n .normal-form .ensures .answers);
           };
-      held-is = subst (λ (a : ReadAnswer). WordFor word (outcomeOf a) (n .normal-form .result .word)) (c .enum-told .given .1) (n .normal-form .ensures .held);
+      held-is = subst (λ (a : Counted). WordFor word (outcomeOf a) (n .normal-form .result .word)) (c .enum-told .given .1) (n .normal-form .ensures .held);
     }
 
 pub enter-spec : {M : Type 1} → statement M

@@ -1,8 +1,8 @@
--- `packing::of_writing` meets its contract: each arm packs the numbers of its answer.
+-- `packing::of_counted` meets its contract: each arm packs the numbers of its answer.
 -- Assumes nothing.
 use borrow.Author.Needs.{needs}
-use Rattle.packing.proofs.of_writing.Statement.{statement}
-use Rattle.packing.proofs.of_writing.Tie as tie
+use Rattle.packing.proofs.of_counted.Statement.{statement}
+use Rattle.packing.proofs.of_counted.Tie as tie
 
 enum-known-answer : tie.Need-enum-known-answer
 enum-known-answer c = search needs
@@ -22,8 +22,8 @@ returns c = rw (c .before .before .answer .given .1) (c .packed .ensures)
 returns-2 : tie.Need-returns-2
 returns-2 c = rw (c .before .before .answer2 .given .1) (c .refused .ensures)
 
-pub of-writing-spec : {M : Type 1} → statement M
-of-writing-spec =
+pub of-counted-spec : {M : Type 1} → statement M
+of-counted-spec =
     tie.close
     (tie.spec
     enum-known-answer
