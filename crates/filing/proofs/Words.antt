@@ -1,54 +1,55 @@
--- A readable word is read as its row, so the weights of the syllables that are read are those of its key.
+-- A readable word is filled as its row, so the used bytes of its key are the weights of the row.
 -- Assumes nothing.
 use mathlib.Core.Path.{_≡_, sym, ap, subst, _∙_}
 use mathlib.Core.List.{List, _∷_}
-use Prim.Native.Nat.{ℕ, _≤_}
+use Prim.Native.Nat.{ℕ, _-_, _≤_}
+use native.Mathlib.Omega.{arith}
 use lib.ListN.{length, take}
+use lib.Seq.{take-at}
 use Rattle.formula.specs.Limits.{limit}
-use Rattle.formula.specs.Syllable.{no-final}
 use Rattle.formula.specs.Row.{Gives}
 use Rattle.refusals.specs.Refusal.{numberOf, placeOf}
 use Rattle.refusals.specs.Outcome.{outcomeOf}
 use Rattle.refusals.specs.declared.Refusal.{Refusal}
+use Rattle.recogniser.specs.Answer.{Reads, Answers, Readable}
 use Rattle.refusals.specs.declared.Counted.{Counted}
 use Rattle.refusals.specs.declared.Counted.the-variants.{Count, Refused}
-use Rattle.recogniser.specs.Answer.{Reads, Answers, Readable}
-use Rattle.reading.specs.Reading.{ReadRight}
-use Rattle.reading.specs.declared.read.Reading.{Reading}
-use Rattle.recogniser.proofs.Answered.{refused-no-row}
+use Rattle.recogniser.proofs.Answered.{refused-unreadable}
 use Rattle.recogniser.proofs.Counted.{count-limit}
-use Rattle.reading.proofs.Recorded.{count-of-row, front-of-row, places-of-row, reads, syllables}
-use Rattle.weighing.specs.Keys.{keyOf, keyBy}
-use Rattle.weighing.proofs.Joined.{key-of-row}
+use Rattle.weighing.specs.Keys.{usedBytes, keyLimit, zeros, keyOf}
+use Rattle.weighing.proofs.Laws.{key-used}
+use Rattle.keying.specs.Filled.{KeyIfRead, FillRight}
 use Rattle.filing.specs.Filing.{rowOf, keptKey}
 use Rattle.filing.proofs.Rows.{row-gives}
 
-module _ (word : List ℕ) (readable : Readable word) (r : Reading) (right : ReadRight word r) where
-  pub not-refused : (refusal : Refusal) → r .answer ≡ Refused refusal → ⊥
+module _ (word : List ℕ) (readable : Readable word) (answer : Counted) (key : List ℕ) (right : FillRight word answer key) where
+  pub not-refused : (refusal : Refusal) → answer ≡ Refused refusal → ⊥
   not-refused refusal e =
-      refused-no-row word (numberOf refusal) (placeOf refusal) (subst (λ (a : Counted). Answers word (outcomeOf a)) e (right .answers))
-      (readable .admissible) (readable .row) (readable .gives)
+      refused-unreadable word (numberOf refusal) (placeOf refusal) (subst (λ (a : Counted). Answers word (outcomeOf a)) e (right .answers)) readable
 
-  module _ (n : ℕ) (e : r .answer ≡ Count n) where
-    has : Reads word n
-    has = reads word r right n e
+  module _ (n : ℕ) (e : answer ≡ Count n) where
+    reads : Reads word n
+    reads = subst (λ (a : Counted). Answers word (outcomeOf a)) e (right .answers)
 
     gives : Gives (rowOf word) word
     gives = row-gives word readable
 
-    pub read-few : n ≤ limit
-    read-few = count-limit word n has
+    pub filled-few : n ≤ limit
+    filled-few = count-limit word n reads
 
-    pub read-places : length (r .syllables) ≡ limit
-    read-places = places-of-row word n has (r .syllables) (syllables word r right n e)
+    -- the used bytes are within the key
+    pub filled-room : usedBytes n ≤ length key
+    filled-room = let h = filled-few in omega (arith, right .size)
 
-    pub read-count : n ≡ length (rowOf word)
-    read-count = sym (count-of-row word n has (r .syllables) (syllables word r right n e) (rowOf word) gives)
+    pub filled-count : n ≡ length (rowOf word)
+    filled-count = sym (ap length (reads .only (rowOf word) gives) ∙ reads .count)
 
-    pub read-key : n ∷ keyBy (take n (r .syllables)) ≡ keptKey (rowOf word)
+    pub filled-key : n ∷ take (usedBytes n) key ≡ keptKey (rowOf word)
     unfolding keptKey
-    read-key =
-        let weights : keyBy (take n (r .syllables)) ≡ keyOf (rowOf word) =
-        ap keyBy (front-of-row word n has (r .syllables) (syllables word r right n e) (rowOf word) gives)
-        ∙ key-of-row no-final (rowOf word) (gives .is-row) in
-        λ i. read-count i ∷ weights i
+    filled-key =
+        let row = rowOf word in
+        let filled = subst (λ (a : Counted). KeyIfRead word (outcomeOf a) key) e (right .key) row gives in
+        let weights : take (usedBytes n) key ≡ keyOf row =
+        ap (take (usedBytes n)) filled
+        ∙ take-at (keyOf row) (zeros (keyLimit - usedBytes (length row))) (usedBytes n) (key-used row ∙ ap usedBytes (sym filled-count)) in
+        λ i. filled-count i ∷ weights i

@@ -2,11 +2,8 @@
 use book_frame::has_mark;
 use book_frame::values_of;
 use book_frame::wide;
-use formula::Syllable;
-use formula::Word;
-use reading::read::read;
+use keying::fill::fill;
 use refusals::Counted;
-use weighing::weigh::put_weights;
 ghost use mathlib.Core.Path.{_≡_};
 ghost use mathlib.Core.List.{_∷_};
 ghost use Prim.Native.Nat.{_+_, _*_, _≤_, _<_};
@@ -15,7 +12,7 @@ ghost use lib.ListN.{length, take};
 ghost use lib.Seq.{sets};
 ghost use Rattle.formula.specs.Limits.{limit};
 ghost use Rattle.recogniser.specs.Answer.{Readable};
-ghost use Rattle.weighing.specs.Keys.{keyBy};
+ghost use Rattle.weighing.specs.Keys.{usedBytes};
 ghost use Rattle.entries.specs.Limits.{bookLimit};
 ghost use Rattle.entries.specs.Entries.{wordAt, isFramed};
 ghost use Rattle.entries.specs.Book.{Opened};
@@ -43,15 +40,16 @@ fn start_of(at: usize) -> u16
     at as u16
 }
 
-// Puts the number of syllables and their weights at a place.
-fn put_key(keys: &mut [u8], from: usize, syllables: [Syllable; Word::LIMIT], count: usize)
-    requires { ⌜ (count ≤ limit) × (length syllables ≡ limit) × (from + (1 + 5 * count) ≤ length (now keys)) × (length (now keys) ≡ keyRoom) ⌝ }
-    ensures { λ _. ⌜ now (keys .exit) ≡ sets (now (keys .entry)) from (count ∷ keyBy (take count syllables)) ⌝ }
+// Puts the number of syllables and the used bytes of a key at a place.
+fn put_key(keys: &mut [u8], from: usize, key: &[u8], count: usize)
+    requires { ⌜ (count ≤ limit) × (usedBytes count ≤ length (now key)) × (from + (1 + usedBytes count) ≤ length (now keys)) × (length (now keys) ≡ keyRoom) ⌝ }
+    ensures { λ _. ⌜ now (keys .exit) ≡ sets (now (keys .entry)) from (count ∷ take (usedBytes count) (now (key .entry))) ⌝ }
 {
     keys[from] = count_byte(count);
+    let used = 5 * count;
     let mut next = 0;
-    while next < count {
-        put_weights(keys, from + 1 + 5 * next, syllables[next]);
+    while next < used {
+        keys[from + 1 + next] = key[next];
         next += 1;
     }
 }
@@ -63,11 +61,10 @@ fn keep_key(book: &[u8], at: usize, keys: &mut [u8])
 {
     let count = wide(book[at + 2]);
     let values = values_of(book, at + 7, count);
-    let reading = read(&values[..count]);
-    let answer = reading.answer;
-    let syllables = reading.syllables;
+    let mut key = [0; 320];
+    let answer = fill(&values[..count], &mut key);
     if let Counted::Count(number) = answer {
-        put_key(keys, 5 * at, syllables, number);
+        put_key(keys, 5 * at, &key, number);
     }
 }
 
