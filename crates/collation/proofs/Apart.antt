@@ -1,29 +1,27 @@
 -- The first heads of two rows tell their order where they weigh differently: the head's weight is the first that is compared.
 -- Assumes nothing.
 use mathlib.Core.Path.{_≡_, refl, ap, sym, subst, _∙_}
-use mathlib.Core.Bool.{Bool, true, false}
+use mathlib.Core.Bool.{Bool, true, false, _||_}
 use mathlib.Core.List.{List, [], _∷_}
 use mathlib.Core.Logic.{inl, inr}
-use Prim.Native.Nat.{ℕ}
+use Prim.Native.Nat.{ℕ, _+_, _-_}
 use native.Mathlib.Omega.{arith}
 use types.Run.{OneOf}
 use denote.Enum.Declared.{tagOf}
-use lib.Dec.{T}
 use lib.ListN.{length, getD}
 use Rattle.letters.specs.Choice.{pick}
-use Rattle.letters.specs.Weights.{isHead, headWeight, headWeighed}
+use Rattle.letters.specs.Letters.{isConsonant, isIndependentVowel, isDigit, isStop, isSign}
+use Rattle.letters.specs.Weights.{headWeight, headWeighed}
+use Rattle.letters.specs.declared.weight.Weighed.{Weighed}
 use Rattle.letters.specs.declared.weight.Weighed.the-variants.{Weight, Nothing}
-use Rattle.formula.specs.Syllable.{no-final, Syllable, syllable, headOf, isSyllable}
-use Rattle.formula.specs.Row.{Row, Gives, IsRow, join}
+use Rattle.formula.specs.Syllable.{syllable}
+use Rattle.formula.specs.Row.{Row, Gives, join}
 use Rattle.formula.specs.Weighing.{weightsOf}
-use Rattle.formula.proofs.Lists.{both-left}
-use Rattle.rows.proofs.Complete.{first}
 use Rattle.recogniser.specs.Answer.{Readable}
 use Rattle.storage.specs.Stored.{storedForm}
 use Rattle.storage.proofs.Rows.{gives-stored}
 use Rattle.normaliser.proofs.Storing.{readable-stores}
 use Rattle.weighing.specs.Order.{inTurn, orderNumbers, orderValues, orderWeights, filed, order}
-use Rattle.weighing.specs.Weighed.{weightOr}
 use Rattle.weighing.specs.declared.order.Order.{Order}
 use Rattle.weighing.specs.declared.order.Order.the-variants.{Less, Equal, Greater}
 use Rattle.weighing.proofs.order.Order.{the-type}
@@ -39,17 +37,30 @@ pub no-head : (word : List ℕ) → length word ≡ 0 → firstHead word ≡ 0
 no-head [] e = refl
 no-head (x ∷ word) e = let z : ⊥ = omega arith in absurd z
 
-pub some-head : (word : List ℕ) (d : ℕ) → (length word ≡ 0 → ⊥) → firstHead word ≡ weightOr (headWeighed (getD word 0 d)) 0
-some-head [] d n = absurd (n refl)
-some-head (x ∷ word) d n = refl
+-- the weight that an answer tells, 0 where it tells none
+abbrev pub told : Weighed → ℕ
+told (Weight n) = n
+told Nothing = 0
 
--- the first value of a row is the head of its first syllable
-head-weighed : (s : Syllable) (row : Row) → T (isSyllable s) → firstHead (join (s ∷ row)) ≡ headWeight (headOf s)
+-- what is no head has the head's weight 0
+told-head : (x : ℕ) → told (headWeighed x) ≡ headWeight x
 unfolding pick
-head-weighed (syllable h m v f t) row is = go (isHead h) (both-left (isHead h) _ is)
+told-head x =
+    go (isConsonant x) (isIndependentVowel x) (isDigit x) (isStop x) (isSign x) (x - 0x1000 + 13) (x - 0x1040 + 3) (x - 0x104A + 1) (x - 0x104C + 47)
   where
-    go : (b : Bool) → T b → weightOr (pick b (Weight (headWeight h)) Nothing) 0 ≡ headWeight h
-    go true u = refl
+    go : (a b c d e : Bool) (k l m n : ℕ)
+        → told (pick (a || (b || (c || (d || e)))) (Weight (pick a k (pick b 46 (pick c l (pick d m (pick e n 0)))))) Nothing)
+        ≡ pick a k (pick b 46 (pick c l (pick d m (pick e n 0))))
+    go true b c d e k l m n = refl
+    go false true c d e k l m n = refl
+    go false false true d e k l m n = refl
+    go false false false true e k l m n = refl
+    go false false false false true k l m n = refl
+    go false false false false false k l m n = refl
+
+pub some-head : (word : List ℕ) (d : ℕ) → (length word ≡ 0 → ⊥) → firstHead word ≡ told (headWeighed (getD word 0 d))
+some-head [] d n = absurd (n refl)
+some-head (x ∷ word) d n = sym (told-head x)
 
 -- an order that is told by its tag not to be equal is not
 apart : {A : Type 0} (o : Order) → OneOf (0 ∷ 2 ∷ []) (tagOf the-type o) → o ≡ Equal → A
@@ -65,28 +76,23 @@ decides o t w x y z e =
     ∙ ap (λ (u : Order). inTurn (inTurn u y) z) (decided o x t) ∙ ap (λ (u : Order). inTurn u z) (decided o y t) ∙ decided o z t
 
 module _ (a b : List ℕ) where
-  heads-order : (row other : Row) → IsRow row → IsRow other → (o : Order) → OneOf (0 ∷ 2 ∷ []) (tagOf the-type o)
+  heads-order : (row other : Row) → (o : Order) → OneOf (0 ∷ 2 ∷ []) (tagOf the-type o)
       → o ≡ orderNumbers (firstHead (join row)) (firstHead (join other)) → order (filed row a) (filed other b) ≡ o
   unfolding order orderWeights orderValues weightsOf
-  heads-order [] [] p q o t e = apart o t (e ∙ equal-numbers 0 0 refl)
-  heads-order [] (s ∷ other) p q o t e = go (stand 0 (firstHead (join (s ∷ other))))
+  heads-order [] [] o t e = apart o t (e ∙ equal-numbers 0 0 refl)
+  heads-order [] (s ∷ other) o t e = go (stand 0 (firstHead (join (s ∷ other))))
     where
       go : Stand 0 (firstHead (join (s ∷ other))) → Less ≡ o
       go (below l d) = sym (e ∙ d)
       go (level l d) = apart o t (e ∙ d)
       go (above l d) = let z : ⊥ = omega arith in absurd z
-  heads-order (s ∷ row) [] p q o t e = go (stand (firstHead (join (s ∷ row))) 0)
+  heads-order (s ∷ row) [] o t e = go (stand (firstHead (join (s ∷ row))) 0)
     where
       go : Stand (firstHead (join (s ∷ row))) 0 → Greater ≡ o
       go (below l d) = let z : ⊥ = omega arith in absurd z
       go (level l d) = apart o t (e ∙ d)
       go (above l d) = sym (e ∙ d)
-  heads-order (syllable h m v f g ∷ row) (syllable k n u i j ∷ other) p q o t e =
-      let d : orderNumbers (headWeight h) (headWeight k) ≡ o =
-      ap (λ (w : ℕ). orderNumbers w (headWeight k)) (sym (head-weighed (syllable h m v f g) row (first no-final (syllable h m v f g) row p .is)))
-      ∙ ap (orderNumbers (firstHead (join (syllable h m v f g ∷ row)))) (sym (head-weighed (syllable k n u i j) other (first no-final (syllable k n u i j) other q .is)))
-      ∙ sym e in
-      decides o t _ _ _ _ d
+  heads-order (syllable h m v f g ∷ row) (syllable k n u i j ∷ other) o t e = decides o t _ _ _ _ (sym e)
 
 -- so two rows whose first heads weigh differently are in the order of the heads
 pub heads-tell : (one other : List ℕ) → Readable one → Readable other → (o : Order) → OneOf (0 ∷ 2 ∷ []) (tagOf the-type o)
@@ -98,7 +104,7 @@ heads-tell one other r s o t e = go o t told
         ordered-by one other (length (r .row)) (length (s .row)) (readable-stores one r) (readable-stores other s) (r .row) (s .row)
         (subst (Gives (r .row)) (sym (gives-stored (r .row) one (r .gives))) (r .gives))
         (subst (Gives (s .row)) (sym (gives-stored (s .row) other (s .gives))) (s .gives)) o
-        (heads-order (storedForm one) (storedForm other) (r .row) (s .row) (r .gives .is-row) (s .gives .is-row) o t
+        (heads-order (storedForm one) (storedForm other) (r .row) (s .row) o t
         (e ∙ ap (λ (w : List ℕ). orderNumbers (firstHead w) (firstHead other)) (sym (r .gives .joined))
         ∙ ap (λ (w : List ℕ). orderNumbers (firstHead (join (r .row))) (firstHead w)) (sym (s .gives .joined))))
 

@@ -3,13 +3,12 @@
 use mathlib.Core.Path.{_≡_}
 use mathlib.Core.List.{List, [], _∷_}
 use Prim.Native.Nat.{ℕ}
-use Rattle.letters.specs.Weights.{headWeighed}
+use Rattle.letters.specs.Weights.{headWeight}
 use Rattle.formula.specs.Row.{Row, Gives}
 use Rattle.refusals.specs.Refusal.{numberOf, placeOf}
 use Rattle.storage.specs.Stored.{storedForm}
 use Rattle.normaliser.specs.Normal.{StoreRefusedWith, Stores}
 use Rattle.weighing.specs.Order.{filed, order}
-use Rattle.weighing.specs.Weighed.{weightOr}
 use Rattle.weighing.specs.declared.order.Order.{Order}
 use Rattle.weighing.specs.declared.order.Order.the-variants.{Less as Before, Equal as Alike, Greater as Behind}
 use Rattle.collation.specs.declared.compare.Compared.{Compared}
@@ -61,7 +60,7 @@ comparedAs Behind = Greater
 -- the weight of the first value as a head; 0 where it is none, and for no values,
 abbrev pub firstHead : List ℕ → ℕ
 firstHead [] = 0
-firstHead (x ∷ word) = weightOr (headWeighed x) 0
+firstHead (x ∷ word) = headWeight x
 
 -- and the order that the first heads tell; that they are equal tells nothing
 abbrev pub HeadsTell : List ℕ → List ℕ → Order → Type 0

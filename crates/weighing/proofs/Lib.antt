@@ -2,5 +2,3 @@ pub mod Lexicographic
 pub mod OrderOfNumbers
 pub mod Passing
 pub mod Laws
-pub mod Weighted
-pub mod Joined

@@ -6,8 +6,6 @@ use lib.ListN.{length, replicate}
 use Rattle.formula.specs.Limits.{limit}
 use Rattle.formula.specs.Row.{Row}
 use Rattle.formula.specs.Weighing.{weightsOf}
-use Rattle.formula.specs.declared.Syllable.{Syllable as Numbers}
-use Rattle.weighing.specs.Weighed.{weightsBy}
 
 -- the bytes of a key that are used: "five a syllable"
 abbrev pub usedBytes : ℕ → ℕ
@@ -28,8 +26,3 @@ keyOf (s ∷ row) = weightsOf s ++ keyOf row
 -- and the zeros behind them
 abbrev pub keyBytes : Row → List ℕ
 keyBytes row = keyOf row ++ zeros (keyLimit - usedBytes (length row))
-
--- the weights of syllables by numbers, joined; inner contracts cite them
-abbrev pub keyBy : List Numbers → List ℕ
-keyBy [] = []
-keyBy (s ∷ list) = weightsBy s ++ keyBy list

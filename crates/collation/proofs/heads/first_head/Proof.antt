@@ -2,9 +2,7 @@
 -- Assumes nothing.
 use mathlib.Core.Path.{refl, ap, sym, _∙_}
 use borrow.Author.Needs.{needs}
-use Rattle.letters.specs.declared.weight.Weighed.{Weighed}
-use Rattle.weighing.specs.Weighed.{weightOr}
-use Rattle.collation.proofs.Apart.{no-head, some-head}
+use Rattle.collation.proofs.Apart.{no-head, some-head, told}
 use Rattle.collation.proofs.heads.first_head.Statement.{statement}
 use Rattle.collation.proofs.heads.first_head.Tie as tie
 
@@ -29,7 +27,7 @@ returns-2 c =
     let e = a .before .before in
     sym
     (some-head (e .before .before .args .word .now) 0 (e .if1 .left)
-    ∙ ap (λ (w : Weighed). weightOr w 0) (sym (a .head-weight .ensures) ∙ c .enum-told .given .1))
+    ∙ ap told (sym (a .head-weight .ensures) ∙ c .enum-told .given .1))
 
 cast-result : tie.Need-cast-result
 cast-result c = search needs
@@ -40,7 +38,7 @@ returns-3 c =
     let e = a .before .before in
     sym
     (some-head (e .before .before .args .word .now) 0 (e .if1 .left)
-    ∙ ap (λ (w : Weighed). weightOr w 0) (sym (a .head-weight .ensures) ∙ c .before .weighed .given .1))
+    ∙ ap told (sym (a .head-weight .ensures) ∙ c .before .weighed .given .1))
 
 pub first-head-spec : {M : Type 1} → statement M
 first-head-spec =
