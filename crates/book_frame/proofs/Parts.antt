@@ -23,7 +23,7 @@ map-snoc : (l : List ℕ) (x : ℕ) → map valueOf (l ++ (x ∷ [])) ≡ map va
 map-snoc [] x = refl
 map-snoc (y ∷ l) x = ap (λ (m : List ℕ). valueOf y ∷ m) (map-snoc l x)
 
--- counted more value is copied
+-- one more value is copied
 pub copy-one : (w b : List ℕ) (from j : ℕ) (v : ℕ) → j < length w → from + j < length b → v ≡ valueOf (getD b (from + j) 0)
     → take j w ≡ map valueOf (part b from j) → take (j + 1) (set w j v) ≡ map valueOf (part b from (j + 1))
 copy-one w b from j v h k e q =

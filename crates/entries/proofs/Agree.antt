@@ -26,7 +26,7 @@ good-snoc at seen [] e g s ok m = (s, ok, subst (λ (l : List Entry). T (isFresh
 good-snoc at seen (x ∷ es) e g s ok m =
     (g .0, g .1, g .2, good-snoc (at + size x) (seen ++ (x ∷ [])) es e (g .3) s ok (subst (λ (l : List Entry). T (isFresh l e)) (sym (append-snoc seen x es)) m))
 
--- the entries read valueOf to a place
+-- the entries read up to a place
 pub record Upto (b : List ℕ) (at : ℕ) (es : List Entry) : Type 0 where
   pub bytes : b ≡ records es ++ drop at b
   pub good : GoodAfter 0 [] es
@@ -88,7 +88,7 @@ replicate-snoc : (n : ℕ) → zeros n ++ (0 ∷ []) ≡ zeros (suc n)
 replicate-snoc zero = refl
 replicate-snoc (suc n) = ap (λ (l : List ℕ). 0 ∷ l) (replicate-snoc n)
 
--- zeros passed counted by counted
+-- zeros passed one by one
 sound-tail : (b : List ℕ) (es : List Entry) (l : List ℕ) (p n at : ℕ) → length b ≤ bookLimit → GoodAfter 0 [] es → at ≡ endOf 0 es
     → b ≡ (records es ++ zeros n) ++ l → Sound b (zeroTail l p (book es at))
 unfolding zeroTail
@@ -176,7 +176,7 @@ complete b es k =
     pick-true (leb (length b) bookLimit) _ _ (of-true (leb (length b) bookLimit) (le-leb (length b) bookLimit (k .short)))
     ∙ complete-from (suc (length b)) b 0 [] es (k .pad) (k .written) (k .good) (omega arith)
 
--- a buffer is a book of at most counted list of entries
+-- a buffer is a book of at most one list of entries
 pub only : (b : List ℕ) (es fs : List Entry) → IsBook b es → IsBook b fs → es ≡ fs
 only b es fs k h = listOf (sym (complete b es k) ∙ complete b fs h)
   where

@@ -95,7 +95,7 @@ only-once at seen (e ∷ es) w h g =
     (subst (λ (l : List ℕ). T (holds seen l)) (sym (sameList-equal (e .word) w (both-right (e .live) _ t))) h) (g .2)) in
     (λ i. pick (n i) (removed e) e ∷ only-once (at + size e) (seen ++ (e ∷ [])) es w (held-more seen e w h) (g .3) i)
 
--- counted byte of the records
+-- removing changes one byte of the records
 pub records-removed : (at : ℕ) (seen es : List Entry) (w pre z : List ℕ) (e : Entry) → length pre ≡ at → GoodAfter at seen es → lookup es w ≡ some e
     → set (pre ++ (records es ++ z)) (e .start + 1) 0x2D ≡ pre ++ (records (without es w) ++ z)
 unfolding lookup without pick recordBytes

@@ -140,8 +140,7 @@ unequal b s at f g n =
     is-false (sameList (wordAt b s) (wordAt b at))
     (λ t. n (sym (length-word b s (f .room)) ∙ ap length (sameList-equal (wordAt b s) (wordAt b at) t) ∙ length-word b at (g .room)))
 
--- ---- counted more record
-
+-- with one entry more those that were live still are, and the last is where it is live
 live-left : (es : List Entry) (e : Entry) (s : ℕ) → LiveAt es s → LiveAt (es ++ (e ∷ [])) s
 live-left [] e s l = absurd l
 live-left (x ∷ es) e s (inl q) = inl q

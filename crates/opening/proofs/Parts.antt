@@ -31,7 +31,7 @@ parts-differ b p q n k h f =
     is-false (sameList (part b p n) (part b q n))
     (λ t. f (sym (part-at b p n k h) ∙ ap (λ (l : List ℕ). getD l k 0) (sameList-equal (part b p n) (part b q n) t) ∙ part-at b q n k h))
 
--- counted more byte is hashed
+-- one more byte is hashed
 pub hash-one : (b : List ℕ) (from n j h : ℕ) → from + n ≤ length b → j < n
     → hashOf (drop j (part b from n)) h ≡ hashOf (drop (j + 1) (part b from n)) ((h * 31 + getD b (from + j) 0) % buckets)
 unfolding hashOf
@@ -44,7 +44,7 @@ pub hash-done : (b : List ℕ) (from n j h : ℕ) → from + n ≤ length b → 
 unfolding hashOf
 hash-done b from n j h k l = ap (λ (m : List ℕ). hashOf m h) (drop-of-length-le (part b from n) {i = j} (omega (arith, part-length b from n k)))
 
--- counted more zero is passed
+-- one more zero is passed
 pub tail-zero : (b : List ℕ) (i : ℕ) (e : Entries) → i < length b → getD b i 0 ≡ 0 → zeroTail (drop i b) i e ≡ zeroTail (drop (i + 1) b) (i + 1) e
 unfolding zeroTail pick
 tail-zero b i e h z =

@@ -56,7 +56,7 @@ passed-start b h =
       chained = chained-start b;
     }
 
--- counted turn of the definition
+-- one turn of the definition
 unroll : (k : ℕ) (b : List ℕ) (at : ℕ) (es : List Entry) (s t : Bool) → at ≤ length b → length b < at + k → eqb (getD b at 0) 0 ≡ s → isFramed b at && mayFollow es (entryAt b at) ≡ t
     → entriesFrom k b at es ≡ pick s (zeroTail (drop at b) at (book es at)) (pick t (entriesFrom (k - 1) b (at + 7 + getD b (at + 2) 0) (es ++ (entryAt b at ∷ []))) (wrong at))
 unfolding entriesFrom

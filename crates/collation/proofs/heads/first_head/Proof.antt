@@ -1,6 +1,6 @@
 -- `collation::heads::first_head` meets its contract: the first value's weight, where it has one.
 -- Assumes nothing.
-use mathlib.Core.Path.{refl, ap, sym, _∙_}
+use mathlib.Core.Path.{ap, sym, _∙_}
 use borrow.Author.Needs.{needs}
 use Rattle.collation.proofs.Apart.{no-head, some-head, told}
 use Rattle.collation.proofs.heads.first_head.Statement.{statement}

@@ -5,7 +5,6 @@ use Prim.Native.Nat.{ℕ}
 use borrow.Author.Needs.{needs}
 use Rattle.recogniser.specs.Answer.{Readable, RowTest}
 use Rattle.weighing.specs.Order.{orderNumbers}
-use Rattle.weighing.specs.declared.order.Order.{Order}
 use Rattle.collation.specs.Comparison.{firstHead, HeadsTell}
 use Rattle.collation.proofs.Apart.{heads-tell}
 use Rattle.collation.proofs.heads.order_heads.Statement.{statement}
