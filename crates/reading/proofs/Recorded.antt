@@ -5,36 +5,21 @@ use mathlib.Core.List.{List, [], _∷_, _++_, map}
 use Prim.Native.Nat.{ℕ, zero, suc, _-_, _<_}
 use native.Mathlib.Nat.{le-of-suc-le-suc, not-suc-le-zero}
 use native.Mathlib.Omega.{arith}
-use lib.ListN.{length, getD, take, length-append, length-map, length-replicate}
-use lib.Seq.{take-at}
+use lib.ListN.{length, getD}
 use Rattle.letters.proofs.Written.{medial-written}
 use Rattle.formula.specs.Limits.{limit}
 use Rattle.formula.specs.Syllable.{Syllable, syllable, bare}
 use Rattle.formula.specs.Row.{Row, Gives}
 use Rattle.formula.specs.Record.{recordOf}
-use Rattle.formula.specs.Numbers.{numbersOf, nothing}
+use Rattle.formula.specs.Numbers.{numbersOf}
 use Rattle.formula.specs.declared.Syllable.{Syllable as Numbers}
-use Rattle.refusals.specs.Outcome.{accepts, outcomeOf}
+use Rattle.refusals.specs.Outcome.{outcomeOf}
 use Rattle.refusals.specs.declared.Counted.{Counted}
 use Rattle.refusals.specs.declared.Counted.the-variants.{Count}
 use Rattle.recogniser.specs.Answer.{Reads, Answers}
-use Rattle.recogniser.proofs.Counted.{count-limit}
 use Rattle.reading.specs.Reading.{nothings, SyllablesFor, ReadRight}
 use Rattle.reading.specs.Records.{medialWeightBy, bytesBy, HasRecord}
 use Rattle.reading.specs.declared.read.Reading.{Reading}
-
--- the syllables of a word that has n: its row's first, in as many places as a word may have
-module _ (word : List ℕ) (n : ℕ) (reads : Reads word n) (list : List Numbers) (is : SyllablesFor word (accepts n) list) where
-  pub count-of-row : (row : Row) → Gives row word → length row ≡ n
-  count-of-row row g = ap length (reads .only row g) ∙ reads .count
-
-  pub front-of-row : (row : Row) → Gives row word → take n list ≡ map numbersOf row
-  front-of-row row g = ap (take n) (is row g) ∙ take-at (map numbersOf row) (nothings (limit - n)) n (length-map row numbersOf ∙ count-of-row row g)
-
-  pub places-of-row : length list ≡ limit
-  places-of-row =
-      ap length (is (reads .row) (reads .gives)) ∙ length-append (map numbersOf (reads .row)) (nothings (limit - n))
-      ∙ omega (arith, length-map (reads .row) numbersOf, reads .count, count-limit word n reads, length-replicate (limit - n) nothing)
 
 pub bytes-numbers : (s : Syllable) → bytesBy (numbersOf s) ≡ recordOf s
 unfolding recordOf medialWeightBy
