@@ -5,11 +5,7 @@ use mathlib.Core.List.{List, [], _∷_}
 use Prim.Native.Nat.{ℕ}
 use types.Run.{OneOf}
 use denote.Enum.Declared.{tagOf}
-use lib.ListN.{take}
-use Rattle.refusals.specs.declared.Counted.{Counted}
-use Rattle.refusals.specs.declared.Counted.the-variants.{Count}
 use Rattle.storage.specs.Stored.{storedForm}
-use Rattle.weighing.specs.Keys.{usedBytes}
 use Rattle.weighing.specs.Order.{inTurn, orderValues}
 use Rattle.weighing.specs.declared.order.Order.{Order}
 use Rattle.weighing.specs.declared.order.Order.the-variants.{Less, Equal, Greater}

@@ -6,7 +6,7 @@ use Prim.Native.Nat.{ℕ, _≤_}
 use native.Mathlib.Omega.{arith}
 use lib.ListN.{length, take}
 use Rattle.formula.specs.Limits.{limit}
-use Rattle.formula.specs.Row.{Row, Gives}
+use Rattle.formula.specs.Row.{Gives}
 use Rattle.refusals.specs.Refusal.{numberOf, placeOf}
 use Rattle.refusals.specs.Outcome.{outcomeOf}
 use Rattle.refusals.specs.declared.Refusal.{Refusal}
@@ -18,7 +18,7 @@ use Rattle.storage.specs.Stored.{storedForm}
 use Rattle.storage.proofs.Rows.{gives-stored}
 use Rattle.normaliser.specs.Normal.{StoreRefusedWith, Stores, StoreAnswers, HandedIn}
 use Rattle.normaliser.proofs.Storing.{word-admissible, refused-right, reads-stores}
-use Rattle.weighing.specs.Keys.{keyLimit, usedBytes}
+use Rattle.weighing.specs.Keys.{usedBytes}
 use Rattle.weighing.specs.Order.{inTurn, orderValues}
 use Rattle.keying.specs.Filled.{KeyIfRead, FillRight}
 use Rattle.collation.specs.Keyed.{KeyFor, KeyRight, WeighedFor, WeighRight}

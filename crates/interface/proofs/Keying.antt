@@ -1,36 +1,52 @@
 -- What the weights of a word tell, written to lent output: the bytes are those of the row, all 320 of them.
 -- Assumes nothing.
-use mathlib.Core.Path.{_≡_, ap, subst, _∙_}
+use mathlib.Core.Path.{_≡_, ap, sym, subst, _∙_}
 use mathlib.Core.List.{List, _++_}
 use Prim.Native.Nat.{ℕ, _≤_, _<_}
 use native.Mathlib.Omega.{arith}
 use lib.ListN.{length, take, drop}
 use lib.Seq.{take-all}
+use Rattle.formula.specs.Row.{Row}
 use Rattle.refusals.specs.Refusal.{numberOf, placeOf}
 use Rattle.refusals.specs.Outcome.{accepts, refuses, outcomeOf}
+use Rattle.refusals.specs.Output.{refused, put, too-short}
 use Rattle.refusals.specs.declared.Refusal.{Refusal}
 use Rattle.refusals.specs.declared.Counted.{Counted}
 use Rattle.refusals.specs.declared.Counted.the-variants.{Refused}
+use Rattle.normaliser.specs.Normal.{Stores}
 use Rattle.weighing.specs.Keys.{keyLimit, keyBytes}
 use Rattle.collation.specs.Keyed.{WeighedFor, WeighRight}
 use Rattle.collation.proofs.Weighing.{Weighed, weighed-refused, weighed-stores}
-use Rattle.interface.specs.Outputs.{KeyWritten, writes, word-refused, too-short}
+use Rattle.interface.specs.Outputs.{StoredRow, KeyWritten}
 
 pub refused-right : (word : List ℕ) (answer : Counted) (bytes : List ℕ) → WeighRight word answer bytes → (refusal : Refusal)
     → answer ≡ Refused refusal → (before after : List ℕ) → after ≡ before → KeyWritten word before after (refuses (numberOf refusal) (placeOf refusal))
-refused-right word answer bytes right refusal e before after same = word-refused (weighed-refused word answer bytes right refusal e) same
+refused-right word answer bytes right refusal e before after same = refused (weighed-refused word answer bytes right refusal e) same
 
 module _ (w : Weighed) where
-  bytes-are : w .bytes ≡ keyBytes (weighed-stores w .reads .row)
-  bytes-are =
-      subst (λ (a : Counted). WeighedFor (w .word) (outcomeOf a) (w .bytes)) (w .told) (w .right .weighed) (weighed-stores w .reads .row)
-      (weighed-stores w .reads .gives)
+  abbrev row : Row
+  row = weighed-stores w .reads .row
+
+  counted : length row ≡ w .count
+  counted = weighed-stores w .reads .count
+
+  stored-row : StoredRow (w .word) row
+  stored-row = record { stores = subst (Stores (w .word)) (sym counted) (weighed-stores w); gives = weighed-stores w .reads .gives }
+
+  bytes-are : w .bytes ≡ keyBytes row
+  bytes-are = subst (λ (a : Counted). WeighedFor (w .word) (outcomeOf a) (w .bytes)) (w .told) (w .right .weighed) row (stored-row .gives)
+
+  key-size : length (keyBytes row) ≡ keyLimit
+  key-size = sym (ap length bytes-are) ∙ w .right .room
 
   pub short-right : (before after : List ℕ) → length before < keyLimit → after ≡ before → KeyWritten (w .word) before after (refuses 5 keyLimit)
-  short-right before after less same = too-short (weighed-stores w) less same
+  short-right before after less same =
+      subst (λ (n : ℕ). KeyWritten (w .word) before after (refuses 5 n)) key-size (too-short stored-row (omega (arith, key-size)) same)
 
   pub written-right : (before after : List ℕ) → keyLimit ≤ length before → after ≡ take keyLimit (w .bytes) ++ drop keyLimit before
       → KeyWritten (w .word) before after (accepts (w .count))
   written-right before after fits is =
-      writes (weighed-stores w) fits
-      (is ∙ ap (λ (l : List ℕ). l ++ drop keyLimit before) (take-all keyLimit (w .bytes) (omega (arith, w .right .room)) ∙ bytes-are))
+      subst (λ (n : ℕ). KeyWritten (w .word) before after (accepts n)) counted
+      (put stored-row (omega (arith, key-size))
+      (is ∙ ap (λ (l : List ℕ). l ++ drop keyLimit before) (take-all keyLimit (w .bytes) (omega (arith, w .right .room)) ∙ bytes-are)
+      ∙ ap (λ (n : ℕ). keyBytes row ++ drop n before) (sym key-size)))

@@ -1,4 +1,5 @@
 mod Decoding
 mod Keying
+pub mod Determined
 pub mod OutputFits
 pub mod Told

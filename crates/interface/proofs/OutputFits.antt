@@ -1,28 +1,28 @@
 -- The numbers of every right answer on a key or a line fit their bits: a line that is not too long is at most 192 bytes.
 -- Assumes nothing.
-use mathlib.Core.Path.{_≡_, ap, subst}
+use mathlib.Core.Path.{subst}
 use mathlib.Core.Bool.{Bool, true, false}
 use mathlib.Core.List.{List, [], _∷_}
 use Prim.Native.Nat.{ℕ, _+_, _≤_}
 use native.Mathlib.Omega.{arith}
 use lib.ListN.{length}
 use Rattle.letters.specs.Choice.{pick}
-use Rattle.formula.specs.Limits.{limit, lineLimit}
-use Rattle.refusals.specs.Outcome.{Outcome}
-use Rattle.lines.specs.Line.{isThree, valueOf, Decoding, values, faulty as broken, after, decodeFrom}
-use Rattle.lines.proofs.RoundTrip.{encode-decode, length-encode}
+use Rattle.refusals.specs.Outcome.{Outcome, refuses}
+use Rattle.lines.specs.Line.{isThree, valueOf, Decoding, values, faulty as broken, after, decodeFrom, Decodes, LineRefused, too-long, faulty-three}
 use Rattle.recogniser.proofs.Counted.{count-limit}
 use Rattle.storage.specs.Stored.{storedForm}
+use Rattle.normaliser.specs.Normal.{StoreRefusedWith}
+use Rattle.weighing.proofs.Laws.{key-length}
 use Rattle.packing.specs.Packing.{Fits}
 use Rattle.packing.specs.Answers.{outcomeNumbers}
-use Rattle.packing.proofs.WordFits.{small-fits, store-refused-small}
-use Rattle.interface.specs.Outputs as outputs
+use Rattle.packing.proofs.WordFits.{writes-fits, store-refused-fits}
+use Rattle.interface.specs.Outputs.{StoredRow, KeyWritten, DecodeWritten}
+use Rattle.interface.proofs.Decoding.{word-short}
 
-pub key-fits : (word before after : List ℕ) (o : Outcome) → outputs.KeyWritten word before after o → Fits (outcomeNumbers o)
-key-fits word before after o (outputs.writes s h e) =
-    record { tag = omega arith; second = omega arith; first = omega (arith, count-limit (storedForm word) _ (s .reads)) }
-key-fits word before after o (outputs.word-refused r e) = small-fits _ 0 _ (omega arith) (store-refused-small word _ _ r)
-key-fits word before after o (outputs.too-short s h e) = record { tag = omega arith; second = omega arith; first = omega arith }
+pub key-fits : (word before after : List ℕ) (o : Outcome) → KeyWritten word before after o → Fits (outcomeNumbers o)
+key-fits word =
+    writes-fits (StoreRefusedWith word) (StoredRow word) _ _ (store-refused-fits word)
+    (λ row s. let few = count-limit (storedForm word) (length row) (s .stores .reads) in (omega arith, omega (arith, key-length row few)))
 
 -- a faulty three begins within the line
 abbrev FaultyBy : ℕ → Decoding → Type 0
@@ -42,15 +42,13 @@ faulty-by p (a ∷ b ∷ c ∷ line) = go (isThree a b c) (decodeFrom (p + 3) li
     go true (broken place) h = omega arith
     go false d h = omega arith
 
-word-short : (line word : List ℕ) → length line ≤ lineLimit → decodeFrom 0 line ≡ values word → length word ≤ limit
-word-short line word h d = omega (arith, length-encode word, ap length (encode-decode 0 line word d))
-
-pub decode-fits : (line before after : List ℕ) (o : Outcome) → outputs.DecodeWritten line before after o → Fits (outcomeNumbers o)
-decode-fits line before after o (outputs.writes h d f e) =
-    record { tag = omega arith; second = omega arith; first = omega (arith, word-short line _ h d) }
-decode-fits line before after o (outputs.too-long h e) = record { tag = omega arith; second = omega arith; first = omega arith }
-decode-fits line before after o (outputs.faulty h d e) =
-    let near = subst (FaultyBy (0 + length line)) d (faulty-by 0 line) in
+line-refused-fits : (line : List ℕ) (number place : ℕ) → LineRefused line number place → Fits (outcomeNumbers (refuses number place))
+line-refused-fits line number place (too-long h) = record { tag = omega arith; second = omega arith; first = omega arith }
+line-refused-fits line number place (faulty-three h e) =
+    let near = subst (FaultyBy (0 + length line)) e (faulty-by 0 line) in
     record { tag = omega arith; second = omega arith; first = omega arith }
-decode-fits line before after o (outputs.too-short h d f e) =
-    record { tag = omega arith; second = omega arith; first = omega (arith, word-short line _ h d) }
+
+pub decode-fits : (line before after : List ℕ) (o : Outcome) → DecodeWritten line before after o → Fits (outcomeNumbers o)
+decode-fits line =
+    writes-fits (LineRefused line) (Decodes line) _ _ (line-refused-fits line)
+    (λ word d. let short = word-short line word d in (omega arith, omega arith))

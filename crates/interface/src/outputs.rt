@@ -1,8 +1,7 @@
 // A key and a decoded line, written to lent output.
 use collation::weigh::weigh;
-use lines::LineAnswer;
 use lines::decode;
-use normaliser::copy_out;
+use normaliser::put_out;
 use refusals::Counted;
 use refusals::Refusal;
 ghost use mathlib.Core.Path.{_≡_};
@@ -52,15 +51,11 @@ pub(crate) fn put_values(line: &[u8], output: &mut [u16]) -> Counted
 {
     let decoded = decode(line);
     let answer = decoded.answer;
-    if let LineAnswer::Refused(refusal) = answer {
+    if let Counted::Refused(refusal) = answer {
         return Counted::Refused(refusal);
     }
     let word = decoded.word;
     let count = word.count;
-    if output.len() < count {
-        return Counted::Refused(Refusal::OutputTooShort(count));
-    }
     let values = word.values;
-    copy_out(&values[..count], output);
-    Counted::Count(count)
+    put_out(&values[..count], output)
 }

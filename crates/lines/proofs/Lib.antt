@@ -1,4 +1,6 @@
 pub mod Threes
+pub mod Decided
 pub mod Passing
 pub mod RoundTrip
 pub mod Words
+pub mod Determined

@@ -10,9 +10,10 @@ use borrow.Author.Tests.{le-leb}
 use Rattle.letters.specs.Choice.{pick}
 use Rattle.formula.specs.Limits.{limit, lineLimit}
 use Rattle.refusals.specs.declared.Refusal.the-variants.{FaultyLine}
-use Rattle.lines.specs.Line.{Decoding, values, faulty, after, decodeFrom, refusedLine, answerOf, decodedOf}
+use Rattle.refusals.specs.declared.Counted.the-variants.{Count}
+use Rattle.lines.specs.Line.{Decoding, values, faulty, after, decodeFrom, refusedLine}
 use Rattle.lines.specs.declared.Decoded.{Decoded}
-use Rattle.lines.specs.declared.LineAnswer.the-variants.{Values}
+use Rattle.lines.proofs.Decided.{answerOf, decodedOf}
 
 -- at a place of the line: the values so far, in the array and as a list, and that decoding goes on from here
 pub record Passed (line array : List ℕ) (count at : ℕ) : Type 0 where
@@ -75,7 +76,7 @@ passed-faulty line array count at p small here =
 
 -- at the line's end the values so far are the word
 pub passed-all : (line array : List ℕ) (count at : ℕ) → Passed line array count at → length line ≤ lineLimit → length line ≤ at
-    → _≡_ {A = Decoded} (record { answer = Values; word = record { values = array; count = count } }) (decodedOf line)
+    → _≡_ {A = Decoded} (record { answer = Count count; word = record { values = array; count = count } }) (decodedOf line)
 unfolding decodedOf pick after
 passed-all line array count at p small done =
     let whole : decodeFrom 0 line ≡ values (p .held) =

@@ -6,8 +6,9 @@ use Prim.Native.Nat.{ℕ}
 use lib.ListN.{replicate}
 use Rattle.letters.specs.Choice.{pick}
 use Rattle.refusals.specs.declared.Refusal.the-variants.{TooLong, FaultyLine}
-use Rattle.lines.specs.Line.{isThree, values, after, encode, refusedLine, answerOf, decodedOf}
+use Rattle.lines.specs.Line.{isThree, values, after, encode, refusedLine}
 use Rattle.lines.specs.declared.Decoded.{Decoded}
+use Rattle.lines.proofs.Decided.{answerOf, decodedOf}
 
 -- the answer to a line of these values
 abbrev word : List ℕ → Decoded

@@ -1,16 +1,18 @@
 -- Document 01, "Refused because of what is handed in", refusals 1 and 7: the code values of a line of UTF-8 bytes.
 -- Assumes nothing.
+use mathlib.Core.Path.{_≡_}
 use mathlib.Core.Bool.{Bool, _&&_}
 use mathlib.Core.List.{List, [], _∷_, _++_}
-use Prim.Native.Nat.{ℕ, _+_, _-_, _*_, _/_, _%_}
+use Prim.Native.Nat.{ℕ, _+_, _-_, _*_, _/_, _%_, _≤_, _<_}
 use lib.Dec.{eqb, leb}
 use lib.ListN.{length}
 use Rattle.letters.specs.Choice.{pick}
-use Rattle.formula.specs.Limits.{lineLimit}
+use Rattle.formula.specs.Limits.{limit, lineLimit}
 use Rattle.formula.specs.Held.{wordOf}
+use Rattle.formula.specs.declared.Word.{Word}
+use Rattle.refusals.specs.Outcome.{Outcome, accepts, accepts-both, absent, refuses, outcomeOf}
 use Rattle.refusals.specs.declared.Refusal.{Refusal}
-use Rattle.refusals.specs.declared.Refusal.the-variants.{TooLong, FaultyLine}
-use Rattle.lines.specs.declared.LineAnswer.the-variants.{Values, Refused}
+use Rattle.refusals.specs.declared.Counted.the-variants.{Refused}
 use Rattle.lines.specs.declared.Decoded.{Decoded}
 
 -- "E1, then 80 or 81, then 80 to BF"
@@ -44,15 +46,36 @@ abbrev pub encode : List ℕ → List ℕ
 encode [] = []
 encode (v ∷ vs) = 0xE1 ∷ (0x80 + (v - 0x1000) / 64) ∷ (0x80 + (v - 0x1000) % 64) ∷ encode vs
 
--- "A refusal gives number and place": the refusal, with a word of no values beside it
+-- the line is not too long, and these are its values
+pub record Decodes (line word : List ℕ) : Type 0 where
+  pub short : length line ≤ lineLimit
+  pub into : decodeFrom 0 line ≡ values word
+
+-- "Tests run in the order 1, 7": the refusals of a line
+pub data LineRefused (line : List ℕ) : ℕ → ℕ → Type 0 where
+  -- "a line over 192 bytes"
+  too-long : lineLimit < length line → LineRefused line 1 limit
+  -- "byte place where the first faulty three begins"
+  faulty-three : {place : ℕ} → length line ≤ lineLimit → decodeFrom 0 line ≡ faulty place → LineRefused line 7 place
+
+-- the word that a line makes, by value, and how many values it has
+pub record LineHolds (line : List ℕ) (n : ℕ) (held : Word) : Type 0 where
+  pub word : List ℕ
+  pub decodes : Decodes line word
+  pub count : n ≡ length word
+  pub is : held ≡ wordOf word
+
+-- with a refusal, a word of no values
+abbrev pub LineAnswers : List ℕ → Outcome → Word → Type 0
+LineAnswers line (accepts n) held = LineHolds line n held
+LineAnswers line (accepts-both n m) held = ⊥
+LineAnswers line absent held = ⊥
+LineAnswers line (refuses number place) held = LineRefused line number place × (held ≡ wordOf [])
+
+-- the promise of decoding
+abbrev pub DecodeRight : List ℕ → Decoded → Type 0
+DecodeRight line r = LineAnswers line (outcomeOf (r .answer)) (r .word)
+
+-- a refused line; an inner contract cites it
 abbrev pub refusedLine : Refusal → Decoded
 refusedLine refusal = record { answer = Refused refusal; word = wordOf [] }
-
--- the word that the values make, or refusal 7 at the "byte place where the first faulty three begins"
-abbrev pub answerOf : Decoding → Decoded
-answerOf (values vs) = record { answer = Values; word = wordOf vs }
-answerOf (faulty p) = refusedLine (FaultyLine p)
-
--- "Tests run in the order 1, 7": "a line over 192 bytes" is refusal 1 before anything else
-unfoldable pub decodedOf : List ℕ → Decoded
-decodedOf line = pick (leb (length line) lineLimit) (answerOf (decodeFrom 0 line)) (refusedLine TooLong)

@@ -1,21 +1,16 @@
 // A line of UTF-8 bytes as code values: the word that it holds, or why it is refused.
 use formula::Word;
+use refusals::Counted;
 use refusals::Refusal;
 ghost use mathlib.Core.Path.{_≡_};
 ghost use Prim.Native.Nat.{_≤_};
 ghost use lib.ListN.{length};
-ghost use Rattle.lines.specs.Line.{isThree, decodedOf, refusedLine};
+ghost use Rattle.lines.specs.Line.{isThree, DecodeRight, refusedLine};
 ghost use Rattle.lines.specs.Three.{threeOf, threeAt};
 
-// Whether a line is values, and if not, why.
-pub enum LineAnswer {
-    Values,
-    Refused(Refusal),
-}
-
-// The answer, and beside it the word; where the line is refused, a word of no values.
+// How many values a line has, and beside it the word; where the line is refused, a word of no values.
 pub struct Decoded {
-    pub answer: LineAnswer,
+    pub answer: Counted,
     pub word: Word,
 }
 
@@ -27,7 +22,7 @@ enum Three {
 
 // The values of a line, without its 0A, or the refusal 1 or 7.
 pub fn decode(line: &[u8]) -> Decoded
-    ensures { λ r. ⌜ r ≡ decodedOf (now (line .entry)) ⌝ }
+    ensures { λ r. ⌜ DecodeRight (now (line .entry)) r ⌝ }
 {
     if Word::LINE_LIMIT < line.len() {
         return refused(Refusal::TooLong);
@@ -44,7 +39,7 @@ pub fn decode(line: &[u8]) -> Decoded
         at += 3;
     }
     Decoded {
-        answer: LineAnswer::Values,
+        answer: Counted::Count(count),
         word: Word { values, count },
     }
 }
@@ -54,7 +49,7 @@ fn refused(refusal: Refusal) -> Decoded
     ensures { λ r. ⌜ r ≡ refusedLine refusal ⌝ }
 {
     Decoded {
-        answer: LineAnswer::Refused(refusal),
+        answer: Counted::Refused(refusal),
         word: Word::empty(),
     }
 }

@@ -1,14 +1,13 @@
 -- A word and its stored form have foreign values together, so a refusal of the stored form is one of the word.
 -- Assumes nothing.
-use mathlib.Core.Path.{_≡_, refl, ap, sym, subst, _∙_}
+use mathlib.Core.Path.{_≡_, refl, ap, sym, subst}
 use mathlib.Core.Bool.{Bool, true, false, _&&_}
-use mathlib.Core.List.{List, [], _∷_, _++_}
+use mathlib.Core.List.{List, [], _∷_}
 use Prim.Native.Nat.{ℕ, _-_, _≤_, _<_}
 use native.Mathlib.Decide.{decLt, ℕ-discrete}
 use native.Mathlib.Omega.{arith}
 use lib.Dec.{T, eqb, eqb→eq}
-use lib.ListN.{length, take, drop, replicate, length-append}
-use lib.Seq.{take-at}
+use lib.ListN.{length, take, replicate, length-append}
 use Rattle.letters.specs.Choice.{pick}
 use Rattle.letters.specs.Letters.{isAdmitted}
 use Rattle.formula.specs.Limits.{limit}
@@ -17,7 +16,7 @@ use Rattle.formula.specs.declared.Word.{Word}
 use Rattle.formula.proofs.Held.{held-front}
 use Rattle.formula.proofs.Lists.{both, both-left, both-right, every, every-at, at-every}
 use Rattle.refusals.specs.Refusal.{numberOf, placeOf}
-use Rattle.refusals.specs.Outcome.{Outcome, outcomeOf}
+use Rattle.refusals.specs.Outcome.{outcomeOf}
 use Rattle.refusals.specs.declared.Refusal.{Refusal}
 use Rattle.refusals.specs.declared.Counted.{Counted}
 use Rattle.refusals.specs.declared.Counted.the-variants.{Count}
@@ -28,7 +27,7 @@ use Rattle.storage.specs.Putting.{joinFront, putFront}
 use Rattle.storage.proofs.Composing.{stored-front}
 use Rattle.storage.proofs.Outcome.{stored-shorter, stored-admitted}
 use Rattle.storage.proofs.Rows.{gives-stored}
-use Rattle.normaliser.specs.Normal.{StoreRefusedWith, foreign as strange, outcome, Stores, StoreAnswers, WordFor, NormalRight, NormaliseRight, writes, too-short, PutRight, put, no-room, HandedIn}
+use Rattle.normaliser.specs.Normal.{StoreRefusedWith, foreign as strange, outcome, Stores, StoreAnswers, WordFor, NormalRight, HandedIn}
 use Rattle.normaliser.specs.declared.Normalised.{Normalised}
 
 -- what is admitted with x put in front was admitted, and so is x
@@ -158,12 +157,3 @@ readable-stores word readable =
       only = readable .only;
       count = refl;
     })
-
--- writing the stored form is what the normaliser promises
-pub put-right : (word values before after : List ℕ) (n : ℕ) (answer : Outcome) → Stores word n → values ≡ storedForm word → PutRight values before after answer
-    → NormaliseRight word before after answer
-put-right word values before after n answer s e p = go answer (subst (λ (form : List ℕ). PutRight form before after answer) e p)
-  where
-    go : (o : Outcome) → PutRight (storedForm word) before after o → NormaliseRight word before after o
-    go _ (put h d) = writes s h d
-    go _ (no-room h d) = too-short s h d

@@ -1,14 +1,15 @@
 -- Document 01, "Storage order": the stored form of a word, which "must be a row of syllables, else the word is refused, with a place in
 -- that outcome". Assumes nothing.
 use mathlib.Core.Path.{_≡_}
-use mathlib.Core.List.{List, [], _++_}
-use Prim.Native.Nat.{ℕ, _≤_, _<_}
-use lib.ListN.{length, drop}
+use mathlib.Core.List.{List, []}
+use Prim.Native.Nat.{ℕ, _<_}
+use lib.ListN.{length}
 use Rattle.formula.specs.Limits.{limit}
 use Rattle.formula.specs.Held.{wordOf}
 use Rattle.formula.specs.declared.Word.{Word}
 use Rattle.refusals.specs.Refusal.{numberOf, placeOf}
 use Rattle.refusals.specs.Outcome.{Outcome, accepts, accepts-both, absent, refuses, outcomeOf}
+use Rattle.refusals.specs.Output.{Writes}
 use Rattle.refusals.specs.declared.Refusal.{Refusal}
 use Rattle.refusals.specs.declared.Counted.the-variants.{Refused}
 use Rattle.recogniser.specs.Answer.{Admissible, FirstForeign, RefusedWith, Reads}
@@ -45,22 +46,13 @@ pub record NormalRight (word : List ℕ) (r : Normalised) : Type 0 where
   pub answers : StoreAnswers word (outcomeOf (r .answer))
   pub held : WordFor word (outcomeOf (r .answer)) (r .word)
 
--- the promise of the normaliser, with the output as it was and as it is
-pub data NormaliseRight (word before after : List ℕ) : Outcome → Type 0 where
-  writes : {n : ℕ} → Stores word n → length (storedForm word) ≤ length before
-      → after ≡ storedForm word ++ drop (length (storedForm word)) before → NormaliseRight word before after (accepts (length (storedForm word)))
-  word-refused : {number place : ℕ} → StoreRefusedWith word number place → after ≡ before → NormaliseRight word before after (refuses number place)
-  too-short : {n : ℕ} → Stores word n → length before < length (storedForm word) → after ≡ before
-      → NormaliseRight word before after (refuses 5 (length (storedForm word)))
+-- the promise of the normaliser, with the output as it was and as it is: the stored form, and how many values it has
+abbrev pub NormaliseRight : List ℕ → List ℕ → List ℕ → Outcome → Type 0
+NormaliseRight word = Writes (StoreRefusedWith word) (Stores word) (λ n. storedForm word) (λ n. length (storedForm word))
 
 -- inner contracts cite what follows
 abbrev pub refusedWord : Refusal → Normalised
 refusedWord refusal = record { answer = Refused refusal; word = wordOf [] }
-
--- values written to an output, with the output as it was and as it is
-pub data PutRight (values before after : List ℕ) : Outcome → Type 0 where
-  put : length values ≤ length before → after ≡ values ++ drop (length values) before → PutRight values before after (accepts (length values))
-  no-room : length before < length values → after ≡ before → PutRight values before after (refuses 5 (length values))
 
 -- the refusal is the same, but for a foreign value: that is the first of the word
 pub record HandedIn (word : List ℕ) (refusal answer : Refusal) : Type 0 where

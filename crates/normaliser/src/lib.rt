@@ -7,7 +7,8 @@ ghost use mathlib.Core.List.{_++_};
 ghost use Prim.Native.Nat.{_≤_};
 ghost use lib.ListN.{length, drop};
 ghost use Rattle.refusals.specs.Outcome.{outcomeOf};
-ghost use Rattle.normaliser.specs.Normal.{refusedWord, HandedIn, NormalRight, PutRight, NormaliseRight};
+ghost use Rattle.refusals.specs.Output.{Puts};
+ghost use Rattle.normaliser.specs.Normal.{refusedWord, HandedIn, NormalRight, NormaliseRight};
 
 // A stored word by value, and how it reads. With a refusal the word is empty.
 pub struct Normalised {
@@ -52,7 +53,7 @@ pub fn normal_form(word: &[u16]) -> Normalised
 }
 
 // Writes values to the front of a slice.
-pub fn copy_out(values: &[u16], output: &mut [u16])
+fn copy_out(values: &[u16], output: &mut [u16])
     requires { ⌜ (length (now values) ≤ length (now output)) × (length (now values) ≤ 64) ⌝ }
     ensures { λ _. ⌜ now (output .exit) ≡ now (values .entry) ++ drop (length (now (values .entry))) (now (output .entry)) ⌝ }
 {
@@ -63,10 +64,10 @@ pub fn copy_out(values: &[u16], output: &mut [u16])
     }
 }
 
-// Writes a stored form to the front of `output`, where there is room for it.
-fn put_out(values: &[u16], output: &mut [u16]) -> Counted
+// Writes values to the front of `output`, where there is room for them, and tells how many.
+pub fn put_out(values: &[u16], output: &mut [u16]) -> Counted
     requires { ⌜ length (now values) ≤ 64 ⌝ }
-    ensures { λ r. ⌜ PutRight (now (values .entry)) (now (output .entry)) (now (output .exit)) (outcomeOf r) ⌝ }
+    ensures { λ r. ⌜ Puts (now (values .entry)) (now (output .entry)) (now (output .exit)) (outcomeOf r) ⌝ }
 {
     if output.len() < values.len() {
         return Counted::Refused(Refusal::OutputTooShort(values.len()));

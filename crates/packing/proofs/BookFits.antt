@@ -27,7 +27,7 @@ use Rattle.keeping.proofs.Laws.{Bytes}
 use Rattle.ranking.specs.Rank.{rankOf, Among}
 use Rattle.ranking.proofs.Laws.{rank-below, rank-too-high, rank-of-no-book}
 use Rattle.wordbook.specs.Calls.{WordRefused, empty, refused, CallAnswers, word-refused, word-stored, AddPromise, RemovePromise}
-use Rattle.packing.specs.Packing.{answer, Fits}
+use Rattle.packing.specs.Packing.{Fits}
 use Rattle.packing.specs.Answers.{outcomeNumbers, FindAnswers}
 use Rattle.packing.proofs.WordFits.{small-fits, store-refused-small}
 

@@ -21,6 +21,7 @@ use Rattle.formula.specs.Row.{Row, isRowAfter}
 use Rattle.formula.specs.Record.{finalNumberOf, linkOf, recordOf}
 use Rattle.formula.specs.Spelled.{spelled}
 use Rattle.refusals.specs.Outcome.{Outcome, accepts, accepts-both, absent, refuses}
+use Rattle.refusals.specs.Output.{Writes, refused, put, too-short}
 use Rattle.rows.proofs.Sound.{apart}
 use Rattle.rows.proofs.Complete.{first}
 use Rattle.rows.proofs.Viable.{only-row}
@@ -33,7 +34,6 @@ use Rattle.normaliser.specs.Normal as normal
 use Rattle.writing.specs.Write as writing
 use Rattle.spelling.specs.Spell as spelling
 use Rattle.spelling.proofs.Longest.{spelled-within}
-use Rattle.weighing.specs.declared.order.Order.{Order}
 use Rattle.weighing.specs.declared.order.Order.the-variants.{Less, Equal, Greater}
 use Rattle.collation.specs.Comparison.{CompareOutcome, ordered, first-refuses, second-refuses, CompareAnswers}
 use Rattle.entries.proofs.Tests.{is-true}
@@ -66,12 +66,22 @@ read-fits word (accepts-both n m) r = absurd r
 read-fits word absent r = absurd r
 read-fits word (refuses number place) r = small-fits number 0 place (omega arith) (refused-small word number place r)
 
+-- the numbers of a call that writes to an output, where those of its refusals fit, and what it writes and tells is short
+module _ {A : Type 0} (Refuses : ℕ → ℕ → Type 0) (Stands : A → Type 0) (values : A → List ℕ) (told : A → ℕ)
+    (refused-fits : (number place : ℕ) → Refuses number place → Fits (outcomeNumbers (refuses number place)))
+    (few : (thing : A) → Stands thing → (told thing < 0x100000000) × (length (values thing) < 0x100000000)) (before after : List ℕ) where
+  pub writes-fits : (o : Outcome) → Writes Refuses Stands values told before after o → Fits (outcomeNumbers o)
+  writes-fits o (refused r e) = refused-fits _ _ r
+  writes-fits o (put s h e) = record { tag = omega arith; second = omega arith; first = few _ s .0 }
+  writes-fits o (too-short s h e) = record { tag = omega arith; second = omega arith; first = few _ s .1 }
+
+pub store-refused-fits : (word : List ℕ) (number place : ℕ) → normal.StoreRefusedWith word number place → Fits (outcomeNumbers (refuses number place))
+store-refused-fits word number place r = small-fits number 0 place (omega arith) (store-refused-small word number place r)
+
 pub normalise-fits : (word before after : List ℕ) (o : Outcome) → normal.NormaliseRight word before after o → Fits (outcomeNumbers o)
-normalise-fits word before after o (normal.writes s h e) =
-    record { tag = omega arith; second = omega arith; first = omega (arith, s .reads .admissible .short) }
-normalise-fits word before after o (normal.word-refused r e) = small-fits _ 0 _ (omega arith) (store-refused-small word _ _ r)
-normalise-fits word before after o (normal.too-short s h e) =
-    record { tag = omega arith; second = omega arith; first = omega (arith, s .reads .admissible .short) }
+normalise-fits word =
+    writes-fits (normal.StoreRefusedWith word) (normal.Stores word) _ _ (store-refused-fits word)
+    (λ n s. let short = s .reads .admissible .short in (omega arith, omega arith))
 
 pub part-fits : (word : List ℕ) (number : ℕ) (o : Outcome) → PartAnswers word number o → Fits (outcomeNumbers o)
 part-fits word number (accepts size) p = absurd p
@@ -82,10 +92,13 @@ part-fits word number (accepts-both place size) p =
 part-fits word number absent p = record { tag = omega arith; second = omega arith; first = omega arith }
 part-fits word number (refuses refusal place) p = small-fits refusal 0 place (omega arith) (refused-small word refusal place p)
 
+records-refused-fits : (bytes : List ℕ) (number place : ℕ) → writing.RecordsRefused bytes number place → Fits (outcomeNumbers (refuses number place))
+records-refused-fits bytes number place (writing.no-such-row n) = record { tag = omega arith; second = omega arith; first = omega arith }
+
 pub write-fits : (bytes before after : List ℕ) (o : Outcome) → writing.WriteRight bytes before after o → Fits (outcomeNumbers o)
-write-fits bytes before after o (writing.writes r h e) = record { tag = omega arith; second = omega arith; first = omega (arith, r .short) }
-write-fits bytes before after o (writing.no-such-row n e) = record { tag = omega arith; second = omega arith; first = omega arith }
-write-fits bytes before after o (writing.too-short r h e) = record { tag = omega arith; second = omega arith; first = omega (arith, r .short) }
+write-fits bytes =
+    writes-fits (writing.RecordsRefused bytes) (writing.Recorded bytes) _ _ (records-refused-fits bytes)
+    (λ row r. let short = r .short in (omega arith, omega arith))
 
 -- one spelled syllable for each of the row
 spelled-length : (row : Row) → length (spelled row) ≡ length row

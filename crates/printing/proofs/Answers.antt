@@ -1,34 +1,29 @@
 -- What is printed for a line is its fields one behind the other; what a line is answered goes by its decoding.
 -- Assumes nothing.
-use mathlib.Core.Path.{_≡_, refl}
-use mathlib.Core.Bool.{Bool, true, false}
+use mathlib.Core.Path.{_≡_, refl, subst}
 use mathlib.Core.List.{List, [], _∷_, _++_}
 use Prim.Native.Nat.{ℕ, _≤_, _<_, _^_}
 use native.Mathlib.Omega.{arith}
 use native.Mathlib.Decide.{decLe}
-use lib.Dec.{leb}
-use lib.ListN.{length, take, length-append, length-take}
-use lib.Seq.{take-all}
-use borrow.Author.Tests.{lt-leb}
-use Rattle.letters.specs.Choice.{pick}
+use lib.ListN.{length, take, length-append}
+use lib.Seq.{take-all, length-take-le}
 use Rattle.formula.specs.Limits.{lineLimit}
+use Rattle.formula.proofs.Held.{held-front, held-fits}
 use Rattle.weighing.specs.Keys.{keyLimit, zeros}
 use Rattle.refusals.specs.Outcome.{outcomeOf}
 use Rattle.refusals.specs.declared.Refusal.{Refusal}
-use Rattle.refusals.specs.declared.Refusal.the-variants.{TooLong}
 use Rattle.refusals.specs.declared.Counted.{Counted}
 use Rattle.refusals.specs.declared.Counted.the-variants.{Count, Refused}
 use Rattle.recogniser.proofs.Counted.{count-limit}
 use Rattle.storage.specs.Stored.{storedForm}
 use Rattle.normaliser.specs.Normal.{StoreAnswers}
-use Rattle.lines.specs.Line.{Decoding, values, faulty, decodeFrom, answerOf, refusedLine, decodedOf}
-use Rattle.lines.specs.declared.LineAnswer.the-variants.{Values, Refused as LineRefused}
+use Rattle.lines.specs.Line.{too-long, faulty-three, LineHolds, LineAnswers, DecodeRight}
 use Rattle.lines.specs.declared.Decoded.{Decoded}
 use Rattle.collation.specs.Keyed.{KeyRight}
 use Rattle.collation.specs.declared.key.Key.{Key}
 use Rattle.key_text.specs.Text.{decimalOf}
 use Rattle.key_text.specs.Put.{Put, PutWithin, Written}
-use Rattle.printing.specs.Output.{answerText, printed, Printable, LineRight}
+use Rattle.printing.specs.Output.{answerText, printed, Printable, KeyOfLine, of-values, line-refused, LineRight}
 use Rattle.key_text.proofs.Putting.{put-after, put-front}
 use Rattle.key_text.proofs.Decimal.{decimal-short}
 
@@ -46,24 +41,6 @@ answer-written {a} {b} {c} {d} {e} {text} {i} {j} {k} {l} number answer key is f
     (put-front (simp length-append (omega (arith, decimal-short number fits, r .short)))
     (put-after (put-after p (put-after q (r .put))) s))
 
--- the values of a decoded line stand in the word
-answer-fits : (decoding : Decoding) → answerOf decoding .word .count ≤ length (answerOf decoding .word .values)
-answer-fits (values vs) = rw length-append (omega arith)
-answer-fits (faulty p) = omega arith
-
-pub decoded-fits : (line : List ℕ) → decodedOf line .word .count ≤ length (decodedOf line .word .values)
-unfolding decodedOf pick
-decoded-fits line = go (leb (length line) lineLimit)
-  where
-    go : (short : Bool) → pick short (answerOf (decodeFrom 0 line)) (refusedLine TooLong) .word .count
-        ≤ length (pick short (answerOf (decodeFrom 0 line)) (refusedLine TooLong) .word .values)
-    go true = answer-fits (decodeFrom 0 line)
-    go false = omega arith
-
-pub line-refused : (line : List ℕ) (decoded : Decoded) (refusal : Refusal) → decoded ≡ decodedOf line → decoded .answer ≡ LineRefused refusal
-    → LineRight line (record { answer = Refused refusal; bytes = zeros keyLimit })
-line-refused line decoded refusal e told = record { right = rw (← e, told) (refl, refl); printable = tt }
-
 -- no word has more syllables than values
 pub key-printable : (word : List ℕ) (key : Key) → KeyRight word key → Printable (key .answer)
 key-printable word key right = go (key .answer) (right .answers)
@@ -72,19 +49,40 @@ key-printable word key right = go (key .answer) (right .answers)
     go (Count count) stores = count-limit (storedForm word) count (stores .reads)
     go (Refused refusal) stores = tt
 
-pub line-read : (line : List ℕ) (decoded : Decoded) (key : Key) → decoded ≡ decodedOf line → decoded .answer ≡ Values
-    → KeyRight (take (decoded .word .count) (decoded .word .values)) key → LineRight line key
-line-read line decoded key e told right = record { right = rw (← e, told) right; printable = key-printable _ key right }
+-- what decoding tells of a line that is refused, and of one that has values
+module _ (line : List ℕ) (decoded : Decoded) (right : DecodeRight line decoded) where
+  pub refused-right : (refusal : Refusal) → decoded .answer ≡ Refused refusal → LineRight line (record { answer = Refused refusal; bytes = zeros keyLimit })
+  refused-right refusal e =
+      let told = subst (λ (a : Counted). LineAnswers line (outcomeOf a) (decoded .word)) e right in
+      record { right = line-refused (told .0) refl refl; printable = tt }
+
+  module _ (n : ℕ) (e : decoded .answer ≡ Count n) where
+    pub line-holds : LineHolds line n (decoded .word)
+    line-holds = subst (λ (a : Counted). LineAnswers line (outcomeOf a) (decoded .word)) e right
+
+    pub word-fits : decoded .word .count ≤ length (decoded .word .values)
+    word-fits = held-fits (decoded .word) (line-holds .word) (line-holds .is)
+
+    pub values-right : (key : Key) → KeyRight (take (decoded .word .count) (decoded .word .values)) key → LineRight line key
+    values-right key k =
+        let h = subst (λ (l : List ℕ). KeyRight l key) (held-front (decoded .word) (line-holds .word) (line-holds .is)) k in
+        record { right = of-values (line-holds .decodes) h; printable = key-printable (line-holds .word) key h }
 
 -- the first bytes of a line, more than a line may have, are answered as the line
-module _ (most : ℕ) (over : lineLimit < most) where
-  decoded-kept : (line : List ℕ) → decodedOf (take most line) ≡ decodedOf line
-  unfolding decodedOf pick
-  decoded-kept line = go (decLe (length line) most)
-    where
-      go : Dec (length line ≤ most) → decodedOf (take most line) ≡ decodedOf line
-      go (yes h) = rw (take-all most line h) refl
-      go (no h) = rw (lt-leb (length (take most line)) lineLimit (rw length-take (omega arith)), lt-leb (length line) lineLimit (omega arith)) refl
+module _ (most : ℕ) (over : lineLimit < most) (line : List ℕ) (key : Key) where
+  long-kept : most < length line → KeyOfLine (take most line) key → KeyOfLine line key
+  long-kept more (of-values d k) =
+      let h = d .short in
+      let z : ⊥ = omega (arith, length-take-le most line (omega arith)) in
+      absurd z
+  long-kept more (line-refused (too-long h) e b) = line-refused (too-long (omega arith)) e b
+  long-kept more (line-refused (faulty-three h f) e b) =
+      let z : ⊥ = omega (arith, length-take-le most line (omega arith)) in
+      absurd z
 
-  pub line-kept : (line : List ℕ) (key : Key) → LineRight (take most line) key → LineRight line key
-  line-kept line key right = record { right = rw (decoded-kept line) at (right .right); printable = right .printable }
+  pub line-kept : LineRight (take most line) key → LineRight line key
+  line-kept right = record { right = go (decLe (length line) most); printable = right .printable }
+    where
+      go : Dec (length line ≤ most) → KeyOfLine line key
+      go (yes h) = subst (λ (l : List ℕ). KeyOfLine l key) (take-all most line h) (right .right)
+      go (no h) = long-kept (omega arith) (right .right)

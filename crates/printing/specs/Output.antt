@@ -3,14 +3,11 @@
 use mathlib.Core.Path.{_≡_}
 use mathlib.Core.List.{List, [], _∷_, _++_}
 use Prim.Native.Nat.{ℕ, _≤_}
-use lib.ListN.{take}
 use Rattle.formula.specs.Limits.{limit}
 use Rattle.weighing.specs.Keys.{keyLimit, zeros}
-use Rattle.lines.specs.Line.{decodedOf}
-use Rattle.lines.specs.declared.LineAnswer.{LineAnswer}
-use Rattle.lines.specs.declared.LineAnswer.the-variants.{Values, Refused as LineRefused}
-use Rattle.lines.specs.declared.Decoded.{Decoded}
+use Rattle.lines.specs.Line.{Decodes, LineRefused}
 use Rattle.refusals.specs.Refusal.{numberOf, placeOf}
+use Rattle.refusals.specs.Outcome.{refuses, outcomeOf}
 use Rattle.refusals.specs.declared.Refusal.{Refusal}
 use Rattle.refusals.specs.declared.Refusal.the-variants.{NoSuchRow}
 use Rattle.refusals.specs.declared.Counted.{Counted}
@@ -46,14 +43,15 @@ abbrev pub Printable : Counted → Type 0
 Printable (Count count) = count ≤ limit
 Printable (Refused refusal) = Unit {0}
 
--- the key of a line as decoded: that of its values, or all zeros with the refusal of the line
-abbrev pub KeyOfDecoded : Decoded → LineAnswer → Key → Type 0
-KeyOfDecoded decoded Values key = KeyRight (take (decoded .word .count) (decoded .word .values)) key
-KeyOfDecoded decoded (LineRefused refusal) key = (key .answer ≡ Refused refusal) × (key .bytes ≡ zeros keyLimit)
+-- the key of a line: that of its values, or all zeros with the refusal of the line
+pub data KeyOfLine (line : List ℕ) (key : Key) : Type 0 where
+  of-values : {word : List ℕ} → Decodes line word → KeyRight word key → KeyOfLine line key
+  line-refused : {number place : ℕ} → LineRefused line number place → outcomeOf (key .answer) ≡ refuses number place → key .bytes ≡ zeros keyLimit
+      → KeyOfLine line key
 
 -- the promise of an answer to a line
 pub record LineRight (line : List ℕ) (key : Key) : Type 0 where
-  pub right : KeyOfDecoded (decodedOf line) (decodedOf line .answer) key
+  pub right : KeyOfLine line key
   pub printable : Printable (key .answer)
 
 -- the promise of what is printed for a line

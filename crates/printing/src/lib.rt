@@ -4,7 +4,6 @@ use collation::key::key_of;
 use key_text::put;
 use key_text::put_decimal;
 use key_text::put_key;
-use lines::LineAnswer;
 use lines::decode;
 use refusals::Counted;
 use refusals::Refusal;
@@ -25,7 +24,7 @@ pub fn answer_line(line: &[u8]) -> Key
 {
     let decoded = decode(line);
     let answer = decoded.answer;
-    if let LineAnswer::Refused(refusal) = answer {
+    if let Counted::Refused(refusal) = answer {
         return Key {
             answer: Counted::Refused(refusal),
             bytes: [0; 320],

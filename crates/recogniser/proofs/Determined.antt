@@ -27,10 +27,10 @@ module _ (word : List ℕ) where
   pub longest-place : (p q : ℕ) → LongestViable word p → LongestViable word q → p ≡ q
   longest-place p q a b = same-place p q (λ h. a .longest q h (b .within) (b .viable)) (λ h. b .longest p h (a .within) (a .viable))
 
-  admissible-no-foreign : (p : ℕ) → Admissible word → FirstForeign word p → ⊥
+  pub admissible-no-foreign : (p : ℕ) → Admissible word → FirstForeign word p → ⊥
   admissible-no-foreign p a f = f .foreign (a .admitted p (f .within))
 
-  refused-alike : (n p m q : ℕ) → RefusedWith word n p → RefusedWith word m q → refuses n p ≡ refuses m q
+  pub refused-alike : (n p m q : ℕ) → RefusedWith word n p → RefusedWith word m q → refuses n p ≡ refuses m q
   refused-alike n p m q (too-long h) (too-long i) = refl
   refused-alike n p m q (too-long h) (foreign f) = let s = f .short in let z : ⊥ = omega arith in absurd z
   refused-alike n p m q (too-long h) (no-continuation a v l) = let s = a .short in let z : ⊥ = omega arith in absurd z

@@ -12,6 +12,7 @@ use Rattle.formula.specs.Syllable.{Syllable, syllable, bare}
 use Rattle.formula.specs.Row.{Row, join, Gives}
 use Rattle.formula.specs.Record.{recordOf, recordBytes}
 use Rattle.refusals.specs.Outcome.{Outcome, accepts, accepts-both, absent, refuses, outcomeOf}
+use Rattle.refusals.specs.Output.{refused, put, too-short}
 use Rattle.rows.proofs.Viable.{only-row}
 use Rattle.recogniser.specs.Answer.{Reads}
 use Rattle.reading.specs.Reading.{ReadRight}
@@ -20,7 +21,7 @@ use Rattle.reading.specs.declared.read.Reading.{Reading}
 use Rattle.reading.specs.declared.records.SyllableRecord.{SyllableRecord}
 use Rattle.recogniser.proofs.Answered.{refused-no-row}
 use Rattle.recogniser.proofs.Determined.{answers-alike}
-use Rattle.writing.specs.Write.{Recorded, WriteRight, writes, no-such-row, too-short}
+use Rattle.writing.specs.Write.{Recorded, no-such-row, WriteRight}
 use Rattle.writing.proofs.Laws.{write-determined}
 use Rattle.spelling.proofs.Admitted.{row-reads}
 
@@ -74,21 +75,21 @@ pub record Accepted (bytes before after : List ℕ) (n : ℕ) : Type 0 where
 -- what the writer accepts is a row's records, and the row has at most as many values as the limit
 pub accepted-row : (bytes before after : List ℕ) (outcome : Outcome) (n : ℕ) → WriteRight bytes before after outcome → outcome ≡ accepts n
     → Accepted bytes before after n
-accepted-row bytes before after outcome n (writes {row = row} p l e) f = record { row = row; recorded = p; count = cc; front = e }
-accepted-row bytes before after outcome n (no-such-row p e) f = let z : _≡_ {A = ℕ} 0 1 = cc in let no : ⊥ = omega arith in absurd no
+accepted-row bytes before after outcome n (put {thing = row} p l e) f = record { row = row; recorded = p; count = cc; front = e }
+accepted-row bytes before after outcome n (refused p e) f = let z : _≡_ {A = ℕ} 0 1 = cc in let no : ⊥ = omega arith in absurd no
 accepted-row bytes before after outcome n (too-short p l e) f = let z : _≡_ {A = ℕ} 0 1 = cc in let no : ⊥ = omega arith in absurd no
 
 -- and the records of each such row are accepted, where the output has room
 pub row-accepted : (bytes before after : List ℕ) (outcome : Outcome) (row : Row) → Recorded bytes row → length (join row) ≤ length before
     → WriteRight bytes before after outcome → WrittenTo (join row) before after outcome
 row-accepted bytes before after outcome row p room w =
-    let same = write-determined bytes before after (join row ++ drop (length (join row)) before) outcome (accepts (length (join row))) w (writes p room refl) in
+    let same = write-determined bytes before after (join row ++ drop (length (join row)) before) outcome (accepts (length (join row))) w (put p room refl) in
     record { counted = same .outcome; front = same .output }
 
 -- all else is refused with 6
 pub row-refused : (bytes before after : List ℕ) (outcome : Outcome) → ((row : Row) → Recorded bytes row → ⊥) → WriteRight bytes before after outcome
     → outcome ≡ refuses 6 0
-row-refused bytes before after outcome none w = write-determined bytes before after before outcome (refuses 6 0) w (no-such-row none refl) .outcome
+row-refused bytes before after outcome none w = write-determined bytes before after before outcome (refuses 6 0) w (refused (no-such-row none) refl) .outcome
 
 -- the records read are those of the row that gives the word
 records-of : (word : List ℕ) (n : ℕ) (bytes : List ℕ) → Reads word n → RecordsRead word n bytes → (row : Row) → Gives row word → Recorded bytes row

@@ -2,14 +2,15 @@
 -- each syllable has five bytes of them. Assumes nothing.
 use mathlib.Core.Path.{_≡_, refl, ap, _∙_}
 use mathlib.Core.List.{List, [], _∷_}
-use Prim.Native.Nat.{ℕ}
+use Prim.Native.Nat.{ℕ, _-_, _≤_}
 use native.Mathlib.Omega.{arith}
-use lib.ListN.{length}
+use lib.ListN.{length, length-append, length-replicate}
+use Rattle.formula.specs.Limits.{limit}
 use Rattle.formula.specs.Syllable.{syllable}
 use Rattle.formula.specs.Row.{Row}
 use Rattle.formula.specs.Weighing.{weightsOf, weights}
 use Rattle.weighing.specs.Order.{orderNumbers, inTurn, lexicographic, orderValues, orderWeights, Filed, order}
-use Rattle.weighing.specs.Keys.{usedBytes, keyOf}
+use Rattle.weighing.specs.Keys.{usedBytes, keyLimit, zeros, keyOf, keyBytes}
 use Rattle.weighing.proofs.Lexicographic.{IsOrder, lexicographic-is-order, in-turn-is-order, over-append}
 use Rattle.weighing.proofs.OrderOfNumbers.{numbers-are-ordered}
 
@@ -46,3 +47,7 @@ pub key-used : (row : Row) → length (keyOf row) ≡ usedBytes (length row)
 unfolding weightsOf
 key-used [] = refl
 key-used (syllable h m v f t ∷ row) = let e = key-used row in omega arith
+
+-- so a key has as many bytes as it is held in
+pub key-length : (row : Row) → length row ≤ limit → length (keyBytes row) ≡ keyLimit
+key-length row few = omega (arith, key-used row, length-append (keyOf row) (zeros (keyLimit - usedBytes (length row))), length-replicate {A = ℕ} (keyLimit - usedBytes (length row)) 0)

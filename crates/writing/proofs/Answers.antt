@@ -14,7 +14,8 @@ use Rattle.formula.specs.Syllable.{no-final}
 use Rattle.formula.specs.Row.{Row, IsRow, join}
 use Rattle.formula.specs.Record.{recordBytes}
 use Rattle.refusals.specs.Outcome.{accepts, refuses}
-use Rattle.writing.specs.Write.{Recorded, WriteRight, writes, no-such-row, too-short}
+use Rattle.refusals.specs.Output.{refused, put, too-short}
+use Rattle.writing.specs.Write.{Recorded, no-such-row, WriteRight}
 use Rattle.writing.specs.Records.{rowOf, areRecords}
 use Rattle.writing.specs.Size.{sizeOf}
 use Rattle.writing.specs.Put.{RowFits, RowPut}
@@ -72,7 +73,7 @@ size-none bytes size e f = rw (sym e ∙ f) at (said bytes)
 
 -- the promise of writing, with no row, with an output that is too short, and with the word written
 pub write-none : (bytes before : List ℕ) (size : Size) → size ≡ sizeOf bytes → size ≡ NoSuchRow → WriteRight bytes before before (refuses 6 0)
-write-none bytes before size e f = no-such-row (size-none bytes size e f) refl
+write-none bytes before size e f = refused (no-such-row (size-none bytes size e f)) refl
 
 module _ (bytes before : List ℕ) (count : ℕ) (s : Sized bytes count) where
   pub write-short : length before < count → WriteRight bytes before before (refuses 5 count)
@@ -82,4 +83,4 @@ module _ (bytes before : List ℕ) (count : ℕ) (s : Sized bytes count) where
   row-fits enough = record { are-records = s .are-records; fits = omega (arith, s .counted) }
 
   pub write-done : count ≤ length before → (after : List ℕ) (result : ℕ) → RowPut bytes before after result → WriteRight bytes before after (accepts result)
-  write-done enough after result p = rw (p .counted) (writes (s .recorded) (omega (arith, s .counted)) (p .put))
+  write-done enough after result p = rw (p .counted) (put (s .recorded) (omega (arith, s .counted)) (p .put))

@@ -1,14 +1,14 @@
 -- A row's records tell the row, and the promise of writing fixes the outcome and the output: both since records are read back as their row.
 -- Assumes nothing.
-use mathlib.Core.Path.{_≡_, refl, ap, sym, _∙_}
+use mathlib.Core.Path.{_≡_, refl, sym, _∙_}
 use mathlib.Core.List.{List}
 use Prim.Native.Nat.{ℕ}
-use native.Mathlib.Omega.{arith}
 use lib.ListN.{length}
 use Rattle.formula.specs.Row.{Row, IsRow, join}
 use Rattle.formula.specs.Record.{recordBytes}
-use Rattle.refusals.specs.Outcome.{Outcome}
-use Rattle.writing.specs.Write.{Recorded, WriteRight, writes, no-such-row, too-short}
+use Rattle.refusals.specs.Outcome.{Outcome, refuses}
+use Rattle.refusals.proofs.Determined.{Same, writes-determined}
+use Rattle.writing.specs.Write.{Recorded, RecordsRefused, no-such-row, WriteRight}
 use Rattle.writing.proofs.Answers.{read-row}
 
 -- two rows with the same records are the same row
@@ -18,29 +18,14 @@ records-injective r s p q e = sym (read-row (recordBytes s) r p e .1) ∙ read-r
 same-row : (bytes : List ℕ) (r s : Row) → Recorded bytes r → Recorded bytes s → r ≡ s
 same-row bytes r s p q = records-injective r s (p .is-row) (q .is-row) (p .records ∙ sym (q .records))
 
--- two outcomes of writing the same records to the same output are the same, and so is what they leave there
-pub record Same (first second : Outcome) (after final : List ℕ) : Type 0 where
-  pub outcome : first ≡ second
-  pub output : after ≡ final
+refused-alike : (bytes : List ℕ) (n p m q : ℕ) → RecordsRefused bytes n p → RecordsRefused bytes m q → refuses n p ≡ refuses m q
+refused-alike bytes n p m q (no-such-row r) (no-such-row s) = refl
 
+recorded-not-refused : (bytes : List ℕ) (row : Row) (n p : ℕ) → Recorded bytes row → RecordsRefused bytes n p → ⊥
+recorded-not-refused bytes row n p r (no-such-row none) = none row r
+
+-- two outcomes of writing the same records to the same output are the same, and so is what they leave there
 pub write-determined : (bytes before after final : List ℕ) (first second : Outcome) → WriteRight bytes before after first → WriteRight bytes before final second
     → Same first second after final
-write-determined bytes before after final first second (writes {row = r} p l e) (writes {row = s} q m f) =
-    let one : r ≡ s = same-row bytes r s p q in
-    record { outcome = rw one; output = e ∙ rw one (sym f) }
-write-determined bytes before after final first second (writes {row = r} p l e) (no-such-row n f) = absurd (n r p)
-write-determined bytes before after final first second (writes {row = r} p l e) (too-short {row = s} q m f) =
-    let one : r ≡ s = same-row bytes r s p q in
-    let z : ⊥ = omega (arith, ap (λ (t : Row). length (join t)) one) in
-    absurd z
-write-determined bytes before after final first second (no-such-row n e) (writes {row = s} q m f) = absurd (n s q)
-write-determined bytes before after final first second (no-such-row n e) (no-such-row o f) = record { outcome = refl; output = e ∙ sym f }
-write-determined bytes before after final first second (no-such-row n e) (too-short {row = s} q m f) = absurd (n s q)
-write-determined bytes before after final first second (too-short {row = r} p l e) (writes {row = s} q m f) =
-    let one : r ≡ s = same-row bytes r s p q in
-    let z : ⊥ = omega (arith, ap (λ (t : Row). length (join t)) one) in
-    absurd z
-write-determined bytes before after final first second (too-short {row = r} p l e) (no-such-row o f) = absurd (o r p)
-write-determined bytes before after final first second (too-short {row = r} p l e) (too-short {row = s} q m f) =
-    let one : r ≡ s = same-row bytes r s p q in
-    record { outcome = rw one; output = e ∙ sym f }
+write-determined bytes =
+    writes-determined (RecordsRefused bytes) (Recorded bytes) join (λ row. length (join row)) (refused-alike bytes) (same-row bytes) (recorded-not-refused bytes)

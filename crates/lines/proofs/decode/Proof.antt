@@ -1,7 +1,8 @@
 -- `lines::decode` meets its contract. The loop's invariant is `Passed`: the array shows the values so far, the place is three bytes for each, and the line decodes to them and then to what is left. The measure is what is left of the length.
 -- Assumes nothing.
-use mathlib.Core.Path.{sym, _∙_}
-use Prim.Native.Nat.{_-_}
+use mathlib.Core.Path.{_≡_, sym, subst, _∙_}
+use mathlib.Core.List.{List}
+use Prim.Native.Nat.{ℕ, _-_}
 use native.Mathlib.Omega.{arith}
 use borrow.Author.Needs.{needs}
 use borrow.Author.Tests.{lt-leb}
@@ -9,11 +10,17 @@ use lib.ListN.{length}
 use denote.Ref.{now}
 use Rattle.letters.specs.Choice.{pick}
 use Rattle.formula.specs.Limits.{lineLimit}
-use Rattle.lines.specs.Line.{decodedOf}
+use Rattle.lines.specs.Line.{DecodeRight}
+use Rattle.lines.specs.declared.Decoded.{Decoded}
+use Rattle.lines.proofs.Decided.{decodedOf, decided}
 use Rattle.lines.proofs.Threes.{Turn, turn}
 use Rattle.lines.proofs.Passing.{Passed, passed-none, passed-more, passed-faulty, passed-all}
 use Rattle.lines.proofs.decode.Statement.{statement}
 use Rattle.lines.proofs.decode.Tie as tie
+
+-- the answer that is computed is right
+is-right : (line : List ℕ) (decoded : Decoded) → decoded ≡ decodedOf line → DecodeRight line decoded
+is-right line decoded e = subst (DecodeRight line) (sym e) (decided line)
 
 abbrev Inv-loop : tie.InvT-loop
 Inv-loop line values₀ count₀ at₀ values count at = Passed line values count at
@@ -26,7 +33,7 @@ refused-requires c κs = search needs
 
 returns : tie.Need-returns Inv-loop μ-loop
 unfolding decodedOf pick
-returns c = rw (lt-leb (length (now (c .before .before .before .args .line))) lineLimit (omega arith)) (c .refused .ensures)
+returns c = is-right _ (c .refused .result) (rw (lt-leb (length (now (c .before .before .before .args .line))) lineLimit (omega arith)) (c .refused .ensures))
 
 loop-holds : tie.Need-loop-holds Inv-loop μ-loop
 loop-holds c = passed-none (now (c .before .before .args .line))
@@ -57,9 +64,10 @@ returns-2 : tie.Need-returns-2 Inv-loop μ-loop
 returns-2 c =
     let at-three = c .before .before .before in
     let at-loop = at-three .before .before in
-    c .refused2 .ensures
+    is-right _ (c .refused2 .result)
+    (c .refused2 .ensures
     ∙ sym
-    (passed-faulty _ _ _ _ (at-loop .loop .inv) (at-loop .before .if1 .left) (rw (c .before .enum-told .given .1) at (turned at-three)))
+    (passed-faulty _ _ _ _ (at-loop .loop .inv) (at-loop .before .if1 .left) (rw (c .before .enum-told .given .1) at (turned at-three))))
 
 add-count : tie.Need-add-count Inv-loop μ-loop
 add-count c = omega arith
@@ -78,7 +86,7 @@ loop-again c =
     (rw (c .before .value .given .1) at (turned at-three))
 
 returns-3 : tie.Need-returns-3 Inv-loop μ-loop
-returns-3 c = passed-all _ _ _ _ (c .before .loop .inv) (c .before .before .if1 .left) (c .loop-test .left)
+returns-3 c = is-right _ _ (passed-all _ _ _ _ (c .before .loop .inv) (c .before .before .if1 .left) (c .loop-test .left))
 
 pub decode-spec : {M : Type 1} → statement M
 decode-spec =

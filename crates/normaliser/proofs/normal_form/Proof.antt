@@ -1,6 +1,6 @@
 -- `normaliser::normal_form` meets its contract: the stored form is read, and its refusal is one of the word.
 -- Assumes nothing.
-use mathlib.Core.Path.{_≡_, refl, sym, subst}
+use mathlib.Core.Path.{refl, sym, subst}
 use mathlib.Core.List.{List}
 use Prim.Native.Nat.{ℕ}
 use borrow.Author.Needs.{needs}

@@ -1,18 +1,20 @@
 -- `normaliser::normalise` meets its contract: a row of syllables is its own stored form, and any other word is stored first.
 -- Assumes nothing.
-use mathlib.Core.Path.{_≡_, refl, ap, sym, subst, _∙_}
-use mathlib.Core.Bool.{Bool, true}
+use mathlib.Core.Path.{refl, sym, subst}
 use Prim.Native.Nat.{ℕ}
 use native.Mathlib.Omega.{arith}
 use lib.ListN.{length}
 use lib.Seq.{length-take-le}
 use borrow.Author.Needs.{needs}
 use Rattle.refusals.specs.Outcome.{outcomeOf}
+use Rattle.refusals.specs.Output.{refused}
 use Rattle.refusals.specs.declared.Counted.{Counted}
+use Rattle.refusals.proofs.Putting.{puts-writes}
 use Rattle.recogniser.specs.Answer.{Readable, RowTest}
+use Rattle.storage.specs.Stored.{storedForm}
 use Rattle.storage.proofs.Rows.{gives-stored}
-use Rattle.normaliser.specs.Normal.{StoreAnswers, word-refused}
-use Rattle.normaliser.proofs.Storing.{stores, held-limit, held-room, held-values, readable-stores, put-right}
+use Rattle.normaliser.specs.Normal.{StoreRefusedWith, Stores, StoreAnswers}
+use Rattle.normaliser.proofs.Storing.{stores, held-limit, held-room, held-values, readable-stores}
 use Rattle.normaliser.proofs.normalise.Statement.{statement}
 use Rattle.normaliser.proofs.normalise.Tie as tie
 
@@ -35,8 +37,8 @@ returns c =
     let a = p .before .before .before in
     let word = a .before .before .before .args .word .now in
     let readable : Readable word = subst (RowTest word) (p .before .before .if1 .taken) (a .is-row .ensures) in
-    put-right word word (a .before .before .before .args .output .now) _ (length (readable .row)) (outcomeOf (p .put-out .result)) (readable-stores word readable)
-    (sym (gives-stored (readable .row) word (readable .gives))) (p .put-out .ensures)
+    puts-writes (StoreRefusedWith word) (Stores word) (λ n. storedForm word) (a .before .before .before .args .output .now) _ (length (readable .row))
+    (readable-stores word readable) word (sym (gives-stored (readable .row) word (readable .gives))) (outcomeOf (p .put-out .result)) (p .put-out .ensures)
 
 normal-form-requires : tie.Need-normal-form-requires
 normal-form-requires c κs = search needs
@@ -48,7 +50,7 @@ returns-2 : tie.Need-returns-2
 returns-2 c =
     let a = c .before .before .before in
     let word = a .before .before .before .before .before .args .word .now in
-    word-refused (subst (λ (w : Counted). StoreAnswers word (outcomeOf w)) (c .before .answer .given .1) (a .normal-form .ensures .answers)) refl
+    refused (subst (λ (w : Counted). StoreAnswers word (outcomeOf w)) (c .before .answer .given .1) (a .normal-form .ensures .answers)) refl
 
 enum-told : tie.Need-enum-told
 enum-told c = search needs
@@ -85,9 +87,9 @@ returns-3 c =
     let a = e .before .before in
     let word = a .before .before .before .before .before .args .word .now in
     let n = e .enum-told .given .0 .0 in
-    put-right word _ (a .before .before .before .before .before .args .output .now) _ n (outcomeOf (p .put-out2 .result))
-    (stores word (a .normal-form .result) (a .normal-form .ensures) n (e .enum-told .given .1))
-    (held-values word (a .normal-form .result) (a .normal-form .ensures) n (e .enum-told .given .1)) (p .put-out2 .ensures)
+    puts-writes (StoreRefusedWith word) (Stores word) (λ m. storedForm word) (a .before .before .before .before .before .args .output .now) _ n
+    (stores word (a .normal-form .result) (a .normal-form .ensures) n (e .enum-told .given .1)) _
+    (held-values word (a .normal-form .result) (a .normal-form .ensures) n (e .enum-told .given .1)) (outcomeOf (p .put-out2 .result)) (p .put-out2 .ensures)
 
 pub normalise-spec : {M : Type 1} → statement M
 normalise-spec =

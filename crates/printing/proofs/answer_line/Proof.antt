@@ -3,7 +3,7 @@
 use mathlib.Core.Path.{sym}
 use denote.Ref.{now}
 use lib.Seq.{length-take-le}
-use Rattle.printing.proofs.Answers.{decoded-fits, line-refused, line-read}
+use Rattle.printing.proofs.Answers.{refused-right, word-fits, values-right}
 use borrow.Author.Needs.{needs}
 use Rattle.printing.proofs.answer_line.Statement.{statement}
 use Rattle.printing.proofs.answer_line.Tie as tie
@@ -16,23 +16,35 @@ enum-known-answer c = search needs
 
 returns : tie.Need-returns
 returns c =
-    line-refused (now (c .before .before .before .before .before .args .line)) (c .before .before .before .decode .result) (c .before .answer .given .0 .0) (c .before .before .before .decode .ensures) (c .before .answer .given .1)
+    let d = c .before .before .before in
+    refused-right (now (d .before .before .args .line)) (d .decode .result) (d .decode .ensures) (c .before .answer .given .0 .0) (c .before .answer .given .1)
 
 enum-told : tie.Need-enum-told
 enum-told c = search needs
 
 array-share-prefix-values : tie.Need-array-share-prefix-values
-array-share-prefix-values c = rw (c .before .before .before .before .decode .ensures) (decoded-fits (now (c .before .before .before .before .before .before .args .line)))
+array-share-prefix-values c =
+    let e = c .before .before in
+    let d = e .before .before in
+    word-fits (now (d .before .before .args .line)) (d .decode .result) (d .decode .ensures) (e .enum-told .given .0 .0) (e .enum-told .given .1)
 
 slice-aggregate-key-of : tie.Need-slice-aggregate-key-of
-slice-aggregate-key-of c = sym (length-take-le _ _ (rw (c .before .before .before .before .before .decode .ensures) (decoded-fits (now (c .before .before .before .before .before .before .before .args .line)))))
+slice-aggregate-key-of c =
+    let e = c .before .before .before in
+    let d = e .before .before in
+    sym
+    (length-take-le _ _
+    (word-fits (now (d .before .before .args .line)) (d .decode .result) (d .decode .ensures) (e .enum-told .given .0 .0) (e .enum-told .given .1)))
 
 key-of-requires : tie.Need-key-of-requires
 key-of-requires c κs = search needs
 
 returns-2 : tie.Need-returns-2
 returns-2 c =
-    line-read (now (c .before .before .before .before .before .before .before .before .args .line)) (c .before .before .before .before .before .before .decode .result) (c .key-of .result) (c .before .before .before .before .before .before .decode .ensures) (c .before .before .before .before .enum-told .given .1) (c .key-of .ensures)
+    let e = c .before .before .before .before in
+    let d = e .before .before in
+    values-right (now (d .before .before .args .line)) (d .decode .result) (d .decode .ensures) (e .enum-told .given .0 .0) (e .enum-told .given .1) (c .key-of .result)
+    (c .key-of .ensures)
 
 pub answer-line-spec : {M : Type 1} → statement M
 answer-line-spec =

@@ -1,18 +1,11 @@
 -- `interface::outputs::put_values` meets its contract: the decoded word is written out where there is room for it.
 -- Assumes nothing.
 use borrow.Author.Needs.{needs}
-use mathlib.Core.Path.{refl, subst}
-use native.Mathlib.Omega.{arith}
-use Rattle.interface.proofs.Decoding.{Holds, Tells, tells, held-limit, held-room, held-count, short-right, written-right}
+use mathlib.Core.Path.{refl}
+use Rattle.refusals.specs.Outcome.{outcomeOf}
+use Rattle.interface.proofs.Decoding.{refused-right, held-room, held-count, held-limit, written-right}
 use Rattle.interface.proofs.outputs.put_values.Statement.{statement}
 use Rattle.interface.proofs.outputs.put_values.Tie as tie
-
--- the line has values
-holds : (c : tie.After-enum-told) → let d = c .before .before in Holds (d .before .before .before .args .line .now) (d .decode .result .word)
-holds c =
-    let d = c .before .before in
-    let line = d .before .before .before .args .line .now in
-    subst (Tells line (d .decode .result .word)) (c .enum-told .given .1) (tells line (d .decode .result) (d .decode .ensures))
 
 decode-requires : tie.Need-decode-requires
 decode-requires c κs = search needs
@@ -23,37 +16,38 @@ enum-known-answer c = search needs
 returns : tie.Need-returns
 returns c =
     let d = c .before .before .before in
-    let line = d .before .before .before .args .line .now in
-    subst (Tells line (d .decode .result .word)) (c .before .answer .given .1) (tells line (d .decode .result) (d .decode .ensures)) _ _ refl
+    refused-right _ (d .decode .result) (d .decode .ensures) _ (c .before .answer .given .1) _ _ refl
 
 enum-told : tie.Need-enum-told
 enum-told c = search needs
 
-returns-2 : tie.Need-returns-2
-returns-2 c =
-    short-right _ _ (holds (c .before .before)) _ _ (c .if1 .taken) refl
-
 array-share-prefix-values : tie.Need-array-share-prefix-values
-array-share-prefix-values c = held-room _ _ (holds (c .before .before .before))
+array-share-prefix-values c =
+    let e = c .before .before in
+    let d = e .before .before in
+    held-room _ (d .decode .result) (d .decode .ensures) _ (e .enum-told .given .1)
 
-slice-aggregate-copy-out : tie.Need-slice-aggregate-copy-out
-slice-aggregate-copy-out c = held-count _ _ (holds (c .before .before .before .before))
+slice-aggregate-put-out : tie.Need-slice-aggregate-put-out
+slice-aggregate-put-out c =
+    let e = c .before .before .before in
+    let d = e .before .before in
+    held-count _ (d .decode .result) (d .decode .ensures) _ (e .enum-told .given .1)
 
-copy-out-requires : tie.Need-copy-out-requires
-copy-out-requires c κs =
-    let h = holds (c .before .before .before .before .before) in
-    let n = held-count _ _ h in
-    let l = held-limit _ _ h in
-    let r = c .before .before .before .if1 .left in
-    (omega (arith, n), omega (arith, n))
+put-out-requires : tie.Need-put-out-requires
+put-out-requires c κs =
+    let e = c .before .before .before .before in
+    let d = e .before .before in
+    held-limit _ (d .decode .result) (d .decode .ensures) _ (e .enum-told .given .1)
 
 same-length : tie.Need-same-length
 same-length c = search needs
 
-returns-3 : tie.Need-returns-3
-returns-3 c =
-    written-right _ _ (holds (c .before .before .before .before .before .before .before .before)) _ _
-    (c .before .before .before .before .before .before .if1 .left) (c .before .before .copy-out .ensures)
+returns-2 : tie.Need-returns-2
+returns-2 c =
+    let p = c .before .before in
+    let e = p .before .before .before .before .before in
+    let d = e .before .before in
+    written-right _ (d .decode .result) (d .decode .ensures) _ (e .enum-told .given .1) _ _ (outcomeOf (p .put-out .result)) (p .put-out .ensures)
 
 pub put-values-spec : {M : Type 1} → statement M
 put-values-spec =
@@ -63,9 +57,8 @@ put-values-spec =
     enum-known-answer
     returns
     enum-told
-    returns-2
     array-share-prefix-values
-    slice-aggregate-copy-out
-    copy-out-requires
+    slice-aggregate-put-out
+    put-out-requires
     same-length
-    returns-3)
+    returns-2)
