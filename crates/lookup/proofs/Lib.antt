@@ -1,3 +1,4 @@
 pub mod Words
 pub mod Walk
 pub mod Plans
+pub mod Answers

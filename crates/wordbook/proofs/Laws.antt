@@ -6,9 +6,8 @@ use mathlib.Core.List.{List}
 use Prim.Native.Nat.{ℕ, _<_}
 use native.Mathlib.Omega.{arith}
 use Rattle.refusals.specs.Outcome.{Outcome, accepts, refuses}
-use Rattle.recogniser.proofs.Answered.{refused-no-row}
 use Rattle.storage.specs.Stored.{storedForm}
-use Rattle.normaliser.specs.Normal.{StoreRefusedWith, Stores, too-long, foreign, outcome as of-outcome}
+use Rattle.normaliser.proofs.Determined.{stored-not-refused}
 use Rattle.entries.specs.Entries.{entries}
 use Rattle.lookup.specs.Outcome.{finds, findOf}
 use Rattle.keeping.specs.Written.{AddRight, RemoveRight}
@@ -17,15 +16,9 @@ use Rattle.wordbook.specs.Calls.{WordRefused, empty, refused, WordStored
 use Rattle.wordbook.proofs.Stored.{stored-storable}
 
 -- no word is both refused and stored
-store-clash : (word : List ℕ) (number place n : ℕ) → StoreRefusedWith word number place → Stores word n → ⊥
-store-clash word number place n (too-long h) s = let l = s .admissible .short in omega arith
-store-clash word number place n (foreign f) s = f .foreign (s .admissible .admitted place (f .within))
-store-clash word number place n (of-outcome a r) s =
-    refused-no-row (storedForm word) number place r (s .reads .admissible) (s .reads .row) (s .reads .gives)
-
-word-clash : (word : List ℕ) (number place : ℕ) → WordRefused word number place → WordStored word → ⊥
+pub word-clash : (word : List ℕ) (number place : ℕ) → WordRefused word number place → WordStored word → ⊥
 word-clash word number place (empty e) s = let h = s .some in omega arith
-word-clash word number place (refused h r) s = store-clash word number place (s .syllables) r (s .stores)
+word-clash word number place (refused h r) s = stored-not-refused word (s .syllables) number place (s .stores) r
 
 -- the answer to a word that is stored is the book's
 pub stored-answer : (word : List ℕ) (answer outcome : Outcome) → WordStored word → CallAnswers word answer outcome → outcome ≡ answer
