@@ -10,6 +10,10 @@ limit = 64
 abbrev pub lineLimit : ℕ
 lineLimit = 3 * limit
 
--- the most bytes of a word's records: seven for each value
-abbrev pub recordLimit : ℕ
-recordLimit = 7 * limit
+-- "seven bytes" are the record of a syllable
+abbrev pub recordSize : ℕ
+recordSize = 7
+
+-- "Five weights a syllable", a byte of a key each
+abbrev pub weightCount : ℕ
+weightCount = 5

@@ -15,7 +15,16 @@ impl Word {
     pub const LIMIT: usize = 64;
 
     // The most bytes of a line, three for each value.
-    pub const LINE_LIMIT: usize = 192;
+    pub const LINE_LIMIT: usize = 3 * Word::LIMIT;
+
+    // The bytes of a syllable's record.
+    pub const RECORD: usize = 7;
+
+    // The weights of a syllable, a byte of a key each.
+    pub const WEIGHTS: usize = 5;
+
+    // The bytes of a key: the weights of as many syllables as a word has values at most.
+    pub const KEY: usize = Word::WEIGHTS * Word::LIMIT;
 
     // No value yet.
     pub fn empty() -> Self

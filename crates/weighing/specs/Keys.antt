@@ -3,13 +3,13 @@
 use mathlib.Core.List.{List, [], _∷_, _++_}
 use Prim.Native.Nat.{ℕ, _*_, _-_}
 use lib.ListN.{length, replicate}
-use Rattle.formula.specs.Limits.{limit}
+use Rattle.formula.specs.Limits.{limit, weightCount}
 use Rattle.formula.specs.Row.{Row}
 use Rattle.formula.specs.Weighing.{weightsOf}
 
 -- the bytes of a key that are used: "five a syllable"
 abbrev pub usedBytes : ℕ → ℕ
-usedBytes n = 5 * n
+usedBytes n = weightCount * n
 
 -- "A key is held in 320 bytes"
 abbrev pub keyLimit : ℕ
