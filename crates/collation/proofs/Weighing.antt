@@ -18,10 +18,10 @@ use Rattle.storage.specs.Stored.{storedForm}
 use Rattle.storage.proofs.Rows.{gives-stored}
 use Rattle.normaliser.specs.Normal.{StoreRefusedWith, Stores, StoreAnswers, HandedIn}
 use Rattle.normaliser.proofs.Storing.{word-admissible, refused-right, reads-stores}
-use Rattle.weighing.specs.Keys.{usedBytes}
+use Rattle.weighing.specs.Keys.{keyLimit, usedBytes, zeros}
 use Rattle.weighing.specs.Order.{inTurn, orderValues}
 use Rattle.keying.specs.Filled.{KeyIfRead, FillRight}
-use Rattle.collation.specs.Keyed.{KeyFor, KeyRight, WeighedFor, WeighRight}
+use Rattle.collation.specs.Keyed.{KeyFor, KeyRight, WeighRight}
 use Rattle.collation.specs.Comparison.{Ordered}
 use Rattle.collation.proofs.Laws.{keys-compare}
 
@@ -34,7 +34,7 @@ row-weighed word answer bytes right n e =
     record {
       answers = subst (λ (a : Counted). StoreAnswers word (outcomeOf a)) (sym e) (reads-stores word n reads);
       weighed =
-          subst (λ (a : Counted). WeighedFor word (outcomeOf a) bytes) (sym e)
+          subst (λ (a : Counted). KeyFor word (outcomeOf a) bytes) (sym e)
           (λ row g. filled row (subst (Gives row) (gives-stored (reads .row) word (reads .gives)) g));
       room = right .size;
     }
@@ -53,21 +53,30 @@ module _ (word values : List ℕ) (short : length word ≤ limit) (e : values �
             subst (λ (a : Counted). StoreAnswers word (outcomeOf a)) (sym f)
             (record { admissible = word-admissible word short (reads .admissible); reads = reads });
         weighed =
-            subst (λ (a : Counted). WeighedFor word (outcomeOf a) bytes) (sym f)
+            subst (λ (a : Counted). KeyFor word (outcomeOf a) bytes) (sym f)
             (subst (λ (a : Counted). KeyIfRead (storedForm word) (outcomeOf a) bytes) f (at-form .key));
         room = right .size;
       }
 
-  -- a refusal goes with any bytes
+  -- a refusal goes with zeros
   pub form-refused : (refusal told : Refusal) → answer ≡ Refused refusal → HandedIn word refusal told → WeighRight word (Refused told) bytes
   form-refused refusal told f h =
       record {
         answers =
             refused-right word short refusal told
             (subst (λ (a : Counted). Answers (storedForm word) (outcomeOf a)) f (at-form .answers)) h;
-        weighed = tt;
+        weighed = subst (λ (a : Counted). KeyIfRead (storedForm word) (outcomeOf a) bytes) f (at-form .key);
         room = right .size;
       }
+
+-- and a refusal leaves a key of zeros
+pub refused-zeros : (word : List ℕ) (answer : Counted) (bytes : List ℕ) → FillRight word answer bytes → (refusal : Refusal)
+    → answer ≡ Refused refusal → bytes ≡ zeros keyLimit
+refused-zeros word answer bytes right refusal e = subst (λ (a : Counted). KeyIfRead word (outcomeOf a) bytes) e (right .key)
+
+pub weighed-key : (word : List ℕ) (answer : Counted) (bytes : List ℕ) → WeighRight word answer bytes
+    → KeyRight word (record { answer = answer; bytes = bytes })
+weighed-key word answer bytes right = record { answers = right .answers; bytes = right .weighed }
 
 pub weighed-refused : (word : List ℕ) (answer : Counted) (bytes : List ℕ) → WeighRight word answer bytes → (refusal : Refusal)
     → answer ≡ Refused refusal → StoreRefusedWith word (numberOf refusal) (placeOf refusal)
@@ -86,15 +95,6 @@ module _ (w : Weighed) where
   pub weighed-stores : Stores (w .word) (w .count)
   weighed-stores = subst (λ (a : Counted). StoreAnswers (w .word) (outcomeOf a)) (w .told) (w .right .answers)
 
-  pub weighed-key : KeyRight (w .word) (record { answer = w .answer; bytes = w .bytes })
-  weighed-key =
-      record {
-        answers = w .right .answers;
-        bytes =
-            subst (λ (a : Counted). KeyFor (w .word) (outcomeOf a) (w .bytes)) (sym (w .told))
-            (subst (λ (a : Counted). WeighedFor (w .word) (outcomeOf a) (w .bytes)) (w .told) (w .right .weighed));
-      }
-
   pub weighed-limit : w .count ≤ limit
   weighed-limit = count-limit (storedForm (w .word)) (w .count) (weighed-stores .reads)
 
@@ -106,4 +106,6 @@ module _ (w : Weighed) where
 pub weighed-order : (w v : Weighed) → Ordered (w .word) (v .word)
     (inTurn (orderValues (take (usedBytes (w .count)) (w .bytes)) (take (usedBytes (v .count)) (v .bytes)))
     (orderValues (storedForm (w .word)) (storedForm (v .word))))
-weighed-order w v = keys-compare (w .word) _ (weighed-key w) (w .count) (w .told) (v .word) _ (weighed-key v) (v .count) (v .told)
+weighed-order w v =
+    keys-compare (w .word) _ (weighed-key (w .word) (w .answer) (w .bytes) (w .right)) (w .count) (w .told)
+    (v .word) _ (weighed-key (v .word) (v .answer) (v .bytes) (v .right)) (v .count) (v .told)

@@ -24,14 +24,8 @@ pub record KeyRight (word : List ℕ) (key : Key) : Type 0 where
   pub answers : StoreAnswers word (outcomeOf (key .answer))
   pub bytes : KeyFor word (outcomeOf (key .answer)) (key .bytes)
 
--- inner contracts cite what follows: the same with nothing said of the bytes that go with a refusal
-abbrev pub WeighedFor : List ℕ → Outcome → List ℕ → Type 0
-WeighedFor word (accepts n) bytes = (row : Row) → Gives row (storedForm word) → bytes ≡ keyBytes row
-WeighedFor word (accepts-both n m) bytes = ⊥
-WeighedFor word absent bytes = ⊥
-WeighedFor word (refuses number place) bytes = Unit {0}
-
+-- inner contracts cite what follows: the same of an answer beside the bytes
 pub record WeighRight (word : List ℕ) (answer : Counted) (bytes : List ℕ) : Type 0 where
   pub answers : StoreAnswers word (outcomeOf answer)
-  pub weighed : WeighedFor word (outcomeOf answer) bytes
+  pub weighed : KeyFor word (outcomeOf answer) bytes
   pub room : length bytes ≡ keyLimit

@@ -5,19 +5,17 @@ use normaliser::as_handed_in;
 use refusals::Counted;
 use refusals::Refusal;
 ghost use mathlib.Core.Path.{_≡_};
-ghost use lib.ListN.{length};
 ghost use Rattle.weighing.specs.Keys.{keyLimit, zeros};
 ghost use Rattle.collation.specs.Keyed.{WeighRight};
 
-// Fills the key of a word's stored form, which is a word of its own.
+// Fills a key of zeros with the weights of a word's stored form, which is a word of its own.
 fn weigh_stored(word: &[u16], bytes: &mut [u8; 320]) -> Counted
-    requires { ⌜ length (now bytes) ≡ keyLimit ⌝ }
+    requires { ⌜ now bytes ≡ zeros keyLimit ⌝ }
     ensures { λ r. ⌜ WeighRight (now (word .entry)) r (now (bytes .exit)) ⌝ }
 {
     if Word::LIMIT < word.len() {
         return Counted::Refused(Refusal::TooLong);
     }
-    *bytes = [0; 320];
     let form = storage::stored(word);
     let count = form.count;
     let values = form.values;
@@ -28,8 +26,7 @@ fn weigh_stored(word: &[u16], bytes: &mut [u8; 320]) -> Counted
     answer
 }
 
-// Fills a key of zeros with the weights of a word's stored form; with a refusal the bytes are of no use. A row of syllables is its own
-// stored form.
+// The same for a word of any values and any length; with a refusal it is a key of zeros again. A row of syllables is its own stored form.
 pub fn weigh(word: &[u16], bytes: &mut [u8; 320]) -> Counted
     requires { ⌜ now bytes ≡ zeros keyLimit ⌝ }
     ensures { λ r. ⌜ WeighRight (now (word .entry)) r (now (bytes .exit)) ⌝ }

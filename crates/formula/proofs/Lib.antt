@@ -1,3 +1,5 @@
 pub mod Lists
 pub mod Held
 pub mod Words
+pub mod Classes
+pub mod Pieces

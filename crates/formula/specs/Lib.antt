@@ -3,6 +3,6 @@ pub mod Held
 pub mod Syllable
 pub mod Row
 pub mod Record
-pub mod Numbers
+pub mod Packed
 pub mod Spelled
 pub mod Weighing

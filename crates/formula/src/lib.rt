@@ -1,8 +1,8 @@
-// The word type with its limits, and a syllable as numbers. What a syllable and a row of syllables are is said in specs/.
+// The word type with its limits, and how far a word is read. What a syllable and a row of syllables are is said in specs/.
 ghost use mathlib.Core.Path.{_≡_};
 ghost use mathlib.Core.List.{[]};
 ghost use Rattle.formula.specs.Held.{wordOf};
-ghost use Rattle.formula.specs.Numbers.{nothing, greatSaHead, unread};
+ghost use Rattle.formula.specs.Packed.{unread};
 
 // A word by value: the first `count` of `values`; the others are zero.
 pub struct Word {
@@ -40,58 +40,15 @@ impl Word {
     {
         Window {
             count: 0,
-            last: Syllable::nothing(),
-            before: Syllable::nothing(),
+            last: 0,
+            before: 0,
         }
     }
 }
 
-// A syllable by numbers: its head minus 1000, the set of its medials (Y 1, R 2, W 4, H 8), and the numbers of its record.
-pub struct Syllable {
-    pub head: u8,
-    pub medials: u8,
-    pub vowel: u8,
-    pub tall: u8,
-    pub letter: u8,
-    pub link: u8,
-    pub tone: u8,
-}
-
-impl Syllable {
-    // What stands before the first syllable: a head that is no letter, so that it carries nothing.
-    pub fn nothing() -> Self
-        ensures { λ r. ⌜ r ≡ nothing ⌝ }
-    {
-        Self {
-            head: 0xff,
-            medials: 0,
-            vowel: 0,
-            tall: 0,
-            letter: 0,
-            link: 0,
-            tone: 0,
-        }
-    }
-
-    // The head that great sa begins a syllable with.
-    pub fn great_sa() -> Self
-        ensures { λ r. ⌜ r ≡ greatSaHead ⌝ }
-    {
-        Self {
-            head: 0x1e,
-            medials: 0,
-            vowel: 0,
-            tall: 0,
-            letter: 0,
-            link: 0,
-            tone: 0,
-        }
-    }
-}
-
-// How far a word is read: the number of its syllables so far, the last of them, and the one before it.
+// How far a word is read: the number of its syllables so far, the last of them, and the one before it, each packed in one number.
 pub struct Window {
     pub count: usize,
-    pub last: Syllable,
-    pub before: Syllable,
+    pub last: u64,
+    pub before: u64,
 }

@@ -15,7 +15,7 @@ use Rattle.refusals.specs.declared.Counted.{Counted}
 use Rattle.refusals.specs.declared.Counted.the-variants.{Refused}
 use Rattle.normaliser.specs.Normal.{Stores}
 use Rattle.weighing.specs.Keys.{keyLimit, keyBytes}
-use Rattle.collation.specs.Keyed.{WeighedFor, WeighRight}
+use Rattle.collation.specs.Keyed.{KeyFor, WeighRight}
 use Rattle.collation.proofs.Weighing.{Weighed, weighed-refused, weighed-stores}
 use Rattle.interface.specs.Outputs.{StoredRow, KeyWritten}
 
@@ -34,7 +34,7 @@ module _ (w : Weighed) where
   stored-row = record { stores = subst (Stores (w .word)) (sym counted) (weighed-stores w); gives = weighed-stores w .reads .gives }
 
   bytes-are : w .bytes ≡ keyBytes row
-  bytes-are = subst (λ (a : Counted). WeighedFor (w .word) (outcomeOf a) (w .bytes)) (w .told) (w .right .weighed) row (stored-row .gives)
+  bytes-are = subst (λ (a : Counted). KeyFor (w .word) (outcomeOf a) (w .bytes)) (w .told) (w .right .weighed) row (stored-row .gives)
 
   key-size : length (keyBytes row) ≡ keyLimit
   key-size = sym (ap length bytes-are) ∙ w .right .room

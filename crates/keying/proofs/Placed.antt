@@ -10,20 +10,19 @@ use lib.Dec.{T, eqb}
 use lib.ListN.{length, drop, length-append, length-replicate}
 use lib.Seq.{take-at, drop-at, drop-append-add, sets, sets-eq, length-sets}
 use Rattle.letters.specs.Choice.{pick}
-use Rattle.letters.specs.Weights.{isHead}
+use Rattle.letters.proofs.Branches.{when-equal, when-unequal}
 use Rattle.formula.specs.Limits.{limit}
-use Rattle.formula.specs.Syllable.{Syllable, syllable, bare, isSyllable}
+use Rattle.formula.specs.Syllable.{no-final, great-sa, Syllable, syllable, bare, finalOf, isNoFinal, isSyllable}
 use Rattle.formula.specs.Row.{Row}
+use Rattle.formula.specs.Packed.{packed, packedTop, packedBelow}
 use Rattle.formula.specs.Weighing.{weightsOf}
-use Rattle.rows.specs.Kept.{KeptOk}
-use Rattle.steps.proofs.Branches.{when-equal, when-unequal}
+use Rattle.rows.specs.Kept.{endOf, KeptOk}
+use Rattle.transitions.specs.Transition.{finalBy, Makes, begins, begins-great-sa, adds-medial, adds-vowel, adds-tone, makes-kinzi, closes}
+use Rattle.syllables.proofs.Moved.{closed-final}
 use Rattle.weighing.specs.Keys.{keyLimit, usedBytes, zeros, keyOf}
-use Rattle.keying.specs.Packed.{packed, fiveBytes, keptKey}
-use Rattle.keying.specs.Filling.{weightsAfter, putLast, bytesAfter, belowLast, WeightsOf, KeyOf}
-use Rattle.keying.specs.declared.fill.Weights.{Weights}
-use Rattle.keying.proofs.Bytes.{packed-bytes}
-use Rattle.keying.proofs.After.{no-great-sa, closed-itself, closed-great, refuted, finished-before}
-use Rattle.keying.proofs.Gained.{Moved, pushed, changed, closed, doubled}
+use Rattle.keying.specs.Weights.{weightsBy}
+use Rattle.keying.specs.Filling.{putLast, bytesAfter, belowLast, keptKey, KeyOf}
+use Rattle.keying.proofs.Weighted.{weights-packed}
 
 five-long : (s : Syllable) → length (weightsOf s) ≡ 5
 unfolding weightsOf
@@ -67,7 +66,7 @@ put-at : (t s : Syllable) (rest : Row) (bytes : List ℕ) (k : KeyOf (t ∷ rest
     → putLast (suc (length rest)) p bytes ≡ keptKey (s ∷ rest) ++ zeros (k .rest)
 unfolding putLast
 put-at t s rest bytes k i p e =
-    let v : fiveBytes p ≡ weightsOf s = ap fiveBytes e ∙ packed-bytes s i in
+    let v : weightsBy p ≡ weightsOf s = ap weightsBy e ∙ weights-packed s i in
     let n : length (keptKey rest) ≡ 5 * (suc (length rest) - 1) = omega (arith, kept-long rest) in
     sym (when-unequal (suc (length rest)) 0 _ _ _ (λ (z : suc (length rest) ≡ 0). omega arith) refl)
     ∙ ap (λ (l : List ℕ). sets bytes (5 * (suc (length rest) - 1)) l) v
@@ -104,56 +103,66 @@ pub is-begun : (d count p : ℕ) (bytes : List ℕ) → d ≡ 2 → putLast coun
 unfolding bytesAfter
 is-begun d count p bytes e = when-equal d 2 _ _ _ e refl
 
-module _ (x d q : ℕ) (w : Weights) (bytes : List ℕ) where
-  abbrev put : ℕ
-  put = weightsAfter d q x w .before
+-- the last syllable changes, and what is put stays
+changed : (s n : Syllable) (rest : Row) (bytes : List ℕ) → (T (isNoFinal (finalOf n)) → T (isNoFinal (finalOf s))) → KeyOf (s ∷ rest) bytes
+    → KeyOf (n ∷ rest) bytes
+changed s n rest bytes f k =
+    record { place = k .place; rest = k .rest; is = k .is; five = k .five; size = k .size; fresh = λ t. k .fresh (f t) }
 
-  pushed-key : (kept : Row) → T (isHead x) → KeptOk kept → length kept < limit → WeightsOf kept w → KeyOf kept bytes → d ≡ 2
-      → KeyOf (bare x ∷ kept) (putLast (length kept) put bytes)
-  pushed-key [] i o h g k e = first-begun (bare x) bytes put k
-  pushed-key (s ∷ rest) i o h g k e =
-      begun (bare x) s s rest bytes k (o .1) h put (finished-before x d q w e ∙ closed-itself x (w .last) (no-great-sa x i) ∙ g .last)
+-- the last head is the final of the syllable below it, which is put again when it ends
+closed : (top s n : Syllable) (rest : Row) (bytes : List ℕ) → T (isNoFinal (finalOf top)) → (T (isNoFinal (finalOf n)) → ⊥)
+    → KeyOf (top ∷ s ∷ rest) bytes → KeyOf (n ∷ rest) bytes
+closed top s n rest bytes t f k =
+    let z = k .size in
+    record {
+      place = weightsOf s;
+      rest = 5 + k .rest;
+      is =
+          k .is ∙ ap (λ (u : List ℕ). keptKey (s ∷ rest) ++ (u ++ zeros (k .rest))) (k .fresh t)
+          ∙ ap (λ (u : List ℕ). keptKey (s ∷ rest) ++ u) (zeros-add 5 (k .rest)) ∙ append-assoc (keptKey rest) (weightsOf s) (zeros (5 + k .rest));
+      five = five-long s;
+      size = omega arith;
+      fresh = λ u. absurd (f u);
+    }
 
-  -- the bytes after the value are those of the new row
-  pub key-move : (kept b : Row) → Moved x kept b → length b + 1 ≡ length kept + d → KeptOk kept → KeptOk b → length kept < limit → WeightsOf kept w
-      → KeyOf kept bytes → KeyOf b (bytesAfter d (length kept) put bytes)
-  key-move kept _ (pushed i) l o v h g k =
-      let e : d ≡ 2 = omega arith in
-      subst (KeyOf (bare x ∷ kept)) (is-begun d (length kept) put bytes e) (pushed-key kept i o h g k e)
-  key-move _ _ (changed {s} {n} {rest} p f) l o v h g k =
-      subst (KeyOf (n ∷ rest)) (not-begun d (suc (length rest)) put bytes (λ (i : d ≡ 2). omega arith))
-      (record { place = k .place; rest = k .rest; is = k .is; five = k .five; size = k .size; fresh = λ t. k .fresh (f t) })
-  key-move _ _ (closed {top} {s} {n} {rest} t r p f) l o v h g k =
-      let z = k .size in
-      subst (KeyOf (n ∷ rest)) (not-begun d (suc (suc (length rest))) put bytes (λ (i : d ≡ 2). omega arith))
-      (record {
-        place = weightsOf s;
-        rest = 5 + k .rest;
-        is =
-            k .is ∙ ap (λ (u : List ℕ). keptKey (s ∷ rest) ++ (u ++ zeros (k .rest))) (k .fresh t)
-            ∙ ap (λ (u : List ℕ). keptKey (s ∷ rest) ++ u) (zeros-add 5 (k .rest)) ∙ append-assoc (keptKey rest) (weightsOf s) (zeros (5 + k .rest));
-        five = five-long s;
-        size = omega arith;
-        fresh = λ u. absurd (refuted n f u);
-      })
-  key-move _ _ (doubled {s} {n} {rest} y p) l o v h g k =
-      let e : d ≡ 2 = omega arith in
-      subst (KeyOf (bare 0x101E ∷ n ∷ rest)) (is-begun d (suc (length rest)) put bytes e)
-      (begun (bare 0x101E) s n rest bytes k (v .2 .1) h put
-      (finished-before x d q w e ∙ closed-great x (w .last) y ∙ omega (arith, g .last, p)))
+module _ (bytes : List ℕ) (p : ℕ) where
+  pushed : (y : Syllable) (kept : Row) → KeptOk kept → length kept < limit → p ≡ packedTop kept → KeyOf kept bytes
+      → KeyOf (y ∷ kept) (putLast (length kept) p bytes)
+  pushed y [] o h e k = first-begun y bytes p k
+  pushed y (s ∷ rest) o h e k = begun y s s rest bytes k (o .1) h p e
+
+  -- the bytes after the value are those of the new row, where the syllable below the last is put
+  pub key-moves : {x byte d a : ℕ} {kept b : Row} → Makes x byte d a kept b → KeptOk b → length kept < limit
+      → (T (isNoFinal (endOf b)) → p ≡ packedBelow b) → KeyOf kept bytes → KeyOf b (bytesAfter d (length kept) p bytes)
+  key-moves {x} {kept = kept} (begins i) o h e k =
+      subst (KeyOf (bare x ∷ kept)) (is-begun 2 (length kept) p bytes refl) (pushed (bare x) kept (o .2) h (e tt) k)
+  key-moves (begins-great-sa {h = g} {m = m} {v = v} {t = t} {kept = kept} y) o h e k =
+      subst (KeyOf (bare 0x101E ∷ syllable g m v great-sa t ∷ kept)) (is-begun 2 (suc (length kept)) p bytes refl)
+      (begun (bare 0x101E) (syllable g m v no-final t) (syllable g m v great-sa t) kept bytes k (o .2 .1) h p (e tt))
+  key-moves {kept = kept} {b} (adds-medial i) o h e k =
+      subst (KeyOf b) (not-begun 1 (length kept) p bytes (λ (z : 1 ≡ 2). omega arith)) (changed _ _ _ bytes (λ t. t) k)
+  key-moves {kept = kept} {b} (adds-vowel i) o h e k =
+      subst (KeyOf b) (not-begun 1 (length kept) p bytes (λ (z : 1 ≡ 2). omega arith)) (changed _ _ _ bytes (λ t. t) k)
+  key-moves {kept = kept} {b} (adds-tone i) o h e k =
+      subst (KeyOf b) (not-begun 1 (length kept) p bytes (λ (z : 1 ≡ 2). omega arith)) (changed _ _ _ bytes (λ t. t) k)
+  key-moves {kept = kept} {b} makes-kinzi o h e k =
+      subst (KeyOf b) (not-begun 1 (length kept) p bytes (λ (z : 1 ≡ 2). omega arith)) (changed _ _ _ bytes (λ t. absurd t) k)
+  key-moves {x} {kept = kept} {b} (closes {c = c} {h = g} {m = m} {v = v} {t = t} {kept = rest} l) o h e k =
+      subst (KeyOf b) (not-begun 0 (length kept) p bytes (λ (z : 0 ≡ 2). omega arith))
+      (closed (bare c) (syllable g m v no-final t) (syllable g m v (finalBy x c) t) rest bytes tt (closed-final x c) k)
 
 -- at the end of the word
-pub key-end : (kept : Row) (bytes : List ℕ) → KeptOk kept → (w : Weights) → WeightsOf kept w → KeyOf kept bytes
-    → putLast (length kept) (w .last) bytes ≡ keptKey kept ++ zeros (keyLimit - usedBytes (length kept))
+pub key-end : (kept : Row) (bytes : List ℕ) (p : ℕ) → KeptOk kept → p ≡ packedTop kept → KeyOf kept bytes
+    → putLast (length kept) p bytes ≡ keptKey kept ++ zeros (keyLimit - usedBytes (length kept))
 unfolding putLast pick
-key-end [] bytes o w g k =
+key-end [] bytes p o e k =
     let z = k .size in
     k .is ∙ ap (λ (u : List ℕ). u ++ zeros (k .rest)) (k .fresh tt) ∙ zeros-add 5 (k .rest)
-    ∙ ap zeros (let e : 5 + k .rest ≡ keyLimit = omega arith in e)
-key-end (s ∷ rest) bytes o w g k =
+    ∙ ap zeros (let r : 5 + k .rest ≡ keyLimit = omega arith in r)
+key-end (s ∷ rest) bytes p o e k =
     let z = k .size in
-    put-at s s rest bytes k (o .1) (w .last) (g .last)
-    ∙ ap (λ (n : ℕ). keptKey (s ∷ rest) ++ zeros n) (let e : k .rest ≡ keyLimit - usedBytes (suc (length rest)) = omega arith in e)
+    put-at s s rest bytes k (o .1) p e
+    ∙ ap (λ (n : ℕ). keptKey (s ∷ rest) ++ zeros n) (let r : k .rest ≡ keyLimit - usedBytes (suc (length rest)) = omega arith in r)
 
 -- what is kept is the row in reverse
 key-reverse : (a r : Row) → keyOf (reverseAux a r) ≡ keptKey a ++ keyOf r
@@ -167,6 +176,6 @@ pub put-length : (count p : ℕ) (bytes : List ℕ) → length (putLast count p 
 unfolding putLast pick
 put-length count p bytes = go (eqb count 0)
   where
-    go : (b : Bool) → length (pick b bytes (sets bytes (5 * (count - 1)) (fiveBytes p))) ≡ length bytes
+    go : (b : Bool) → length (pick b bytes (sets bytes (5 * (count - 1)) (weightsBy p))) ≡ length bytes
     go true = refl
-    go false = length-sets bytes (5 * (count - 1)) (fiveBytes p)
+    go false = length-sets bytes (5 * (count - 1)) (weightsBy p)

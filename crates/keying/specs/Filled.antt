@@ -8,14 +8,14 @@ use Rattle.formula.specs.Row.{Row, Gives}
 use Rattle.refusals.specs.Outcome.{Outcome, accepts, accepts-both, absent, refuses, outcomeOf}
 use Rattle.refusals.specs.declared.Counted.{Counted}
 use Rattle.recogniser.specs.Answer.{Answers}
-use Rattle.weighing.specs.Keys.{keyLimit, keyBytes}
+use Rattle.weighing.specs.Keys.{keyLimit, zeros, keyBytes}
 
--- the bytes are the key of the row that gives the word; with a refusal they are not told
+-- the bytes are the key of the row that gives the word; with a refusal they are zeros
 abbrev pub KeyIfRead : List ℕ → Outcome → List ℕ → Type 0
 KeyIfRead word (accepts n) bytes = (row : Row) → Gives row word → bytes ≡ keyBytes row
 KeyIfRead word (accepts-both n m) bytes = Unit {0}
 KeyIfRead word absent bytes = Unit {0}
-KeyIfRead word (refuses number place) bytes = Unit {0}
+KeyIfRead word (refuses number place) bytes = bytes ≡ zeros keyLimit
 
 pub record FillRight (word : List ℕ) (answer : Counted) (bytes : List ℕ) : Type 0 where
   pub answers : Answers word (outcomeOf answer)

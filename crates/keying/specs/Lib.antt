@@ -1,3 +1,3 @@
-pub mod Packed
+pub mod Weights
 pub mod Filling
 pub mod Filled

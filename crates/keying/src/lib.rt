@@ -1,3 +1,3 @@
 // The key of a word, made in the pass that reads it.
-mod gain; // gain.rt: what a value adds to the packed weights of a syllable
+mod weights; // weights.rt: the weights of a packed syllable
 pub mod fill; // fill.rt: the pass over a word, with its key

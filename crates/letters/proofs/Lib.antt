@@ -3,3 +3,4 @@ pub mod Counted
 pub mod Picks
 pub mod Table
 pub mod Written
+pub mod Branches

@@ -1,4 +1,5 @@
 pub mod Choice
 pub mod Letters
+pub mod Kinds
 pub mod Marks
 pub mod Weights

@@ -1,26 +1,27 @@
 -- The part by number is the row's: a syllable's part lies between the places where it and the next one begin.
 -- Assumes nothing.
 use mathlib.Core.Path.{_≡_, refl, ap, sym, _∙_}
-use mathlib.Core.List.{List, [], _∷_, _++_, append-assoc, append-nil, reverse, reverseAux}
+use mathlib.Core.List.{List, [], _∷_, _++_, append-assoc, append-nil, reverseAux}
 use Prim.Native.Nat.{ℕ, zero, suc, _+_, _-_, _≤_, _<_}
 use native.Mathlib.Nat.{le-of-suc-le-suc, not-suc-le-zero}
 use native.Mathlib.Decide.{decLt}
 use native.Mathlib.Numerals.{add-one}
 use native.Mathlib.Omega.{arith}
 use borrow.Author.Tests.{lt-ltb, le-ltb}
-use lib.ListN.{length, getD, take, drop, length-append, length-reverse, List·getD-eq-default}
-use lib.Seq.{take-at, drop-at, getD-take}
+use lib.ListN.{length, getD, take, drop, length-append, List·getD-append, List·getD-eq-default}
+use lib.Seq.{take-at, drop-at}
 use Rattle.letters.specs.Choice.{pick}
 use Rattle.formula.specs.Syllable.{Final, no-final, finalOf, part}
 use Rattle.formula.specs.Row.{Row, joinAfter, partsAfter, parts}
-use Rattle.formula.specs.declared.Window.{Window}
 use Rattle.rows.specs.Kept.{endOf, keptJoin}
 use Rattle.rows.proofs.Viable.{only-row}
 use Rattle.recogniser.specs.Answer.{RefusedWith, Reads}
+use Rattle.recogniser.specs.Walked.{WalkStopped}
 use Rattle.recogniser.proofs.Answered.{refused-no-row}
 use Rattle.reading.specs.Parts.{endBy, HasPart, NoPart, PartRight}
-use Rattle.reading.specs.Scanned.{keptStarts, StartsOf, Stopped}
-use Rattle.reading.proofs.Stopped.{read-ends, kept-is}
+use Rattle.reading.specs.Scanned.{keptStarts, StartsOf}
+use Rattle.reading.proofs.Reach.{starts-length}
+use Rattle.reading.proofs.Stopped.{kept-is, kept-count}
 
 -- where the syllables of a row begin, from the place n on
 abbrev placesAfter : Final → ℕ → Row → List ℕ
@@ -72,21 +73,18 @@ located f n (s ∷ row) (suc k) h =
       last = λ i. l .last (le-of-suc-le-suc i);
     }
 
-module _ (word : List ℕ) (at : ℕ) (window : Window) (s : Stopped word at window) (starts : List ℕ) (o : StartsOf (s .kept) starts) (n : ℕ) (r : Reads word n)
-    (k : ℕ) (h : k < n) where
-  row-is : r .row ≡ reverse (s .kept)
-  row-is = kept-is word at (s .kept) (s .came) (read-ends word at window s n r) (r .row) (r .gives)
-
-  kept-count : length (s .kept) ≡ n
-  kept-count = sym (length-reverse (s .kept)) ∙ sym (ap length row-is) ∙ r .count
-
-  places : placesAfter no-final 0 (r .row) ≡ keptStarts (s .kept)
-  places = ap (placesAfter no-final 0) row-is ∙ places-kept (s .kept) [] ∙ append-nil (keptStarts (s .kept))
+module _ (word : List ℕ) (at state count : ℕ) (s : WalkStopped word at state count) (starts : List ℕ) (o : StartsOf (s .walked .kept) starts) (n : ℕ)
+    (r : Reads word n) (k : ℕ) (h : k < n) where
+  places : placesAfter no-final 0 (r .row) ≡ keptStarts (s .walked .kept)
+  places =
+      ap (placesAfter no-final 0) (kept-is word at state count s n r (r .row) (r .gives)) ∙ places-kept (s .walked .kept) []
+      ∙ append-nil (keptStarts (s .walked .kept))
 
   start-at : (j : ℕ) → j < n → getD starts j 0 ≡ getD (placesAfter no-final 0 (r .row)) j 0
   start-at j i =
-      let e = kept-count in
-      sym (getD-take (length (s .kept)) starts j 0 (omega arith)) ∙ ap (λ (l : List ℕ). getD l j 0) (o .front ∙ sym places)
+      ap (λ (l : List ℕ). getD l j 0) (o .is)
+      ∙ List·getD-append (keptStarts (s .walked .kept)) (o .rest) 0 j (omega (arith, starts-length (s .walked .kept), kept-count word at state count s n r))
+      ∙ ap (λ (l : List ℕ). getD l j 0) (sym places)
 
   place : Located no-final 0 (r .row) k
   place = located no-final 0 (r .row) k (let c = r .count in omega arith)

@@ -1,325 +1,217 @@
--- One value more keeps the scan's state right: what the window and the arrays show follows the machine's row, move by move.
+-- One value more keeps the scan's state right: what the window and the arrays show follows the machine's row, by what the value makes of it.
 -- Assumes nothing.
-use mathlib.Core.Path.{_≡_, refl, ap, sym, subst, _∙_}
-use mathlib.Core.Bool.{Bool, true, false, not, false≢true}
-use mathlib.Core.List.{List, [], _∷_, _++_}
-use mathlib.Core.Option.{Option, none, some}
-use Prim.Native.Nat.{ℕ, zero, suc, _+_, _-_, _≤_, _<_}
-use native.Mathlib.Numerals.{add-one}
+use mathlib.Core.Path.{_≡_, refl, ap, sym, _∙_}
+use mathlib.Core.List.{List, [], _∷_, _++_, append-assoc}
+use mathlib.Core.Option.{some}
+use Prim.Native.Nat.{ℕ, suc, _+_, _-_, _/_, _%_, _≤_, _<_}
 use native.Mathlib.Omega.{arith}
 use lib.Dec.{T}
-use lib.ListN.{length, getD, take, drop, set, replicate, length-append, length-set, length-take, length-replicate, take-append-drop}
-use lib.Seq.{take-suc-set, take-take, take-at, drop-set-lt, drop-drop}
+use lib.ListN.{length, getD, take, set, replicate, length-append, length-take}
+use lib.Seq.{set-at, append-snoc}
 use Rattle.formula.specs.Limits.{limit}
-use Rattle.formula.specs.Syllable.{Syllable, bare, finalOf, isNoFinal, headText}
+use Rattle.formula.specs.Syllable.{no-final, great-sa, Syllable, syllable, bare, finalOf, isNoFinal, headText}
 use Rattle.formula.specs.Row.{Row}
-use Rattle.formula.specs.Numbers.{numbersOf, nothing, unread}
-use Rattle.formula.specs.declared.Syllable.{Syllable as Numbers}
+use Rattle.formula.specs.Packed.{packed, unread}
 use Rattle.formula.specs.declared.Window.{Window}
 use Rattle.rows.specs.Kept.{endOf, keptJoin, step, run}
-use Rattle.rows.proofs.Viable.{goes-on}
-use Rattle.steps.specs.Agree.{Pushes, Agrees}
-use Rattle.steps.specs.Moves.{moveOf}
-use Rattle.steps.proofs.Moved.{moved}
-use Rattle.steps.specs.declared.step.Move.{Move}
-use Rattle.steps.specs.declared.step.Move.the-variants.{Refuse, Push, Change, Close, GreatSa as Great}
+use Rattle.transitions.specs.Tables.{entryOf, gainOf}
+use Rattle.transitions.specs.Transition.{Makes, begins, begins-great-sa, adds-medial, adds-vowel, adds-tone, makes-kinzi, closes}
+use Rattle.transitions.proofs.Entered.{Moves, makes-length}
+use Rattle.syllables.specs.Window.{windowAfter, Fit, WindowOf}
+use Rattle.syllables.proofs.Moved.{closed-final, window-moves, window-fits}
 use Rattle.recogniser.proofs.Kept.{kept-right, count-bound}
-use Rattle.reading.specs.Reading.{nothings}
-use Rattle.reading.specs.Scanned.{isRefusal, isBeginning, windowAfter, keptNumbers, keptStarts, WindowOf, SyllablesOf, StartsOf, Reached}
+use Rattle.recogniser.proofs.Walking.{moved, moved-on}
+use Rattle.reading.specs.Scanned.{keptPacked, keptStarts, SyllablesOf, StartsOf, ArraysOf, Reached}
 
-bare-length : (h : ℕ) (a : Row) → length (keptJoin (bare h ∷ a)) ≡ length (keptJoin a) + 1
-bare-length h a = length-append (keptJoin a) (headText (endOf a) h ∷ [])
+packed-length : (kept : Row) → length (keptPacked kept) ≡ length kept
+packed-length [] = refl
+packed-length (s ∷ kept) = omega (arith, length-append (keptPacked kept) (packed s ∷ []), packed-length kept)
 
-pub join-length : (word : List ℕ) (at : ℕ) (kept : Row) → at ≤ length word → run (take at word) [] ≡ some kept → length (keptJoin kept) ≡ at
-join-length word at kept l e =
-    let d : length (keptJoin kept) ≡ length (take at word) = ap length (kept-right word at kept e .1) in
-    omega (arith, length-take at word)
+pub starts-length : (kept : Row) → length (keptStarts kept) ≡ length kept
+starts-length [] = refl
+starts-length (s ∷ kept) = omega (arith, length-append (keptStarts kept) (length (keptJoin kept) ∷ []), starts-length kept)
 
-drop-nothings : (k : ℕ) → drop 1 (nothings k) ≡ nothings (k - 1)
-drop-nothings zero = refl
-drop-nothings (suc k) = ap nothings (let e : k ≡ suc k - 1 = omega arith in e)
+-- the last syllable is put at its place, behind those below it
+put-last : (s : Syllable) (a : Row) (l : List ℕ) (o : SyllablesOf (s ∷ a) l) → set l (length a) (packed s) ≡ keptPacked (s ∷ a) ++ replicate (o .rest) 0
+put-last s a l o =
+    ap (λ (k : List ℕ). set k (length a) (packed s)) (o .is)
+    ∙ set-at (keptPacked a) (o .place) (replicate (o .rest) 0) (packed s) (length a) (packed-length a)
+    ∙ sym (append-snoc (keptPacked a) (packed s) (replicate (o .rest) 0))
 
-one-more : (l : List Numbers) (n : ℕ) → drop n l ≡ nothings (limit - n) → drop (suc n) l ≡ nothings (limit - suc n)
-one-more l n e =
-    ap (λ (k : ℕ). drop k l) (sym (add-one n)) ∙ sym (drop-drop 1 n l) ∙ ap (drop 1) e ∙ drop-nothings (limit - n)
-    ∙ ap nothings (let d : limit - n - 1 ≡ limit - suc n = omega arith in d)
-
--- a syllable is finished when another begins on it
-cleaned : (t : Syllable) (s : Syllable) (a : Row) (l : List Numbers) → SyllablesOf (s ∷ a) l
-    → drop (suc (length a)) (set l (length a) (numbersOf t)) ≡ nothings (limit - suc (length a))
-cleaned t s a l o = drop-set-lt (suc (length a)) l (length a) (numbersOf t) (omega arith) ∙ o .back
-
-pub stored : (x s t : Syllable) (a : Row) (l : List Numbers) → length a < limit → SyllablesOf (s ∷ a) l
-    → SyllablesOf (x ∷ t ∷ a) (set l (length a) (numbersOf t))
-stored x s t a l h o =
-    record {
-      size = simp length-set (o .size);
-      front = take-suc-set l (length a) (numbersOf t) (omega (arith, o .size)) ∙ ap (λ (k : List Numbers). k ++ (numbersOf t ∷ [])) (o .front);
-      back = one-more (set l (length a) (numbersOf t)) (suc (length a)) (cleaned t s a l o);
-      fresh = λ _. cleaned t s a l o;
-    }
-
--- the first syllable finishes nothing
-first-stored : (x : Syllable) (l : List Numbers) → SyllablesOf [] l → SyllablesOf (x ∷ []) (set l 0 nothing)
-first-stored x l o =
-    let same : set l 0 nothing ≡ nothings limit = ap (λ (k : List Numbers). set k 0 nothing) (o .back) in
-    record {
-      size = simp length-set (o .size);
-      front = refl;
-      back = ap (drop 1) same;
-      fresh = λ _. same;
-    }
+first-put : (l : List ℕ) (o : SyllablesOf [] l) → set l 0 0 ≡ 0 ∷ replicate (o .rest) 0
+first-put l o = ap (λ (k : List ℕ). set k 0 0) (o .is)
 
 -- the last syllable is finished by the end of the word
-pub completed : (kept : Row) (window : Window) (l : List Numbers) → length kept ≤ limit → WindowOf kept window → SyllablesOf kept l
-    → set l (window .count - 1) (window .last) ≡ keptNumbers kept ++ nothings (limit - length kept)
-completed [] window l h w o = rw (w .count, w .last) (ap (λ (k : List Numbers). set k 0 nothing) (o .back))
-completed (s ∷ a) window l h w o =
-    let e : suc (length a) - 1 ≡ length a = omega arith in
-    let q = stored s s s a l (omega arith) o in
-    rw (w .count, w .last, e)
-    (sym (take-append-drop (suc (length a)) (set l (length a) (numbersOf s))) ∙ ap (λ (k : List Numbers). k ++ drop (suc (length a)) (set l (length a) (numbersOf s))) (q .front)
-    ∙ ap (λ (k : List Numbers). keptNumbers (s ∷ a) ++ k) (cleaned s s a l o))
+pub completed : (kept : Row) (w : Window) (l : List ℕ) → WindowOf kept w → SyllablesOf kept l
+    → set l (w .count - 1) (w .last) ≡ keptPacked kept ++ replicate (limit - length kept) 0
+completed [] w l v o =
+    let e : suc (o .rest) ≡ limit = (let z = o .size in omega arith) in
+    rw (v .count, v .last) (first-put l o ∙ ap (λ (n : ℕ). replicate n 0) e)
+completed (s ∷ a) w l v o =
+    let i : suc (length a) - 1 ≡ length a = omega arith in
+    let e : o .rest ≡ limit - suc (length a) = (let z = o .size in omega arith) in
+    rw (v .count, v .last, i) (put-last s a l o ∙ ap (λ (n : ℕ). keptPacked (s ∷ a) ++ replicate n 0) e)
 
--- where a syllable begins
-started : (s : Syllable) (a : Row) (l : List ℕ) → length a < limit → StartsOf a l → StartsOf (s ∷ a) (set l (length a) (length (keptJoin a)))
-started s a l h o =
+-- the last syllable changes, and has a final where it had one
+changed : (s t : Syllable) (a : Row) (l k : List ℕ) → (T (isNoFinal (finalOf t)) → T (isNoFinal (finalOf s))) → ArraysOf (s ∷ a) l k
+    → ArraysOf (t ∷ a) l k
+changed s t a l k f o =
+    let p = o .syllables-of in
     record {
-      size = simp length-set (o .size);
-      front = take-suc-set l (length a) (length (keptJoin a)) (omega (arith, o .size)) ∙ ap (λ (k : List ℕ). k ++ (length (keptJoin a) ∷ [])) (o .front);
+      syllables-of = record { place = p .place; rest = p .rest; is = p .is; size = p .size; fresh = λ n. p .fresh (f n) };
+      starts-of = record { rest = o .starts-of .rest; is = o .starts-of .is; size = o .starts-of .size };
     }
 
--- the place of the last syllable is that of the one that it was made from
-restarted : (s t : Syllable) (a : Row) (l : List ℕ) → StartsOf (s ∷ a) l → StartsOf (t ∷ a) l
-restarted s t a l o = record { size = o .size; front = o .front }
-
-numbers-length : (a : Row) → length (keptNumbers a) ≡ length a
-numbers-length [] = refl
-numbers-length (s ∷ a) = simp length-append (ap (λ (k : ℕ). k + 1) (numbers-length a) ∙ add-one (length a))
-
-starts-length : (a : Row) → length (keptStarts a) ≡ length a
-starts-length [] = refl
-starts-length (s ∷ a) = simp length-append (ap (λ (k : ℕ). k + 1) (starts-length a) ∙ add-one (length a))
-
-shorter-starts : (s : Syllable) (a : Row) (l : List ℕ) → StartsOf (s ∷ a) l → StartsOf a l
-shorter-starts s a l o =
+-- the last syllable becomes the final of the one before
+closed : (s t u : Syllable) (a : Row) (l k : List ℕ) → T (isNoFinal (finalOf s)) → (T (isNoFinal (finalOf u)) → ⊥) → ArraysOf (s ∷ t ∷ a) l k
+    → ArraysOf (u ∷ a) l k
+closed s t u a l k n f o =
+    let p = o .syllables-of in
+    let q = o .starts-of in
     record {
-      size = o .size;
-      front =
-          sym (take-take (length a) (suc (length a)) l (omega arith)) ∙ ap (take (length a)) (o .front)
-          ∙ take-at (keptStarts a) (length (keptJoin a) ∷ []) (length a) (starts-length a);
+      syllables-of =
+          record {
+            place = packed t;
+            rest = suc (p .rest);
+            is =
+                p .is ∙ append-assoc (keptPacked a) (packed t ∷ []) (p .place ∷ replicate (p .rest) 0)
+                ∙ ap (λ (m : ℕ). keptPacked a ++ (packed t ∷ m ∷ replicate (p .rest) 0)) (p .fresh n);
+            size = let z = p .size in omega arith;
+            fresh = λ m. absurd (f m);
+          };
+      starts-of =
+          record {
+            rest = length (keptJoin (t ∷ a)) ∷ q .rest;
+            is = q .is ∙ append-assoc (keptStarts (t ∷ a)) (length (keptJoin (t ∷ a)) ∷ []) (q .rest);
+            size = let z = q .size in omega arith;
+          };
     }
 
--- what the arrays hold after a move: a syllable that begins finishes the one before it
-abbrev pub syllablesAfter : Bool → Window → List Numbers → List Numbers
-syllablesAfter true window l = set l (window .count - 2) (window .before)
-syllablesAfter false window l = l
+-- no syllable begins, and the arrays stay
+stays : {x byte d a : ℕ} {kept b : Row} (l k : List ℕ) → Makes x byte d a kept b → (d ≡ 2 → ⊥) → ArraysOf kept l k → ArraysOf b l k
+stays l k (begins h) n o = absurd (n refl)
+stays l k (begins-great-sa y) n o = absurd (n refl)
+stays l k (adds-medial e) n o = changed _ _ _ l k (λ t. t) o
+stays l k (adds-vowel e) n o = changed _ _ _ l k (λ t. t) o
+stays l k (adds-tone e) n o = changed _ _ _ l k (λ t. t) o
+stays l k makes-kinzi n o = changed _ _ _ l k (λ t. absurd t) o
+stays {x} l k (closes {c = c} i) n o = closed _ _ _ _ l k tt (closed-final x c) o
 
-abbrev pub startsAfter : Bool → Window → ℕ → List ℕ → List ℕ
-startsAfter true window at l = set l (window .count - 1) at
-startsAfter false window at l = l
+module _ (at : ℕ) (w : Window) where
+  -- a syllable begins: the one before it is finished
+  finished : (h : ℕ) (kept : Row) (l : List ℕ) → length kept < limit → WindowOf (bare h ∷ kept) w → SyllablesOf kept l
+      → SyllablesOf (bare h ∷ kept) (set l (w .count - 2) (w .before))
+  finished h [] l r v o =
+      let e : 1 - 2 ≡ 0 = omega arith in
+      rw (v .count, v .before tt, e) (record { place = 0; rest = o .rest; is = first-put l o; size = o .size; fresh = λ _. refl })
+  finished h (t ∷ a) l r v o =
+      let i : suc (suc (length a)) - 2 ≡ length a = omega arith in
+      let z = o .size in
+      let e : o .rest ≡ suc (o .rest - 1) = omega arith in
+      rw (v .count, v .before tt, i)
+      (record {
+        place = 0;
+        rest = o .rest - 1;
+        is = put-last t a l o ∙ ap (λ (n : ℕ). keptPacked (t ∷ a) ++ replicate n 0) e;
+        size = omega arith;
+        fresh = λ _. refl;
+      })
 
-module _ (word : List ℕ) (at : ℕ) (window : Window) (syllables : List Numbers) (starts : List ℕ) (inside : at < length word) (short : length word ≤ limit) where
-  abbrev After : Move → Type 0
-  After m =
-      Reached word (suc at) (windowAfter m window) (syllablesAfter (isBeginning m) (windowAfter m window) syllables)
-      (startsAfter (isBeginning m) (windowAfter m window) at starts)
-
-  -- the state with its row in sight
-  record Shown (kept : Row) : Type 0 where
-    came : run (take at word) [] ≡ some kept
-    window-of : WindowOf kept window
-    syllables-of : SyllablesOf kept syllables
-    starts-of : StartsOf kept starts
-
-  below-limit : (kept : Row) → Shown kept → length kept < limit
-  below-limit kept r = omega (arith, count-bound word at kept (r .came))
-
-  joined : (kept : Row) → Shown kept → length (keptJoin kept) ≡ at
-  joined kept r = join-length word at kept (omega arith) (r .came)
-
-  pushed-syllables : (kept : Row) → Shown kept → (x : Syllable) → SyllablesOf (x ∷ kept) (set syllables (window .count + 1 - 2) (window .last))
-  pushed-syllables [] r x = rw (r .window-of .count, r .window-of .last) (first-stored x syllables (r .syllables-of))
-  pushed-syllables (t ∷ a) r x =
-      let e : suc (length a) + 1 - 2 ≡ length a = omega arith in
-      let h = below-limit (t ∷ a) r in
-      rw (r .window-of .count, r .window-of .last, e) (stored x t t a syllables (omega arith) (r .syllables-of))
-
-  pushed-starts : (kept : Row) → Shown kept → (x : Syllable) → StartsOf (x ∷ kept) (set starts (window .count + 1 - 1) at)
-  pushed-starts kept r x =
-      let e : length kept + 1 - 1 ≡ length kept = omega arith in
-      rw (r .window-of .count, e) (rw (joined kept r) at (started x kept starts (below-limit kept r) (r .starts-of)))
-
-  pushed : (n : Numbers) (kept : Row) → Shown kept → Pushes n kept (step kept (getD word at 0)) → After (Push n)
-  pushed n kept r p =
-      record {
-        kept = p .pushed ∷ kept;
-        came = goes-on word at kept (p .pushed ∷ kept) inside (r .came) (p .gives);
-        window-of = record { count = ap (λ (k : ℕ). k + 1) (r .window-of .count) ∙ add-one (length kept); last = p .numbers; before = λ _. r .window-of .last };
-        syllables-of = pushed-syllables kept r (p .pushed);
-        starts-of = pushed-starts kept r (p .pushed);
-      }
-
-  changed : (n : Numbers) (top : Syllable) (rest : Row) → Shown (top ∷ rest) → (c : Syllable) → step (top ∷ rest) (getD word at 0) ≡ some (c ∷ rest)
-      → n ≡ numbersOf c → (T (isNoFinal (finalOf c)) → T (isNoFinal (finalOf top))) → After (Change n)
-  changed n top rest r c g e f =
-      record {
-        kept = c ∷ rest;
-        came = goes-on word at (top ∷ rest) (c ∷ rest) inside (r .came) g;
-        window-of = record { count = r .window-of .count; last = e; before = λ t. r .window-of .before (f t) };
-        syllables-of =
-            record {
-              size = r .syllables-of .size;
-              front = r .syllables-of .front;
-              back = r .syllables-of .back;
-              fresh = λ t. r .syllables-of .fresh (f t);
-            };
-        starts-of = restarted top c rest starts (r .starts-of);
-      }
-
-  no-final-no : (s : Syllable) → T (not (isNoFinal (finalOf s))) → T (isNoFinal (finalOf s)) → ⊥
-  no-final-no s t = go (isNoFinal (finalOf s)) t
+  -- and its place is where the values so far end
+  started : (h : ℕ) (kept : Row) (k : List ℕ) → length kept < limit → length (keptJoin (bare h ∷ kept)) ≡ suc at → WindowOf (bare h ∷ kept) w
+      → StartsOf kept k → StartsOf (bare h ∷ kept) (set k (w .count - 1) at)
+  started h kept k r j v o = go (o .rest) (o .is) (o .size)
     where
-      go : (b : Bool) → T (not b) → T b → ⊥
-      go true t u = t
-      go false t u = u
+      go : (rest : List ℕ) → k ≡ keptStarts kept ++ rest → length kept + length rest ≡ limit → StartsOf (bare h ∷ kept) (set k (w .count - 1) at)
+      go [] e z = let no : ⊥ = omega arith in absurd no
+      go (y ∷ rest) e z =
+          let i : suc (length kept) - 1 ≡ length kept = omega arith in
+          let p : length (keptJoin kept) ≡ at = omega (arith, length-append (keptJoin kept) (headText (endOf kept) h ∷ [])) in
+          rw (v .count, i, e)
+          (record {
+            rest = rest;
+            is =
+                set-at (keptStarts kept) y rest at (length kept) (starts-length kept)
+                ∙ sym (append-snoc (keptStarts kept) at rest) ∙ ap (λ (n : ℕ). (keptStarts kept ++ (n ∷ [])) ++ rest) (sym p);
+            size = omega arith;
+          })
 
-  shorter-numbers : (below : Syllable) (rest : Row) (l : List Numbers) → suc (length rest) ≤ length l
-      → take (suc (length rest)) l ≡ keptNumbers (below ∷ rest) → take (length rest) l ≡ keptNumbers rest
-  shorter-numbers below rest l h e =
-      sym (take-take (length rest) (suc (length rest)) l (omega arith)) ∙ ap (take (length rest)) e
-      ∙ take-at (keptNumbers rest) (numbersOf below ∷ []) (length rest) (numbers-length rest)
-
-  closed : (n : Numbers) (top below : Syllable) (rest : Row) → Shown (top ∷ below ∷ rest) → (c : Syllable)
-      → step (top ∷ below ∷ rest) (getD word at 0) ≡ some (c ∷ rest) → n ≡ numbersOf c → T (isNoFinal (finalOf top)) → T (not (isNoFinal (finalOf c)))
-      → After (Close n)
-  closed n top below rest r c g e o f =
-      let h = below-limit (top ∷ below ∷ rest) r in
-      record {
-        kept = c ∷ rest;
-        came = goes-on word at (top ∷ below ∷ rest) (c ∷ rest) inside (r .came) g;
-        window-of = record { count = let q = r .window-of .count in omega arith; last = e; before = λ t. absurd (no-final-no c f t) };
-        syllables-of =
-            record {
-              size = r .syllables-of .size;
-              front = shorter-numbers below rest syllables (omega (arith, r .syllables-of .size)) (r .syllables-of .front);
-              back = r .syllables-of .fresh o;
-              fresh = λ t. absurd (no-final-no c f t);
-            };
-        starts-of = restarted below c rest starts (shorter-starts top (below ∷ rest) starts (r .starts-of));
-      }
-
-  great-starts : (top c : Syllable) (rest : Row) → Shown (top ∷ rest) → step (top ∷ rest) (getD word at 0) ≡ some (bare 0x101E ∷ c ∷ rest)
-      → StartsOf (bare 0x101E ∷ c ∷ rest) (set starts (window .count + 1 - 1) at)
-  great-starts top c rest r g =
-      let e : suc (length rest) + 1 - 1 ≡ suc (length rest) = omega arith in
-      let came = goes-on word at (top ∷ rest) (bare 0x101E ∷ c ∷ rest) inside (r .came) g in
-      let j : length (keptJoin (c ∷ rest)) ≡ at =
-      (let d = join-length word (suc at) (bare 0x101E ∷ c ∷ rest) inside came in omega (arith, bare-length 0x101E (c ∷ rest))) in
-      rw (r .window-of .count, e)
-      (rw j at (started (bare 0x101E) (c ∷ rest) starts (below-limit (top ∷ rest) r) (restarted top c rest starts (r .starts-of))))
-
-  greatened : (n : Numbers) (top : Syllable) (rest : Row) → Shown (top ∷ rest) → (c : Syllable)
-      → step (top ∷ rest) (getD word at 0) ≡ some (bare 0x101E ∷ c ∷ rest) → n ≡ numbersOf c → After (Great n)
-  greatened n top rest r c g e =
-      let h = below-limit (top ∷ rest) r in
-      let j : suc (length rest) + 1 - 2 ≡ length rest = omega arith in
-      record {
-        kept = bare 0x101E ∷ c ∷ rest;
-        came = goes-on word at (top ∷ rest) (bare 0x101E ∷ c ∷ rest) inside (r .came) g;
-        window-of = record { count = ap (λ (k : ℕ). k + 1) (r .window-of .count) ∙ add-one (suc (length rest)); last = refl; before = λ _. e };
-        syllables-of = rw (r .window-of .count, j, e) (stored (bare 0x101E) top c rest syllables (omega arith) (r .syllables-of));
-        starts-of = great-starts top c rest r g;
-      }
-
-  advanced : (m : Move) (kept : Row) → Shown kept → Agrees m kept (step kept (getD word at 0)) → T (not (isRefusal m)) → After m
-  advanced Refuse kept r a n = absurd n
-  advanced (Push s) kept r a n = pushed s kept r a
-  advanced (Change s) kept r a n =
-      changed s (a .top) (a .rest) (subst Shown (a .was) r) (a .changed)
-      (subst (λ (k : Row). step k (getD word at 0) ≡ some (a .changed ∷ a .rest)) (a .was) (a .gives)) (a .numbers) (a .without-final)
-  advanced (Close s) kept r a n =
-      closed s (a .top) (a .below) (a .rest) (subst Shown (a .was) r) (a .closed)
-      (subst (λ (k : Row). step k (getD word at 0) ≡ some (a .closed ∷ a .rest)) (a .was) (a .gives)) (a .numbers) (a .without-final) (a .with-final)
-  advanced (Great s) kept r a n =
-      greatened s (a .top) (a .rest) (subst Shown (a .was) r) (a .closed)
-      (subst (λ (k : Row). step k (getD word at 0) ≡ some (bare 0x101E ∷ a .closed ∷ a .rest)) (a .was) (a .gives)) (a .numbers)
-
-  shown : (r : Reached word at window syllables starts) → Shown (r .kept)
-  shown r = record { came = r .came; window-of = r .window-of; syllables-of = r .syllables-of; starts-of = r .starts-of }
-
-  -- the move of the value at `at` agrees with the machine
-  pub agrees : (r : Reached word at window syllables starts) → Agrees (moveOf (window .last) (window .before) (getD word at 0)) (r .kept) (step (r .kept) (getD word at 0))
-  agrees r =
-      let k = kept-right word at (r .kept) (r .came) in
-      rw (r .window-of .last) (moved (getD word at 0) (r .kept) (window .before) (k .0) (k .2 tt) (r .window-of .before))
-
-  -- one value more
-  pub advance : Reached word at window syllables starts → T (not (isRefusal (moveOf (window .last) (window .before) (getD word at 0))))
-      → After (moveOf (window .last) (window .before) (getD word at 0))
-  advance r n = advanced (moveOf (window .last) (window .before) (getD word at 0)) (r .kept) (shown r) (agrees r) n
-
--- a refused value is refused by the machine
-pub refused-none : (m : Move) (kept : Row) (o : Option Row) → Agrees m kept o → T (isRefusal m) → o ≡ none
-refused-none Refuse kept o a t = a
-refused-none (Push s) kept o a t = absurd t
-refused-none (Change s) kept o a t = absurd t
-refused-none (Close s) kept o a t = absurd t
-refused-none (Great s) kept o a t = absurd t
+  begun : {x byte d a : ℕ} {kept b : Row} (l k : List ℕ) → Makes x byte d a kept b → d ≡ 2 → length kept < limit → length (keptJoin b) ≡ suc at
+      → WindowOf b w → ArraysOf kept l k → ArraysOf b (set l (w .count - 2) (w .before)) (set k (w .count - 1) at)
+  begun {x} {kept = kept} l k (begins h) e r j v o =
+      record { syllables-of = finished x kept l r v (o .syllables-of); starts-of = started x kept k r j v (o .starts-of) }
+  begun l k (begins-great-sa {h = h} {m = m} {v = u} {t = t} {kept = a} y) e r j v o =
+      let p = changed (syllable h m u no-final t) (syllable h m u great-sa t) a l k (λ n. absurd n) o in
+      record { syllables-of = finished 0x101E _ l r v (p .syllables-of); starts-of = started 0x101E _ k r j v (p .starts-of) }
+  begun l k (adds-medial i) e r j v o = let no : ⊥ = omega arith in absurd no
+  begun l k (adds-vowel i) e r j v o = let no : ⊥ = omega arith in absurd no
+  begun l k (adds-tone i) e r j v o = let no : ⊥ = omega arith in absurd no
+  begun l k makes-kinzi e r j v o = let no : ⊥ = omega arith in absurd no
+  begun l k (closes i) e r j v o = let no : ⊥ = omega arith in absurd no
 
 -- nothing read yet
-pub at-start : (word : List ℕ) → Reached word 0 unread (nothings limit) (replicate limit 0)
+pub at-start : (word : List ℕ) → Reached word 0 0 unread (replicate limit 0) (replicate limit 0)
 at-start word =
     record {
-      kept = [];
-      came = refl;
+      walked = record { kept = []; came = refl; state-is = refl; count-is = refl };
       window-of = record { count = refl; last = refl; before = λ _. refl };
-      syllables-of = record { size = length-replicate limit nothing; front = refl; back = refl; fresh = λ _. refl };
-      starts-of = record { size = refl; front = refl };
+      arrays-of =
+          record {
+            syllables-of = record { place = 0; rest = limit - 1; is = refl; size = refl; fresh = λ _. refl };
+            starts-of = record { rest = replicate limit 0; is = refl; size = refl };
+          };
     }
 
-begin-count : (m : Move) (window : Window) → isBeginning m ≡ true → windowAfter m window .count ≡ window .count + 1
-begin-count Refuse window e = let z : ⊥ = false≢true e in absurd z
-begin-count (Push s) window e = refl
-begin-count (Change s) window e = let z : ⊥ = false≢true e in absurd z
-begin-count (Close s) window e = let z : ⊥ = false≢true e in absurd z
-begin-count (Great s) window e = refl
+-- there are at most as many syllables as values
+pub count-fits : (word : List ℕ) (at state : ℕ) (w : Window) (l k : List ℕ) → Reached word at state w l k → w .count ≤ at
+count-fits word at state w l k r = let c = r .window-of .count in omega (arith, count-bound word at (r .walked .kept) (r .walked .came))
 
-not-refused : (m : Move) → isRefusal m ≡ false → T (not (isRefusal m))
-not-refused m e = subst (λ (b : Bool). T (not b)) (sym e) tt
+-- a turn of the loop, by the window after it: a syllable begins, and the one before it is finished, or the arrays stay
+pub record Turned (word : List ℕ) (at entry : ℕ) (l k : List ℕ) (v : Window) : Type 0 where
+  pub few : v .count ≤ limit
+  pub starts-one : entry / 32 ≡ 2 → 1 ≤ v .count
+  pub begun : entry / 32 ≡ 2 → (i : ℕ) → i ≡ v .count - 2 → (m : List ℕ) → m ≡ set l i (v .before) → (n : List ℕ) → n ≡ set k (v .count - 1) at
+      → Reached word (at + 1) (entry % 32) v m n
+  pub stays : (entry / 32 ≡ 2 → ⊥) → (m : List ℕ) → m ≡ l → (n : List ℕ) → n ≡ k → Reached word (at + 1) (entry % 32) v m n
 
-refused-true : (b : Bool) → b ≡ true → T b
-refused-true b e = subst T (sym e) tt
+module _ (word : List ℕ) (at state : ℕ) (w : Window) (l k : List ℕ) (r : Reached word at state w l k) (entry : ℕ)
+    (e : entry ≡ entryOf state (getD word at 0)) (inside : at < length word) (q : entry ≡ 96 → ⊥) (short : length word ≤ limit) (gain : ℕ)
+    (g : gain ≡ gainOf state (getD word at 0)) where
+  abbrev move : Moves (getD word at 0) entry (gainOf state (getD word at 0)) (r .walked .kept) (step (r .walked .kept) (getD word at 0))
+  move = moved word at state (w .count) (r .walked) entry e inside q
 
--- a turn of the loop, by what its calls answer
-module _ (word : List ℕ) (at : ℕ) (window : Window) (syllables : List Numbers) (starts : List ℕ) (inside : at < length word) (short : length word ≤ limit)
-    (r : Reached word at window syllables starts) (m : Move) (e : m ≡ moveOf (window .last) (window .before) (getD word at 0)) where
-  pub stop : (b : Bool) → b ≡ isRefusal m → b ≡ true → step (r .kept) (getD word at 0) ≡ none
-  stop b d t =
-      refused-none m (r .kept) (step (r .kept) (getD word at 0)) (rw e (agrees word at window syllables starts inside short r)) (refused-true (isRefusal m) (sym d ∙ t))
+  came : run (take (at + 1) word) [] ≡ some (move .after)
+  came = moved-on word at state (w .count) (r .walked) entry e inside q
 
-  module _ (b : Bool) (d : b ≡ isRefusal m) (n : b ≡ false) (w : Window) (f : w ≡ windowAfter m window) (g : Bool) (h : g ≡ isBeginning m) where
-    pub next : Reached word (at + 1) w (syllablesAfter g w syllables) (startsAfter g w at starts)
-    next =
-        rw (h, f, e, add-one at)
-        (advance word at window syllables starts inside short r (subst (λ (k : Move). T (not (isRefusal k))) e (not-refused m (sym d ∙ n))))
+  -- the numbers of the window fit
+  pub turn-fits : Fit (entry / 32) gain (getD word at 0) w
+  turn-fits =
+      window-fits w (move .makes) gain (g ∙ move .gain-is) (kept-right word at (r .walked .kept) (r .walked .came) .0)
+      (kept-right word (at + 1) (move .after) came .0) (let b = count-fits word at state w l k r in omega (arith, r .window-of .count)) (r .window-of)
 
-    pub next-count : w .count ≤ limit
-    next-count = let c = next .window-of .count in omega (arith, count-bound word (at + 1) (next .kept) (next .came))
+  module _ (v : Window) (f : v ≡ windowAfter (entry / 32) gain (getD word at 0) w) where
+    window-is : WindowOf (move .after) v
+    window-is = rw f (window-moves w (move .makes) gain (g ∙ move .gain-is) (r .window-of))
 
-    pub begun-count : g ≡ true → 1 ≤ w .count
-    begun-count t =
-        let c : windowAfter m window .count ≡ window .count + 1 = begin-count m window (sym h ∙ t) in
-        rw f (omega arith)
+    reached : (m n : List ℕ) → ArraysOf (move .after) m n → Reached word (at + 1) (entry % 32) v m n
+    reached m n o =
+        record {
+          walked = record { kept = move .after; came = came; state-is = move .state-is; count-is = window-is .count };
+          window-of = window-is;
+          arrays-of = o;
+        }
 
-    pub begun : g ≡ true → (i : ℕ) → i ≡ w .count - 2 → (s : List Numbers) → s ≡ set syllables i (w .before) → (q : List ℕ) → q ≡ set starts (w .count - 1) at
-        → Reached word (at + 1) w s q
-    begun t i j s u q v =
-        rw (u, v, j) (subst (λ (k : Bool). Reached word (at + 1) w (syllablesAfter k w syllables) (startsAfter k w at starts)) t next)
-
-    pub kept-on : g ≡ false → (s : List Numbers) → s ≡ syllables → (q : List ℕ) → q ≡ starts → Reached word (at + 1) w s q
-    kept-on t s u q v = rw (u, v) (subst (λ (k : Bool). Reached word (at + 1) w (syllablesAfter k w syllables) (startsAfter k w at starts)) t next)
-
-pub window-count : (word : List ℕ) (at : ℕ) (window : Window) (syllables : List Numbers) (starts : List ℕ) → at ≤ limit
-    → Reached word at window syllables starts → window .count ≤ limit
-window-count word at window syllables starts h r = let c = r .window-of .count in omega (arith, count-bound word at (r .kept) (r .came))
+    pub turned : Turned word at entry l k v
+    turned =
+        let b = count-bound word (at + 1) (move .after) came in
+        let c = count-fits word at state w l k r in
+        let joined : length (keptJoin (move .after)) ≡ suc at =
+        omega (arith, ap length (kept-right word (at + 1) (move .after) came .1), length-take (at + 1) word) in
+        record {
+          few = omega (arith, window-is .count);
+          starts-one = λ d. omega (arith, window-is .count, makes-length (move .makes));
+          begun = λ d i j m a n f.
+              rw (a, f, j)
+              (reached _ _ (begun at v l k (move .makes) d (omega (arith, r .window-of .count)) joined window-is (r .arrays-of)));
+          stays = λ d m a n f. rw (a, f) (reached l k (stays l k (move .makes) d (r .arrays-of)));
+        }

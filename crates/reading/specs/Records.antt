@@ -10,9 +10,9 @@ use Rattle.letters.specs.declared.weight.Weighed.the-variants.{Weight, Nothing}
 use Rattle.formula.specs.Syllable.{bare}
 use Rattle.formula.specs.Row.{Row, Gives}
 use Rattle.formula.specs.Record.{recordOf}
-use Rattle.formula.specs.declared.Syllable.{Syllable as Numbers}
 use Rattle.refusals.specs.Refusal.{numberOf, placeOf}
 use Rattle.refusals.specs.Outcome.{Outcome, accepts, accepts-both, absent, refuses}
+use Rattle.syllables.specs.Parts.{headPart, medialPart, finalPart, linkPart, vowelPart, tallPart, tonePart}
 use Rattle.recogniser.specs.Answer.{Admissible, RefusedWith}
 use Rattle.reading.specs.declared.records.RecordAnswer.{RecordAnswer}
 use Rattle.reading.specs.declared.records.RecordAnswer.the-variants.{Found, NoSyllable, Refused}
@@ -58,7 +58,7 @@ RecordAnswers word number (refuses refusal place) bytes = NoReading word refusal
 abbrev pub RecordRight : List ℕ → ℕ → SyllableRecord → Type 0
 RecordRight word number r = RecordAnswers word number (recordOutcomeOf (r .answer)) (r .bytes)
 
--- the bytes of a syllable by numbers; inner contracts cite what follows
+-- the weight of a set of medials; inner contracts cite what follows
 abbrev pub weightOr : Weighed → ℕ
 weightOr (Weight n) = n
 weightOr Nothing = 0
@@ -66,8 +66,17 @@ weightOr Nothing = 0
 unfoldable pub medialWeightBy : ℕ → ℕ
 medialWeightBy set = weightOr (medialSetWeight set)
 
-abbrev pub bytesBy : Numbers → List ℕ
-bytesBy s = s .head ∷ medialWeightBy (s .medials) ∷ s .vowel ∷ s .tall ∷ s .letter ∷ s .link ∷ s .tone ∷ []
+-- the bytes of a packed syllable
+unfoldable pub bytesBy : ℕ → List ℕ
+bytesBy packed =
+    headPart packed
+    ∷ medialWeightBy (medialPart packed)
+    ∷ vowelPart packed
+    ∷ tallPart packed
+    ∷ finalPart packed
+    ∷ linkPart packed
+    ∷ tonePart packed
+    ∷ []
 
 abbrev pub withoutRecord : RecordAnswer → SyllableRecord
 withoutRecord answer = record { answer = answer; bytes = noBytes }

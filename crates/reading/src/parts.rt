@@ -1,7 +1,7 @@
 // The part of a word that a syllable is, by number.
-use crate::read::conclude;
 use crate::scan::scan_word;
 use formula::Word;
+use recogniser::walk::answer_at;
 use refusals::Counted;
 use refusals::Refusal;
 ghost use mathlib.Core.Path.{_≡_};
@@ -41,7 +41,7 @@ pub fn part_place(word: &[u16], number: usize) -> PartAnswer
         return PartAnswer::Refused(Refusal::TooLong);
     }
     let scan = scan_word(word);
-    let answer = conclude(word, scan.at, scan.window);
+    let answer = answer_at(word, scan.at, scan.state, scan.count);
     let count = match answer {
         Counted::Refused(refusal) => return PartAnswer::Refused(refusal),
         Counted::Count(count) => count,

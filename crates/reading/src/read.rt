@@ -1,30 +1,16 @@
 // The reading of a word: how many syllables it has and which, or why it is refused.
 use crate::scan::scan_word;
-use formula::Syllable;
-use formula::Window;
 use formula::Word;
-use recogniser::answer::answer_where;
+use recogniser::walk::answer_at;
 use refusals::Counted;
 use refusals::Refusal;
 ghost use mathlib.Core.Path.{_≡_};
-ghost use Rattle.refusals.specs.Outcome.{outcomeOf};
-ghost use Rattle.recogniser.specs.Answer.{Answers};
 ghost use Rattle.reading.specs.Reading.{ReadRight, refusedReading};
-ghost use Rattle.reading.specs.Scanned.{Stopped};
 
-// A word as read. `syllables` has its syllables first, and nothing behind them or with a refusal.
+// A word as read. `syllables` has its syllables first, each packed in one number, and zeros behind them or with a refusal.
 pub struct Reading {
     pub answer: Counted,
-    pub syllables: [Syllable; Word::LIMIT],
-}
-
-// The answer where a scan of the word has stopped.
-pub(crate) fn conclude(word: &[u16], at: usize, window: Window) -> Counted
-    requires { ⌜ Stopped (now word) at window ⌝ }
-    ensures { λ r. ⌜ Answers (now (word .entry)) (outcomeOf r) ⌝ }
-{
-    let last = window.last;
-    answer_where(word, at, last.link == 2, window.count)
+    pub syllables: [u64; Word::LIMIT],
 }
 
 fn refused(refusal: Refusal) -> Reading
@@ -32,7 +18,7 @@ fn refused(refusal: Refusal) -> Reading
 {
     Reading {
         answer: Counted::Refused(refusal),
-        syllables: [Syllable::nothing(); Word::LIMIT],
+        syllables: [0; Word::LIMIT],
     }
 }
 
@@ -44,7 +30,7 @@ pub fn read(word: &[u16]) -> Reading
         return refused(Refusal::TooLong);
     }
     let scan = scan_word(word);
-    let answer = conclude(word, scan.at, scan.window);
+    let answer = answer_at(word, scan.at, scan.state, scan.count);
     if let Counted::Refused(refusal) = answer {
         return refused(refusal);
     }

@@ -1,9 +1,9 @@
 // The record of a syllable by number.
 use crate::read::read;
-use formula::Syllable;
 use letters::weight::Weighed;
 use refusals::Counted;
 use refusals::Refusal;
+use syllables::parts;
 ghost use mathlib.Core.Path.{_≡_};
 ghost use Rattle.reading.specs.Records.{medialWeightBy, bytesBy, withoutRecord, RecordRight};
 
@@ -30,12 +30,19 @@ fn medial_weight(set: u8) -> u8
     weight
 }
 
-// The record of a syllable by its numbers.
-pub fn bytes_of(s: Syllable) -> [u8; 7]
-    ensures { λ r. ⌜ r ≡ bytesBy s ⌝ }
+// The record of a packed syllable.
+pub fn bytes_of(packed: u64) -> [u8; 7]
+    ensures { λ r. ⌜ r ≡ bytesBy packed ⌝ }
 {
-    let medial = medial_weight(s.medials);
-    [s.head, medial, s.vowel, s.tall, s.letter, s.link, s.tone]
+    [
+        parts::head(packed),
+        medial_weight(parts::medials(packed)),
+        parts::vowel(packed),
+        parts::tall(packed),
+        parts::letter(packed),
+        parts::link(packed),
+        parts::tone(packed),
+    ]
 }
 
 fn without_record(answer: RecordAnswer) -> SyllableRecord

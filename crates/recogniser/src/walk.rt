@@ -3,6 +3,7 @@ use crate::answer::answer_where;
 use formula::Word;
 use refusals::Counted;
 use refusals::Refusal;
+use transitions::tables::Rules;
 use transitions::tables::next;
 use transitions::tables::rules_of;
 ghost use Prim.Native.Nat.{_≤_};
@@ -12,8 +13,6 @@ ghost use Rattle.refusals.specs.Outcome.{outcomeOf};
 ghost use Rattle.recogniser.specs.Answer.{Answers, RowTest};
 ghost use Rattle.recogniser.specs.Walked.{WalkStopped};
 
-// The entry of a refused value.
-const REFUSED: u8 = 48;
 // The state of a row whose last final waits for a letter.
 const WAITING: usize = 3;
 
@@ -33,11 +32,11 @@ pub(crate) fn walk_word(word: &[u16]) -> Walk
     let mut at = 0;
     while at < word.len() {
         let entry = next(state, rules_of(word[at]));
-        if entry == REFUSED {
+        if entry == Rules::REFUSED {
             return Walk { at, state, count };
         }
-        state = (entry % 16) as usize;
-        count = count + (entry / 16) as usize - 1;
+        state = (entry % 32) as usize;
+        count = count + (entry / 32) as usize - 1;
         at += 1;
     }
     Walk { at, state, count }

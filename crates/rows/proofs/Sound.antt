@@ -12,6 +12,7 @@ use Rattle.letters.specs.Marks.{MedialGroup, group, neither, ya, ra, medialGrou
 use Rattle.letters.specs.Weights.{isHead, isFinalLetter}
 use Rattle.letters.specs.declared.kind.Kind.{Kind}
 use Rattle.letters.specs.declared.kind.Kind.the-variants.{Consonant, IndependentVowel, Medial, VowelMark, Tone, Killer, Stacker, GreatSa, Digit, Stop, Sign, Foreign}
+use Rattle.formula.proofs.Classes.{inClass, kind-class, head-of}
 use Rattle.formula.proofs.Lists.{both, both-left, both-right, sameList, sameList-equal}
 use Rattle.formula.specs.Syllable.{Final, no-final, plain, stacked, kinzi, great-sa, Syllable, syllable, bare, headOf, finalOf, carriesMarks, carriesFinal, isNoMedial, isNoVowel, isNoFinal, isNoTone, isClosed, isFinal, takesTone, isSyllable, follows, finalText, headText, part}
 use Rattle.formula.specs.Row.{Row, isRowAfter, IsRow, joinAfter, join, Gives}
@@ -324,74 +325,26 @@ head-out x a i k =
     (λ q. let d = admitted (endOf a) x q in
     ((d .0, bare-ok x i, k), ap (λ (y : ℕ). keptJoin a ++ (y ∷ [])) (d .1), tt))
 
--- what a value is, by its kind
-abbrev pub Fits : Kind → ℕ → Type 0
-Fits Consonant x = T (isConsonant x)
-Fits IndependentVowel x = T (isIndependentVowel x)
-Fits Medial x = T (isMedial x)
-Fits VowelMark x = T (isVowelMark x)
-Fits Tone x = T (isTone x)
-Fits Killer x = T (isKiller x)
-Fits Stacker x = T (isStacker x)
-Fits GreatSa x = T (isGreatSa x)
-Fits Digit x = T (isDigit x)
-Fits Stop x = T (isStop x)
-Fits Sign x = T (isSign x)
-Fits Foreign x = Unit {0}
-
-on-pick : (x : ℕ) (b : Bool) (k l : Kind) → (T b → Fits k x) → Fits l x → Fits (pick b k l) x
-unfolding pick
-on-pick x true k l f g = f tt
-on-pick x false k l f g = g
-
-pub kind-fits : (x : ℕ) → Fits (kindOf x) x
-kind-fits x =
-    on-pick x (isConsonant x) Consonant _ (λ t. t)
-    (on-pick x (isIndependentVowel x) IndependentVowel _ (λ t. t)
-    (on-pick x (isMedial x) Medial _ (λ t. t)
-    (on-pick x (isVowelMark x) VowelMark _ (λ t. t)
-    (on-pick x (isTone x) Tone _ (λ t. t)
-    (on-pick x (isKiller x) Killer _ (λ t. t)
-    (on-pick x (isStacker x) Stacker _ (λ t. t)
-    (on-pick x (isGreatSa x) GreatSa _ (λ t. t)
-    (on-pick x (isDigit x) Digit _ (λ t. t) (on-pick x (isStop x) Stop _ (λ t. t) (on-pick x (isSign x) Sign Foreign (λ t. t) tt))))))))))
-
--- the heads among the kinds
-consonant-head : (x : ℕ) → T (isConsonant x) → T (isHead x)
-consonant-head x t = or-left (isConsonant x) _ t
-
-independent-head : (x : ℕ) → T (isIndependentVowel x) → T (isHead x)
-independent-head x t = or-right (isConsonant x) _ (or-left (isIndependentVowel x) _ t)
-
-digit-head : (x : ℕ) → T (isDigit x) → T (isHead x)
-digit-head x t = or-right (isConsonant x) _ (or-right (isIndependentVowel x) _ (or-left (isDigit x) _ t))
-
-stop-head : (x : ℕ) → T (isStop x) → T (isHead x)
-stop-head x t = or-right (isConsonant x) _ (or-right (isIndependentVowel x) _ (or-right (isDigit x) _ (or-left (isStop x) _ t)))
-
-sign-head : (x : ℕ) → T (isSign x) → T (isHead x)
-sign-head x t = or-right (isConsonant x) _ (or-right (isIndependentVowel x) _ (or-right (isDigit x) _ (or-right (isStop x) (isSign x) t)))
-
 at-value : (x y : ℕ) (a : Row) (o : Option Row) → T (eqb x y) → Out a y o → Out a x o
 at-value x y a o t r = subst (λ (z : ℕ). Out a z o) (sym (eqb→eq x y t)) r
 
-act-out : (j : Kind) (x : ℕ) (a : Row) → Fits j x → KeptOk a → Out a x (act j x a)
-act-out Consonant x a e k = head-out x a (consonant-head x e) k
-act-out IndependentVowel x a e k = head-out x a (independent-head x e) k
+act-out : (j : Kind) (x : ℕ) (a : Row) → T (inClass j x) → KeptOk a → Out a x (act j x a)
+act-out Consonant x a e k = head-out x a (head-of Consonant x e tt) k
+act-out IndependentVowel x a e k = head-out x a (head-of IndependentVowel x e tt) k
 act-out Medial x a e k = medial-out x a k
 act-out VowelMark x a e k = vowel-out x a k
 act-out Tone x a e k = tone-out x a k
 act-out Killer x a e k = at-value x 0x103A a (stepKiller a) e (killer-out a k)
 act-out Stacker x a e k = at-value x 0x1039 a (stepStacker a) e (stacker-out a k)
 act-out GreatSa x a e k = at-value x 0x103F a (stepGreatSa a) e (great-sa-out a k)
-act-out Digit x a e k = head-out x a (digit-head x e) k
-act-out Stop x a e k = head-out x a (stop-head x e) k
-act-out Sign x a e k = head-out x a (sign-head x e) k
+act-out Digit x a e k = head-out x a (head-of Digit x e tt) k
+act-out Stop x a e k = head-out x a (head-of Stop x e tt) k
+act-out Sign x a e k = head-out x a (head-of Sign x e tt) k
 act-out Foreign x a e k = tt
 
 -- one value
 pub step-out : (a : Row) (x : ℕ) → KeptOk a → Out a x (step a x)
-step-out a x k = act-out (kindOf x) x a (kind-fits x) k
+step-out a x k = act-out (kindOf x) x a (kind-class x) k
 
 -- any number of values
 abbrev pub RunOut : Row → List ℕ → Option Row → Type 0

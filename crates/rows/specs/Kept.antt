@@ -6,10 +6,10 @@ use mathlib.Core.Option.{Option, none, some}
 use Prim.Native.Nat.{ℕ}
 use lib.Dec.{T, eqb}
 use Rattle.letters.specs.Letters.{kindOf}
+use Rattle.letters.specs.Kinds.{byKind}
 use Rattle.letters.specs.Marks.{MedialGroup, medialGroups, medialText, Vowel, vowels, vowelText, ToneMark, toneMarks, toneText}
 use Rattle.letters.specs.Weights.{isFinalLetter}
 use Rattle.letters.specs.declared.kind.Kind.{Kind}
-use Rattle.letters.specs.declared.kind.Kind.the-variants.{Consonant, IndependentVowel, Medial, VowelMark, Tone, Killer, Stacker, GreatSa, Digit, Stop, Sign, Foreign}
 use Rattle.formula.proofs.Lists.{sameList}
 use Rattle.formula.specs.Syllable.{Final, no-final, plain, stacked, kinzi, great-sa, Syllable, syllable, bare, headOf, finalOf, carriesMarks, carriesFinal, isNoMedial, isNoVowel, isNoFinal, isNoTone, isClosed, isSyllable, follows, part}
 use Rattle.formula.specs.Row.{Row}
@@ -127,19 +127,21 @@ abbrev pub stepStacker : Row → Option Row
 stepStacker [] = none
 stepStacker (syllable h m v f t ∷ kept) = stacks f (syllable h m v f t) kept
 
+-- the value x, of this kind
 abbrev pub act : Kind → ℕ → Row → Option Row
-act Consonant x kept = stepHead x kept
-act IndependentVowel x kept = stepHead x kept
-act Medial x kept = stepMedial x kept
-act VowelMark x kept = stepVowel x kept
-act Tone x kept = stepTone x kept
-act Killer x kept = stepKiller kept
-act Stacker x kept = stepStacker kept
-act GreatSa x kept = stepGreatSa kept
-act Digit x kept = stepHead x kept
-act Stop x kept = stepHead x kept
-act Sign x kept = stepHead x kept
-act Foreign x kept = none
+act kind x kept =
+    byKind
+    (record {
+      head = stepHead x kept;
+      medial = stepMedial x kept;
+      vowel = stepVowel x kept;
+      tone = stepTone x kept;
+      killer = stepKiller kept;
+      stacker = stepStacker kept;
+      great-sa = stepGreatSa kept;
+      foreign = none;
+    })
+    kind
 
 abbrev pub step : Row → ℕ → Option Row
 step kept x = act (kindOf x) x kept

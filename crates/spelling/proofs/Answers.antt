@@ -1,27 +1,26 @@
--- A reading's syllables, spelled by their numbers, are the spelled syllables of the row that gives the word, so the sizes say which case of `SpellRight` holds.
+-- A reading's packed syllables, spelled, are the spelled syllables of the row that gives the word, so the sizes say which case of `SpellRight` holds.
 -- Assumes nothing.
 use mathlib.Core.Path.{_≡_, refl, ap, subst, _∙_}
 use mathlib.Core.List.{List, [], _∷_, _++_, map}
 use Prim.Native.Nat.{ℕ, suc, _-_, _≤_, _<_}
 use native.Mathlib.Omega.{arith}
-use lib.ListN.{length, length-append, length-map}
+use lib.ListN.{length, replicate, length-append, length-map}
 use lib.Seq.{take-at}
 use Rattle.formula.specs.Limits.{limit}
 use Rattle.formula.specs.Syllable.{no-final}
 use Rattle.formula.specs.Row.{Row}
-use Rattle.formula.specs.Numbers.{numbersOf}
+use Rattle.formula.specs.Packed.{packed}
 use Rattle.formula.specs.Spelled.{spelled}
-use Rattle.formula.specs.declared.Syllable.{Syllable as Numbers}
 use Rattle.refusals.specs.Refusal.{numberOf, placeOf}
 use Rattle.refusals.specs.Outcome.{outcomeOf, accepts-both, refuses}
 use Rattle.refusals.specs.declared.Refusal.{Refusal}
 use Rattle.refusals.specs.declared.Counted.{Counted}
 use Rattle.refusals.specs.declared.Counted.the-variants.{Count, Refused}
 use Rattle.recogniser.specs.Answer.{Reads, Answers}
-use Rattle.reading.specs.Reading.{nothings, SyllablesFor, ReadRight}
+use Rattle.reading.specs.Reading.{ReadRight}
 use Rattle.reading.specs.declared.read.Reading.{Reading}
 use Rattle.recogniser.proofs.Counted.{count-limit}
-use Rattle.reading.proofs.Recorded.{reads}
+use Rattle.reading.proofs.Recorded.{reads, syllables}
 use Rattle.spelling.specs.Spell.{joined, ReadAs, Lists, lists, SpellRight, spelled-out, word-refused, values-too-short, starts-too-short}
 use Rattle.spelling.specs.Plain.{spelledBy, spelledFront}
 use Rattle.spelling.specs.Put.{SpelledSize, Room, SyllablesPut}
@@ -42,12 +41,12 @@ module _ (word : List ℕ) (reading : Reading) (right : ReadRight word reading) 
   read-row : Reads word n
   read-row = reads word reading right n e
 
-  held-syllables : reading .syllables ≡ map numbersOf (read-row .row) ++ nothings (limit - n)
+  held-syllables : reading .syllables ≡ map packed (read-row .row) ++ replicate (limit - n) 0
   held-syllables =
-      subst (λ (a : Counted). SyllablesFor word (outcomeOf a) (reading .syllables)) e (right .syllables) (read-row .row) (read-row .gives)
+      syllables word reading right n e (read-row .row) (read-row .gives)
 
-  held-count : length (map numbersOf (read-row .row)) ≡ n
-  held-count = length-map (read-row .row) numbersOf ∙ read-row .count
+  held-count : length (map packed (read-row .row)) ≡ n
+  held-count = length-map (read-row .row) packed ∙ read-row .count
 
   read-as : ReadAs word (read-row .row)
   read-as = record { admissible = read-row .admissible; gives = read-row .gives }
@@ -55,15 +54,15 @@ module _ (word : List ℕ) (reading : Reading) (right : ReadRight word reading) 
   -- the first n syllables are those of the row
   front-spelled : spelledFront (reading .syllables) n ≡ spelled (read-row .row)
   front-spelled =
-      ap (λ (l : List Numbers). spelledFront l n) held-syllables
-      ∙ ap (map spelledBy) (take-at (map numbersOf (read-row .row)) (nothings (limit - n)) n held-count)
+      ap (λ (l : List ℕ). spelledFront l n) held-syllables
+      ∙ ap (map spelledBy) (take-at (map packed (read-row .row)) (replicate (limit - n) 0) n held-count)
       ∙ spelled-row no-final (read-row .row) (read-row .gives .is-row)
 
   counted : length (spelled (read-row .row)) ≡ n
   counted = spelled-count (read-row .row) ∙ read-row .count
 
   pub syllables-held : n ≤ length (reading .syllables)
-  syllables-held = omega (arith, ap length held-syllables, length-append (map numbersOf (read-row .row)) (nothings (limit - n)), held-count)
+  syllables-held = omega (arith, ap length held-syllables, length-append (map packed (read-row .row)) (replicate (limit - n) 0), held-count)
 
   pub syllables-few : n ≤ limit
   syllables-few = count-limit word n read-row

@@ -9,8 +9,8 @@ use native.Mathlib.Omega.{arith}
 use lib.ListN.{length, getD, take, drop, set, length-append, length-map, length-drop}
 use lib.Seq.{take-suc, drop-cons, set-at, length-take-le, append-snoc}
 use Rattle.formula.specs.Syllable.{no-final, part}
-use Rattle.formula.specs.declared.Syllable.{Syllable as Numbers}
 use Rattle.syllable_text.specs.Decode.{syllableOf}
+use Rattle.reading.specs.Records.{bytesBy}
 use Rattle.syllable_text.specs.Part.{PartSize}
 use Rattle.syllable_text.specs.Part.{partAfter, PartPut}
 use Rattle.syllable_text.proofs.Putting.{put-length, put-behind}
@@ -33,11 +33,11 @@ pub starts-length : (at : ℕ) (parts : List (List ℕ)) → length (startsFrom 
 starts-length at [] = refl
 starts-length at (part ∷ parts) = ap suc (starts-length (at + length part) parts)
 
-module _ (syllables : List Numbers) (number : ℕ) where
+module _ (syllables : List ℕ) (number : ℕ) where
   front-length : number ≤ length syllables → length (spelledFront syllables number) ≡ number
   front-length held = length-map (take number syllables) spelledBy ∙ length-take-le number syllables held
 
-  module _ (d : Numbers) (next : number < length syllables) where
+  module _ (d : ℕ) (next : number < length syllables) where
     front-more : spelledFront syllables (number + 1) ≡ spelledFront syllables number ++ (spelledBy (getD syllables number d) ∷ [])
     front-more = rw (add-one, take-suc syllables number d) (map-append spelledBy (take number syllables) (getD syllables number d ∷ []))
 
@@ -53,16 +53,16 @@ module _ (syllables : List Numbers) (number : ℕ) where
         rw (front-more, starts-more 0 (spelledFront syllables number) (spelledBy (getD syllables number d)), same)
 
 -- the pass that counts
-pub record Measured (syllables : List Numbers) (count size number : ℕ) : Type 0 where
+pub record Measured (syllables : List ℕ) (count size number : ℕ) : Type 0 where
   pub within : number ≤ count
   pub counted : SpelledSize syllables number size
   pub small : size ≤ 13 * number
 
-pub measured-none : (syllables : List Numbers) (count : ℕ) → Measured syllables count 0 0
+pub measured-none : (syllables : List ℕ) (count : ℕ) → Measured syllables count 0 0
 measured-none syllables count = record { within = omega arith; counted = refl; small = omega arith }
 
-module _ (syllables : List Numbers) (count size number : ℕ) (p : Measured syllables count size number) (held : count ≤ length syllables) where
-  pub measured-more : number < count → (d : Numbers) (bytes : List ℕ) → bytes ≡ plainBytes (getD syllables number d) → (more : ℕ) → PartSize bytes more
+module _ (syllables : List ℕ) (count size number : ℕ) (p : Measured syllables count size number) (held : count ≤ length syllables) where
+  pub measured-more : number < count → (d : ℕ) (bytes : List ℕ) → bytes ≡ plainBytes (bytesBy (getD syllables number d)) → (more : ℕ) → PartSize bytes more
       → Measured syllables count (size + more) (number + 1)
   unfolding spelledBy
   measured-more next d bytes is more s =
@@ -77,7 +77,7 @@ module _ (syllables : List Numbers) (count size number : ℕ) (p : Measured syll
   measured-all end = let same : number ≡ count = (let w = p .within in omega arith) in rw (← same) (p .counted)
 
 -- fewer syllables have no more values
-size-grows : (syllables : List Numbers) (few many : ℕ) → few ≤ many → length (joined (spelledFront syllables few)) ≤ length (joined (spelledFront syllables many))
+size-grows : (syllables : List ℕ) (few many : ℕ) → few ≤ many → length (joined (spelledFront syllables few)) ≤ length (joined (spelledFront syllables many))
 size-grows syllables zero many h = omega arith
 size-grows [] (suc few) many h = omega arith
 size-grows (s ∷ syllables) (suc few) zero h = absurd (not-suc-le-zero h)
@@ -90,22 +90,22 @@ size-grows (s ∷ syllables) (suc few) (suc many) h =
     )
 
 -- one syllable by its record: there is room for its part, and it is put
-module _ (syllable : Numbers) (number at : ℕ) (values starts bytes : List ℕ) (is : bytes ≡ plainBytes syllable) where
-  pub part-room : SyllableRoom syllable number at values starts → at + length (partAfter 0 (syllableOf bytes)) ≤ length values
-  part-room r = omega (arith, r .values-fit, ap length (part-spelled syllable bytes is))
+module _ (packed number at : ℕ) (values starts bytes : List ℕ) (is : bytes ≡ plainBytes (bytesBy packed)) where
+  pub part-room : SyllableRoom packed number at values starts → at + length (partAfter 0 (syllableOf bytes)) ≤ length values
+  part-room r = omega (arith, r .values-fit, ap length (part-spelled packed bytes is))
 
   pub part-put : (after : List ℕ) (behind : ℕ) → PartPut values after at (partAfter 0 (syllableOf bytes)) behind
-      → SyllablePut syllable number at (lists values starts) (lists after (set starts number at)) behind
-  part-put after behind p = record { start = refl; values = rw (← part-spelled syllable bytes is) p }
+      → SyllablePut packed number at (lists values starts) (lists after (set starts number at)) behind
+  part-put after behind p = record { start = refl; values = rw (← part-spelled packed bytes is) p }
 
 -- the pass that writes: both lists have the fronts of the syllables so far
-pub record Filled (syllables : List Numbers) (count : ℕ) (values starts newValues newStarts : List ℕ) (at number : ℕ) : Type 0 where
+pub record Filled (syllables : List ℕ) (count : ℕ) (values starts newValues newStarts : List ℕ) (at number : ℕ) : Type 0 where
   pub within : number ≤ count
   pub values-put : PartPut values newValues 0 (joined (spelledFront syllables number)) at
   pub starts-put : newStarts ≡ spelledStarts (spelledFront syllables number) ++ drop number starts
   pub small : at ≤ 13 * number
 
-pub filled-none : (syllables : List Numbers) (count : ℕ) (values starts : List ℕ) → Filled syllables count values starts values starts 0 0
+pub filled-none : (syllables : List ℕ) (count : ℕ) (values starts : List ℕ) → Filled syllables count values starts values starts 0 0
 filled-none syllables count values starts = record {
   within = omega arith;
   values-put = record { put = refl; behind-it = refl };
@@ -113,7 +113,7 @@ filled-none syllables count values starts = record {
   small = omega arith;
 }
 
-module _ (syllables : List Numbers) (count : ℕ) (values starts newValues newStarts : List ℕ) (at number : ℕ)
+module _ (syllables : List ℕ) (count : ℕ) (values starts newValues newStarts : List ℕ) (at number : ℕ)
     (p : Filled syllables count values starts newValues newStarts at number) (r : Room syllables count values starts) where
   -- the lists are as long as before
   pub values-length : length newValues ≡ length values
@@ -136,7 +136,7 @@ module _ (syllables : List Numbers) (count : ℕ) (values starts newValues newSt
       let same : number ≡ count = (let w = p .within in omega arith) in
       rw (← same) (record { values = p .values-put .put ∙ rw zero-add; starts = p .starts-put })
 
-  module _ (next : number < count) (d : Numbers) where
+  module _ (next : number < count) (d : ℕ) where
     inside : number < length syllables
     inside = let h = r .held in omega arith
 

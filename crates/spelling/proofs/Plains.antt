@@ -6,7 +6,7 @@ use mathlib.Core.List.{List, [], _∷_, map}
 use Prim.Native.Nat.{ℕ, _≤_}
 use native.Mathlib.Omega.{arith}
 use lib.Dec.{T}
-use lib.ListN.{length, set, length-append}
+use lib.ListN.{length, length-append}
 use Rattle.letters.specs.Choice.{pick}
 use Rattle.letters.specs.Weights.{isFinalLetter}
 use Rattle.letters.specs.Marks.{MedialGroup, Vowel, ToneMark}
@@ -14,12 +14,12 @@ use Rattle.formula.proofs.Lists.{both-left}
 use Rattle.formula.specs.Syllable.{Final, no-final, plain, stacked, kinzi, great-sa, Syllable, syllable, finalOf, carriesFinal, isNoFinal, isNoTone, isSyllable, part}
 use Rattle.formula.specs.Row.{Row, isRowAfter}
 use Rattle.formula.specs.Record.{recordOf}
-use Rattle.formula.specs.Numbers.{numbersOf}
+use Rattle.formula.specs.Packed.{packed}
 use Rattle.formula.specs.Spelled.{spelledOf, spelled}
-use Rattle.formula.specs.declared.Syllable.{Syllable as Numbers}
 use Rattle.rows.proofs.Sound.{apart, reclosed}
 use Rattle.rows.proofs.Complete.{either, first}
-use Rattle.reading.proofs.Recorded.{bytes-numbers}
+use Rattle.reading.specs.Records.{bytesBy}
+use Rattle.reading.proofs.Recorded.{bytes-packed}
 use Rattle.syllable_text.specs.Decode.{syllableOf}
 use Rattle.syllable_text.specs.Part.{headAfter, partAfter}
 use Rattle.syllable_text.proofs.Decoded.{read}
@@ -51,7 +51,7 @@ plain-part (syllable h m v kinzi t) = refl
 plain-part (syllable h m v great-sa t) = refl
 
 -- its record has the letter's number and a plain link
-plain-record : (s : Syllable) → set (recordOf s) 5 (plainLink (numbersOf s .link)) ≡ recordOf (plainOf s)
+plain-record : (s : Syllable) → plainBytes (recordOf s) ≡ recordOf (plainOf s)
 unfolding recordOf plainLink pick
 plain-record (syllable h m v no-final t) = refl
 plain-record (syllable h m v (plain c) t) = refl
@@ -59,21 +59,19 @@ plain-record (syllable h m v (stacked c) t) = refl
 plain-record (syllable h m v kinzi t) = refl
 plain-record (syllable h m v great-sa t) = refl
 
-pub plain-bytes : (s : Syllable) → plainBytes (numbersOf s) ≡ recordOf (plainOf s)
-plain-bytes s = ap (λ (l : List ℕ). set l 5 (plainLink (numbersOf s .link))) (bytes-numbers s) ∙ plain-record s
-
--- a syllable by its numbers is spelled as the formula says
-spelled-by : (s : Syllable) → T (isSyllable s) → spelledBy (numbersOf s) ≡ spelledOf s
+-- a packed syllable is spelled as the formula says
+spelled-by : (s : Syllable) → T (isSyllable s) → spelledBy (packed s) ≡ spelledOf s
 unfolding spelledBy
 spelled-by s q =
-    ap (λ (l : List ℕ). part no-final (syllableOf l)) (plain-bytes s) ∙ ap (part no-final) (read (plainOf s) (plain-syllable s q) .back) ∙ plain-part s
+    ap (λ (l : List ℕ). part no-final (syllableOf (plainBytes l))) (bytes-packed s q)
+    ∙ ap (λ (l : List ℕ). part no-final (syllableOf l)) (plain-record s) ∙ ap (part no-final) (read (plainOf s) (plain-syllable s q) .back) ∙ plain-part s
 
-pub spelled-row : (f : Final) (row : Row) → T (isRowAfter f row) → map spelledBy (map numbersOf row) ≡ spelled row
+pub spelled-row : (f : Final) (row : Row) → T (isRowAfter f row) → map spelledBy (map packed row) ≡ spelled row
 spelled-row f [] t = refl
 spelled-row f (s ∷ row) t =
     let p = first f s row t in
-    let here : spelledBy (numbersOf s) ≡ spelledOf s = spelled-by s (p .is) in
-    let rest : map spelledBy (map numbersOf row) ≡ spelled row = spelled-row (finalOf s) row (p .rest) in
+    let here : spelledBy (packed s) ≡ spelledOf s = spelled-by s (p .is) in
+    let rest : map spelledBy (map packed row) ≡ spelled row = spelled-row (finalOf s) row (p .rest) in
     rw (here, rest)
 
 -- what is written for such a record with nothing before it
@@ -81,7 +79,7 @@ part-first : (s : Syllable) → partAfter 0 s ≡ part no-final s
 unfolding partAfter headAfter pick
 part-first (syllable h m v f t) = refl
 
-pub part-spelled : (s : Numbers) (bytes : List ℕ) → bytes ≡ plainBytes s → partAfter 0 (syllableOf bytes) ≡ spelledBy s
+pub part-spelled : (s : ℕ) (bytes : List ℕ) → bytes ≡ plainBytes (bytesBy s) → partAfter 0 (syllableOf bytes) ≡ spelledBy s
 unfolding spelledBy
 part-spelled s bytes is = part-first (syllableOf bytes) ∙ ap (λ (l : List ℕ). part no-final (syllableOf l)) is
 
@@ -89,9 +87,9 @@ part-spelled s bytes is = part-first (syllableOf bytes) ∙ ap (λ (l : List ℕ
 part-small : (s : Syllable) → length (part no-final s) ≤ 13
 part-small (syllable h m v f t) = simp length-append (omega (arith, medial-short m, vowel-short v, final-short f, tone-short t))
 
-pub by-small : (s : Numbers) → length (spelledBy s) ≤ 13
+pub by-small : (s : ℕ) → length (spelledBy s) ≤ 13
 unfolding spelledBy
-by-small s = part-small (syllableOf (plainBytes s))
+by-small s = part-small (syllableOf (plainBytes (bytesBy s)))
 
 pub spelled-small : (s : Syllable) → length (spelledOf s) ≤ 13
 spelled-small s = rw (← plain-part s) (part-small (plainOf s))

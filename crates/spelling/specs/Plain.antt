@@ -1,12 +1,11 @@
--- A syllable with its final made plain, and how it is spelled by its numbers. The laws and the inner contracts cite it.
+-- A syllable with its final made plain, and how a packed syllable is spelled. The laws and the inner contracts cite it.
 -- Assumes nothing.
 use mathlib.Core.List.{List, map}
 use Prim.Native.Nat.{ℕ}
 use lib.Dec.{ltb}
-use lib.ListN.{take, set}
+use lib.ListN.{getD, take, set}
 use Rattle.letters.specs.Choice.{pick}
 use Rattle.formula.specs.Syllable.{Final, no-final, plain, stacked, kinzi, great-sa, Syllable, syllable, part}
-use Rattle.formula.specs.declared.Syllable.{Syllable as Numbers}
 use Rattle.reading.specs.Records.{bytesBy}
 use Rattle.syllable_text.specs.Decode.{syllableOf}
 
@@ -26,14 +25,14 @@ plainOf (syllable h m v f t) = syllable h m v (plainFinal f) t
 unfoldable pub plainLink : ℕ → ℕ
 plainLink link = pick (ltb 1 link) 1 link
 
--- the record of a syllable by numbers, with a plain link
-abbrev pub plainBytes : Numbers → List ℕ
-plainBytes s = set (bytesBy s) 5 (plainLink (s .link))
+-- the record with a plain link
+abbrev pub plainBytes : List ℕ → List ℕ
+plainBytes bytes = set bytes 5 (plainLink (getD bytes 5 0))
 
--- how a syllable by numbers is spelled
-unfoldable pub spelledBy : Numbers → List ℕ
-spelledBy s = part no-final (syllableOf (plainBytes s))
+-- how a packed syllable is spelled
+unfoldable pub spelledBy : ℕ → List ℕ
+spelledBy packed = part no-final (syllableOf (plainBytes (bytesBy packed)))
 
--- the first syllables by numbers, each spelled
-abbrev pub spelledFront : List Numbers → ℕ → List (List ℕ)
+-- the first packed syllables, each spelled
+abbrev pub spelledFront : List ℕ → ℕ → List (List ℕ)
 spelledFront syllables count = map spelledBy (take count syllables)

@@ -1,11 +1,11 @@
 // Words spelled out: each syllable by itself, with its final as a letter and 103A.
-use formula::Syllable;
 use formula::Word;
 use refusals::Counted;
 use refusals::Refusal;
 ghost use mathlib.Core.Path.{_≡_};
 ghost use Prim.Native.Nat.{_≤_};
 ghost use lib.ListN.{length};
+ghost use Rattle.reading.specs.Records.{bytesBy};
 ghost use Rattle.spelling.specs.Plain.{plainLink, plainBytes};
 ghost use Rattle.spelling.specs.Put.{SpelledSize, SyllableRoom, SyllablePut, Room, SyllablesPut};
 ghost use Rattle.spelling.specs.Spell.{spellOutcomeOf, lists, SpellRight};
@@ -23,19 +23,19 @@ fn plain_link(link: u8) -> u8
     if 1 < link { 1 } else { link }
 }
 
-// The record of a syllable whose final is made plain.
-fn plain_record(syllable: Syllable) -> [u8; 7]
-    ensures { λ r. ⌜ r ≡ plainBytes syllable ⌝ }
+// The record of a packed syllable whose final is made plain.
+fn plain_record(packed: u64) -> [u8; 7]
+    ensures { λ r. ⌜ r ≡ plainBytes (bytesBy packed) ⌝ }
 {
-    let mut bytes = reading::records::bytes_of(syllable);
-    bytes[5] = plain_link(syllable.link);
+    let mut bytes = reading::records::bytes_of(packed);
+    bytes[5] = plain_link(bytes[5]);
     bytes
 }
 
 // How many values the first syllables are spelled with.
-fn measure(syllables: [Syllable; Word::LIMIT], count: usize) -> usize
-    requires { ⌜ (count ≤ length syllables) × (count ≤ 64) ⌝ }
-    ensures { λ r. ⌜ SpelledSize syllables count r ⌝ }
+fn measure(syllables: &[u64; Word::LIMIT], count: usize) -> usize
+    requires { ⌜ (count ≤ length (now syllables)) × (count ≤ 64) ⌝ }
+    ensures { λ r. ⌜ SpelledSize (now (syllables .entry)) count r ⌝ }
 {
     let mut size = 0;
     let mut number = 0;
@@ -48,23 +48,23 @@ fn measure(syllables: [Syllable; Word::LIMIT], count: usize) -> usize
 
 // Writes a syllable, spelled, from a place of one list on, and the place as its start to the other; gives the place behind the syllable.
 fn put_syllable(
-    syllable: Syllable,
+    packed: u64,
     number: usize,
     at: usize,
     values: &mut [u16],
     starts: &mut [u16],
 ) -> usize
-    requires { ⌜ SyllableRoom syllable number at (now values) (now starts) ⌝ }
-    ensures { λ r. ⌜ SyllablePut syllable number at (lists (now (values .entry)) (now (starts .entry))) (lists (now (values .exit)) (now (starts .exit))) r ⌝ }
+    requires { ⌜ SyllableRoom packed number at (now values) (now starts) ⌝ }
+    ensures { λ r. ⌜ SyllablePut packed number at (lists (now (values .entry)) (now (starts .entry))) (lists (now (values .exit)) (now (starts .exit))) r ⌝ }
 {
     starts[number] = at as u16;
-    syllable_text::part::put_part(values, at, 0, plain_record(syllable))
+    syllable_text::part::put_part(values, at, 0, plain_record(packed))
 }
 
 // Writes the first syllables, spelled, to one list, and the place where each begins to the other.
-fn put(syllables: [Syllable; Word::LIMIT], count: usize, values: &mut [u16], starts: &mut [u16])
-    requires { ⌜ Room syllables count (now values) (now starts) ⌝ }
-    ensures { λ _. ⌜ SyllablesPut syllables count (lists (now (values .entry)) (now (starts .entry))) (lists (now (values .exit)) (now (starts .exit))) ⌝ }
+fn put(syllables: &[u64; Word::LIMIT], count: usize, values: &mut [u16], starts: &mut [u16])
+    requires { ⌜ Room (now syllables) count (now values) (now starts) ⌝ }
+    ensures { λ _. ⌜ SyllablesPut (now (syllables .entry)) count (lists (now (values .entry)) (now (starts .entry))) (lists (now (values .exit)) (now (starts .exit))) ⌝ }
 {
     let mut at = 0;
     let mut number = 0;
@@ -84,14 +84,14 @@ pub fn spell(word: &[u16], values: &mut [u16], starts: &mut [u16]) -> SpellAnswe
         Counted::Refused(refusal) => SpellAnswer::Refused(refusal),
         Counted::Count(count) => {
             let syllables = reading.syllables;
-            let size = measure(syllables, count);
+            let size = measure(&syllables, count);
             if values.len() < size {
                 return SpellAnswer::Refused(Refusal::OutputTooShort(size));
             }
             if starts.len() < count {
                 return SpellAnswer::Refused(Refusal::OutputTooShort(count));
             }
-            put(syllables, count, values, starts);
+            put(&syllables, count, values, starts);
             SpellAnswer::Spelled {
                 values: size,
                 starts: count,

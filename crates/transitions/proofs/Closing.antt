@@ -6,9 +6,8 @@ use mathlib.Core.List.{[], _∷_}
 use mathlib.Core.Option.{Option, none, some}
 use Prim.Native.Nat.{ℕ}
 use native.Mathlib.Omega.{arith}
-use lib.Dec.{T, eqb}
+use lib.Dec.{T, eqb, eqb→eq}
 use Rattle.letters.specs.Choice.{pick}
-use Rattle.letters.specs.Letters.{isConsonant}
 use Rattle.letters.specs.Marks.{neither, MedialGroup, group, Vowel, no-vowel, ToneMark, no-tone, dot, visarga}
 use Rattle.letters.specs.Weights.{isFinalLetter}
 use Rattle.formula.proofs.Lists.{both-left, both-right}
@@ -16,45 +15,49 @@ use Rattle.formula.specs.Syllable.{Final, no-final, plain, stacked, kinzi, grea
 use Rattle.formula.specs.Row.{Row}
 use Rattle.rows.specs.Kept.{vowelAnd, when, KeptOk, isOpen, close, killed, stepKiller, stepStacker}
 use Rattle.rows.proofs.Sound.{apart}
-use Rattle.rows.proofs.Complete.{is-true, final-consonant}
+use Rattle.rows.proofs.Complete.{is-true}
 use Rattle.transitions.specs.State.{State, done, plain-final, nga-final, waiting, head-stays, head-closes, head-nga, headState, medialState, vowelState, finalState, toneState, isOpenTop, stateOf}
-use Rattle.transitions.specs.Turn.{Turn, refuse, to, is, isOpenState, onKiller, onStacker, Agrees}
-use Rattle.transitions.proofs.Tested.{each-open, same, same-equal}
-use Rattle.transitions.proofs.Known.{and-false, carried, opened}
-use Rattle.transitions.proofs.Marked.{Turns, changed, if-open, on-open, refused, shut}
+use Rattle.transitions.specs.Transition.{Transition, refuse, to, is, isOpenState, onKiller, onStacker, vowelByte, finalBy, Makes, adds-vowel, makes-kinzi, closes, Agrees}
+use Rattle.transitions.specs.Tables.{same}
+use Rattle.transitions.proofs.Tested.{each-open, same-equal}
+use Rattle.transitions.proofs.Known.{and-false, carried, opened, letter-marks, open-state}
+use Rattle.transitions.proofs.Marked.{changed, grown, gained, Follows, if-marked, on-open, refused, shut}
 
 -- 103A and 1039 on a head alone: it is the final g of the syllable before, where that is open and the letter may be one
 close-none : (p : Bool) → when p none ≡ none
 close-none true = refl
 close-none false = refl
 
-close-after : (p : Bool) (h y : ℕ) (g : Final) (n : MedialGroup) (u : Vowel) (f : Final) (t : ToneMark) (a : Row)
-    → T (carriesMarks y) → T (isOpen f t) → ((s : State) → finalState g s ≡ finalState g done)
-    → Agrees (pick p (to 0 (finalState g done)) refuse) (bare h ∷ syllable y n u f t ∷ a) (when p (some (syllable y n u g t ∷ a)))
-unfolding pick
-close-after true h y g n u no-final no-tone a c o e =
-    (syllable y n u g no-tone ∷ a, refl, sym (e _) ∙ carried (carriesMarks y) _ c, omega arith)
-close-after false h y g n u f t a c o e = refl
+module _ (x byte : ℕ) where
+  close-after : (p : Bool) (h y : ℕ) (g : Final) (n : MedialGroup) (u : Vowel) (f : Final) (t : ToneMark) (a : Row)
+      → T (carriesFinal y) → T (isOpen f t) → ((s : State) → finalState g s ≡ finalState g done) → (T p → T (isFinalLetter h)) → g ≡ finalBy x h
+      → Agrees x byte (pick p (to 0 0 (finalState g done)) refuse) (bare h ∷ syllable y n u f t ∷ a) (when p (some (syllable y n u g t ∷ a)))
+  unfolding pick
+  close-after true h y g n u no-final no-tone a c o e l q =
+      let made : Final → Type 0 = λ (k : Final). Makes x byte 0 0 (bare h ∷ syllable y n u no-final no-tone ∷ a) (syllable y n u k no-tone ∷ a) in
+      (syllable y n u g no-tone ∷ a, refl, sym (e _) ∙ carried (carriesFinal y) _ c, subst made (sym q) (closes (l tt)))
+  close-after false h y g n u f t a c o e l q = refl
 
-module _ (turned : State → Turn) (h : ℕ) (g : Final) (p : Bool) (stays : turned head-stays ≡ refuse)
-    (moves : turned (headState true h) ≡ pick p (to 0 (finalState g done)) refuse) (only : (s : State) → finalState g s ≡ finalState g done) where
-  close-turned : (a : Row) → Agrees (turned (headState (isOpenTop a) h)) (bare h ∷ a) (when p (close g a))
-  unfolding carriesMarks carriesFinal
-  close-turned [] = refused _ (bare h ∷ []) (when p none) stays (close-none p)
-  close-turned (syllable y n u f t ∷ a) = go (isConsonant y && isOpen f t) refl
-    where
-      go : (b : Bool) → (isConsonant y && isOpen f t) ≡ b
-          → Agrees (turned (headState b h)) (bare h ∷ syllable y n u f t ∷ a) (when p (when b (some (syllable y n u g t ∷ a))))
-      go true e =
-          let i : T (isConsonant y && isOpen f t) = subst T (sym e) tt in
-          rw moves (close-after p h y g n u f t a (both-left (isConsonant y) (isOpen f t) i) (both-right (isConsonant y) (isOpen f t) i) only)
-      go false e = refused _ (bare h ∷ syllable y n u f t ∷ a) (when p none) stays (close-none p)
+  module _ (moved : State → Transition) (h : ℕ) (g : Final) (p : Bool) (stays : moved head-stays ≡ refuse)
+      (moves : moved (headState true h) ≡ pick p (to 0 0 (finalState g done)) refuse) (only : (s : State) → finalState g s ≡ finalState g done)
+      (letter : T p → T (isFinalLetter h)) (named : g ≡ finalBy x h) where
+    close-followed : (a : Row) → Agrees x byte (moved (headState (isOpenTop a) h)) (bare h ∷ a) (when p (close g a))
+    close-followed [] = refused x byte _ (bare h ∷ []) (when p none) stays (close-none p)
+    close-followed (syllable y n u f t ∷ a) = go (carriesFinal y && isOpen f t) refl
+      where
+        go : (b : Bool) → (carriesFinal y && isOpen f t) ≡ b
+            → Agrees x byte (moved (headState b h)) (bare h ∷ syllable y n u f t ∷ a) (when p (when b (some (syllable y n u g t ∷ a))))
+        go true e =
+            let i : T (carriesFinal y && isOpen f t) = subst T (sym e) tt in
+            rw moves
+            (close-after p h y g n u f t a (both-left (carriesFinal y) (isOpen f t) i) (both-right (carriesFinal y) (isOpen f t) i) only letter named)
+        go false e = refused x byte _ (bare h ∷ syllable y n u f t ∷ a) (when p none) stays (close-none p)
 
 killer-stays : onKiller head-stays ≡ refuse
 unfolding pick
 killer-stays = refl
 
-killer-moves : (f q : Bool) → onKiller (pick f (pick q head-nga head-closes) head-stays) ≡ pick f (to 0 (pick q nga-final plain-final)) refuse
+killer-moves : (f q : Bool) → onKiller (pick f (pick q head-nga head-closes) head-stays) ≡ pick f (to 0 0 (pick q nga-final plain-final)) refuse
 unfolding pick
 killer-moves true true = refl
 killer-moves true false = refl
@@ -64,18 +67,18 @@ stacker-stays : onStacker head-stays ≡ refuse
 unfolding pick
 stacker-stays = refl
 
-stacker-moves : (f q : Bool) → onStacker (pick f (pick q head-nga head-closes) head-stays) ≡ pick (f && not q) (to 0 waiting) refuse
+stacker-moves : (f q : Bool) → onStacker (pick f (pick q head-nga head-closes) head-stays) ≡ pick (f && not q) (to 0 0 waiting) refuse
 unfolding pick
 stacker-moves true true = refl
 stacker-moves true false = refl
 stacker-moves false q = refl
 
--- neither closes anything where the last syllable is not open
-no-letter : (h : ℕ) → isConsonant h ≡ false → isFinalLetter h ≡ false
+-- neither closes anything where the last syllable is not open, or carries no marks
+no-letter : (h : ℕ) → carriesMarks h ≡ false → isFinalLetter h ≡ false
 no-letter h e = go (isFinalLetter h) refl
   where
     go : (b : Bool) → isFinalLetter h ≡ b → b ≡ false
-    go true i = absurd (subst T e (final-consonant h (subst T (sym i) tt)))
+    go true i = absurd (subst T e (letter-marks h (subst T (sym i) tt)))
     go false i = refl
 
 no-closing : (c o n u l : Bool) → (c && o) ≡ false → (c ≡ false → l ≡ false) → ((n && (u && o)) && l) ≡ false
@@ -88,7 +91,8 @@ no-closing true o false u l e f = refl
 abbrev killerRight : MedialGroup → Vowel → State → Bool
 killerRight m v s =
     (isNoMedial m && isNoVowel v)
-    || same (onKiller (vowelState v (medialState m s))) (changed (λ (n : Vowel). vowelState n (medialState m s)) (vowelAnd 0x103A v))
+    || (grown vowelByte v (vowelAnd 0x103A v)
+    && same (onKiller (vowelState v (medialState m s))) (changed vowelByte v (λ (n : Vowel). vowelState n (medialState m s)) (vowelAnd 0x103A v)))
 
 killer-right : (m : MedialGroup) (v : Vowel) (b : Bool) (h : ℕ) → T (killerRight m v (headState b h))
 unfolding pick
@@ -102,13 +106,14 @@ not-bare false u l e = refl
 at-marks : (b c : Bool) → b ≡ false → T (b || c) → T c
 at-marks b c e t = rw e at t
 
-killed-marked : (h : ℕ) (m : MedialGroup) (v : Vowel) (a : Row) (o : Option Vowel) → T (carriesMarks h) → (isNoMedial m && isNoVowel v) ≡ false
-    → Agrees (changed (λ (n : Vowel). vowelState n (medialState m (headState (isOpenTop a) h))) o) (syllable h m v no-final no-tone ∷ a)
-    (killed o (syllable h m v no-final no-tone) a)
-killed-marked h m v a none c e = rw (not-bare (isNoMedial m) (isNoVowel v) (isFinalLetter h) e) refl
-killed-marked h m v a (some n) c e =
+killed-marked : (x h : ℕ) (m : MedialGroup) (v : Vowel) (a : Row) (o : Option Vowel) → T (carriesMarks h) → (isNoMedial m && isNoVowel v) ≡ false
+    → T (grown vowelByte v o)
+    → Agrees x 3 (changed vowelByte v (λ (n : Vowel). vowelState n (medialState m (headState (isOpenTop a) h))) o)
+    (syllable h m v no-final no-tone ∷ a) (killed o (syllable h m v no-final no-tone) a)
+killed-marked x h m v a none c e t = rw (not-bare (isNoMedial m) (isNoVowel v) (isFinalLetter h) e) refl
+killed-marked x h m v a (some n) c e t =
     let i : carriesMarks h ≡ true = is-true (carriesMarks h) c in
-    (syllable h m n no-final no-tone ∷ a, (rw i refl), carried (carriesMarks h) _ c, omega arith)
+    (syllable h m n no-final no-tone ∷ a, (rw i refl), open-state h m n a c, adds-vowel (gained (vowelByte v) (vowelByte n) t))
 
 -- a syllable without marks is a head alone
 bare-cases : (P : MedialGroup → Vowel → Type 0) (m : MedialGroup) (v : Vowel) → P (group neither false false) no-vowel
@@ -122,30 +127,36 @@ bare-cases P m v at-bare at-rest = go (isNoMedial m && isNoVowel v) refl
     go true e = here m v (subst T (sym e) tt)
     go false e = at-rest e
 
-killer-open : (h : ℕ) (m : MedialGroup) (v : Vowel) (f : Final) (t : ToneMark) (a : Row) → T (carriesMarks h) → T (isOpen f t)
-    → Turns onKiller stepKiller (syllable h m v f t ∷ a)
-killer-open h m v no-final no-tone a c o =
-    bare-cases (λ (n : MedialGroup). λ (u : Vowel). Turns onKiller stepKiller (syllable h n u no-final no-tone ∷ a))
-    m v
-    (on-open onKiller _ h (group neither false false) no-vowel a (λ (b : Bool). when (isFinalLetter h) (close (plain h) a)) c refl
-    (close-turned onKiller h (plain h) (isFinalLetter h) killer-stays (killer-moves (isFinalLetter h) (eqb h 0x1004)) (λ s. refl) a))
-    (λ e. on-open onKiller _ h m v a (λ (b : Bool). killed (vowelAnd 0x103A v) (syllable h m v no-final no-tone) a) c
-    (same-equal _ _ (at-marks (isNoMedial m && isNoVowel v) _ e (killer-right m v (isOpenTop a) h)))
-    (killed-marked h m v a (vowelAnd 0x103A v) c e))
+module _ (x : ℕ) (y : x ≡ 0x103A) where
+  killer-named : (h : ℕ) → plain h ≡ finalBy x h
+  unfolding pick
+  killer-named h = rw y refl
+
+  killer-open : (h : ℕ) (m : MedialGroup) (v : Vowel) (f : Final) (t : ToneMark) (a : Row) → T (carriesMarks h) → T (isOpen f t)
+      → Follows x 3 onKiller stepKiller (syllable h m v f t ∷ a)
+  killer-open h m v no-final no-tone a c o =
+      bare-cases (λ (n : MedialGroup). λ (u : Vowel). Follows x 3 onKiller stepKiller (syllable h n u no-final no-tone ∷ a))
+      m v
+      (on-open x 3 onKiller _ h (group neither false false) no-vowel a (λ (b : Bool). when (isFinalLetter h) (close (plain h) a)) c refl
+      (close-followed x 3 onKiller h (plain h) (isFinalLetter h) killer-stays (killer-moves (isFinalLetter h) (eqb h 0x1004)) (λ s. refl)
+      (λ l. l) (killer-named h) a))
+      (λ e. let r = at-marks (isNoMedial m && isNoVowel v) _ e (killer-right m v (isOpenTop a) h) in
+      on-open x 3 onKiller _ h m v a (λ (b : Bool). killed (vowelAnd 0x103A v) (syllable h m v no-final no-tone) a) c
+      (same-equal _ _ (both-right (grown vowelByte v (vowelAnd 0x103A v)) _ r))
+      (killed-marked x h m v a (vowelAnd 0x103A v) c e (both-left (grown vowelByte v (vowelAnd 0x103A v)) _ r)))
 
 killer-none : (o : Option Vowel) (h : ℕ) (m : MedialGroup) (v : Vowel) (f : Final) (t : ToneMark) (a : Row)
-    → (carriesFinal h && isOpen f t) ≡ false → killed o (syllable h m v f t) a ≡ none
-unfolding carriesMarks carriesFinal
+    → (carriesMarks h && isOpen f t) ≡ false → killed o (syllable h m v f t) a ≡ none
 killer-none none h m v f t a e =
-    rw (no-closing (isConsonant h) (isOpen f t) (isNoMedial m) (isNoVowel v) (isFinalLetter h) e (no-letter h)) refl
+    rw (no-closing (carriesMarks h) (isOpen f t) (isNoMedial m) (isNoVowel v) (isFinalLetter h) e (no-letter h)) refl
 killer-none (some n) h m v f t a e = rw e refl
 
-pub killer-turned : (kept : Row) → Turns onKiller stepKiller kept
-unfolding carriesMarks carriesFinal
-killer-turned [] = refused (onKiller done) [] none (shut 0 done tt .killer) refl
-killer-turned (syllable h m v f t ∷ a) =
-    if-open onKiller stepKiller h m v f t a (λ n. shut 0 (stateOf (syllable h m v f t ∷ a)) n .killer)
-    (killer-none (vowelAnd 0x103A v) h m v f t a) (killer-open h m v f t a)
+pub killer-followed : (x : ℕ) → x ≡ 0x103A → (kept : Row) → KeptOk kept → Follows x 3 onKiller stepKiller kept
+unfolding pick
+killer-followed x y [] k = refused x 3 (onKiller done) [] none (shut 0 done tt .killer) refl
+killer-followed x y (syllable h m v f t ∷ a) k =
+    if-marked x 3 onKiller stepKiller h m v f t a (k .1) refl (λ n. shut 0 (stateOf (syllable h m v f t ∷ a)) n .killer)
+    (killer-none (vowelAnd 0x103A v) h m v f t a) (killer-open x y h m v f t a)
 
 -- the stacker on a syllable with marks does nothing
 abbrev stackerRight : MedialGroup → Vowel → State → Bool
@@ -155,16 +166,17 @@ stacker-right : (m : MedialGroup) (v : Vowel) (b : Bool) (h : ℕ) → T (stacke
 unfolding pick
 stacker-right m v b h = each-open stackerRight tt m v b h
 
-stacker-open : (h : ℕ) (m : MedialGroup) (v : Vowel) (a : Row) → T (carriesMarks h)
-    → Turns onStacker stepStacker (syllable h m v no-final no-tone ∷ a)
-stacker-open h m v a c =
-    bare-cases (λ (n : MedialGroup). λ (u : Vowel). Turns onStacker stepStacker (syllable h n u no-final no-tone ∷ a))
+stacker-open : (x : ℕ) → x ≡ 0x1039 → (h : ℕ) (m : MedialGroup) (v : Vowel) (a : Row) → T (carriesMarks h)
+    → Follows x 2 onStacker stepStacker (syllable h m v no-final no-tone ∷ a)
+unfolding pick
+stacker-open x y h m v a c =
+    bare-cases (λ (n : MedialGroup). λ (u : Vowel). Follows x 2 onStacker stepStacker (syllable h n u no-final no-tone ∷ a))
     m v
-    (on-open onStacker _ h (group neither false false) no-vowel a
+    (on-open x 2 onStacker _ h (group neither false false) no-vowel a
     (λ (b : Bool). when (isFinalLetter h && not (eqb h 0x1004)) (close (stacked h) a)) c refl
-    (close-turned onStacker h (stacked h) (isFinalLetter h && not (eqb h 0x1004)) stacker-stays
-    (stacker-moves (isFinalLetter h) (eqb h 0x1004)) (λ s. refl) a))
-    (λ e. on-open onStacker refuse h m v a (λ (b : Bool). stepStacker (syllable h m v no-final no-tone ∷ a)) c
+    (close-followed x 2 onStacker h (stacked h) (isFinalLetter h && not (eqb h 0x1004)) stacker-stays
+    (stacker-moves (isFinalLetter h) (eqb h 0x1004)) (λ s. refl) (both-left (isFinalLetter h) (not (eqb h 0x1004))) (rw y refl) a))
+    (λ e. on-open x 2 onStacker refuse h m v a (λ (b : Bool). stepStacker (syllable h m v no-final no-tone ∷ a)) c
     (same-equal _ _ (at-marks (isNoMedial m && isNoVowel v) _ e (stacker-right m v (isOpenTop a) h)))
     (rw (not-bare (isNoMedial m) (isNoVowel v) (isFinalLetter h && not (eqb h 0x1004)) e) refl))
 
@@ -190,37 +202,45 @@ toned-refused true visarga s i n = refl
 toned-refused false t s i n = refl
 
 -- on a plain 1004 it makes kinzi
-kinzi-turned : (p c : Bool) (h : ℕ) (m : MedialGroup) (v : Vowel) (d : ℕ) (t : ToneMark) (a : Row) → T (carriesMarks h) → c ≡ carriesMarks h
-    → Agrees (onStacker (pick c (toneState t (pick p nga-final plain-final)) done)) (syllable h m v (plain d) t ∷ a)
-    (when (p && isNoTone t) (some (syllable h m v kinzi t ∷ a)))
+kinzi-followed : (x : ℕ) (c : Bool) (h : ℕ) (m : MedialGroup) (v : Vowel) (d : ℕ) (t : ToneMark) (a : Row) → T (carriesFinal h) → c ≡ carriesFinal h
+    → Agrees x 2 (onStacker (pick c (toneState t (pick (eqb d 0x1004) nga-final plain-final)) done)) (syllable h m v (plain d) t ∷ a)
+    (when (eqb d 0x1004 && isNoTone t) (some (syllable h m v kinzi t ∷ a)))
 unfolding pick
-kinzi-turned true true h m v d no-tone a i e = (syllable h m v kinzi no-tone ∷ a, refl, carried (carriesMarks h) _ i, omega arith)
-kinzi-turned false true h m v d no-tone a i e = refl
-kinzi-turned true true h m v d dot a i e = refl
-kinzi-turned false true h m v d dot a i e = refl
-kinzi-turned true true h m v d visarga a i e = refl
-kinzi-turned false true h m v d visarga a i e = refl
-kinzi-turned p false h m v d t a i e = absurd (subst T (sym e) i)
+kinzi-followed x c h m v d t a i e = go (eqb d 0x1004) refl c e t
+  where
+    go : (p : Bool) → eqb d 0x1004 ≡ p → (c : Bool) → c ≡ carriesFinal h → (t : ToneMark)
+        → Agrees x 2 (onStacker (pick c (toneState t (pick p nga-final plain-final)) done)) (syllable h m v (plain d) t ∷ a)
+        (when (p && isNoTone t) (some (syllable h m v kinzi t ∷ a)))
+    go true q true e no-tone =
+        let made : ℕ → Type 0 = λ (k : ℕ). Makes x 2 1 0x40 (syllable h m v (plain k) no-tone ∷ a) (syllable h m v kinzi no-tone ∷ a) in
+        let n : d ≡ 0x1004 = eqb→eq d 0x1004 (subst T (sym q) tt) in
+        (syllable h m v kinzi no-tone ∷ a, refl, carried (carriesFinal h) _ i, subst made (sym n) makes-kinzi)
+    go false q true e no-tone = refl
+    go true q true e dot = refl
+    go false q true e dot = refl
+    go true q true e visarga = refl
+    go false q true e visarga = refl
+    go p q false e t = absurd (subst T (sym e) i)
 
 or-false : (b : Bool) → T (b || false) → T b
 or-false true t = tt
 or-false false t = t
 
-pub stacker-turned : (kept : Row) → KeptOk kept → Turns onStacker stepStacker kept
-unfolding carriesMarks carriesFinal pick
-stacker-turned [] k = refused (onStacker done) [] none (stack-refused true no-tone done tt) refl
-stacker-turned (syllable h m v no-final t ∷ a) k =
-    if-open onStacker stepStacker h m v no-final t a
-    (toned-refused (isConsonant h) t _ (opened m v (isOpenTop a) h))
-    (λ e. rw (no-closing (isConsonant h) (isNoTone t) (isNoMedial m) (isNoVowel v) (isFinalLetter h && not (eqb h 0x1004)) e
+pub stacker-followed : (x : ℕ) → x ≡ 0x1039 → (kept : Row) → KeptOk kept → Follows x 2 onStacker stepStacker kept
+unfolding pick
+stacker-followed x y [] k = refused x 2 (onStacker done) [] none (stack-refused true no-tone done tt) refl
+stacker-followed x y (syllable h m v no-final t ∷ a) k =
+    if-marked x 2 onStacker stepStacker h m v no-final t a (k .1) refl
+    (toned-refused (carriesFinal h) t _ (opened m v (isOpenTop a) h))
+    (λ e. rw (no-closing (carriesMarks h) (isNoTone t) (isNoMedial m) (isNoVowel v) (isFinalLetter h && not (eqb h 0x1004)) e
     (λ i. rw (no-letter h i) refl)) refl)
     (stack-open t)
   where
-    stack-open : (t : ToneMark) → T (isConsonant h) → T (isNoTone t)
-        → Turns onStacker stepStacker (syllable h m v no-final t ∷ a)
-    stack-open no-tone c o = stacker-open h m v a c
-stacker-turned (syllable h m v (plain c) t ∷ a) k =
-    kinzi-turned (eqb c 0x1004) (isConsonant h) h m v c t a (or-false (isConsonant h) (apart h m v (plain c) t (k .1) .closing)) refl
-stacker-turned (syllable h m v (stacked c) t ∷ a) k = refused _ _ none (stack-refused (isConsonant h) t waiting tt) refl
-stacker-turned (syllable h m v kinzi t ∷ a) k = refused _ _ none (stack-refused (isConsonant h) t waiting tt) refl
-stacker-turned (syllable h m v great-sa t ∷ a) k = refused _ _ none (stack-refused (isConsonant h) t done tt) refl
+    stack-open : (t : ToneMark) → T (carriesMarks h) → T (isNoTone t)
+        → Follows x 2 onStacker stepStacker (syllable h m v no-final t ∷ a)
+    stack-open no-tone c o = stacker-open x y h m v a c
+stacker-followed x y (syllable h m v (plain c) t ∷ a) k =
+    kinzi-followed x (carriesFinal h) h m v c t a (or-false (carriesFinal h) (apart h m v (plain c) t (k .1) .closing)) refl
+stacker-followed x y (syllable h m v (stacked c) t ∷ a) k = refused x 2 _ _ none (stack-refused (carriesFinal h) t waiting tt) refl
+stacker-followed x y (syllable h m v kinzi t ∷ a) k = refused x 2 _ _ none (stack-refused (carriesFinal h) t waiting tt) refl
+stacker-followed x y (syllable h m v great-sa t ∷ a) k = refused x 2 _ _ none (stack-refused (carriesFinal h) t done tt) refl

@@ -1,10 +1,10 @@
--- The tables are the turn: values of one class do the same, which is computed at each value of the chart and each state, and so are the bits.
+-- The tables are the transitions: values of one class do the same, which is computed at each value of the chart and each state.
 -- Assumes nothing.
 use mathlib.Core.Path.{_≡_, refl, ap, sym, subst, _∙_}
-use mathlib.Core.Bool.{Bool, true, false, not, _||_}
+use mathlib.Core.Bool.{Bool, true, false, not, _&&_, _||_}
 use mathlib.Core.List.{List, [], _∷_}
 use mathlib.Core.Option.{Option, none, some}
-use Prim.Native.Nat.{ℕ, zero, suc, _+_, _*_, _/_, _%_, _≤_, _<_}
+use Prim.Native.Nat.{ℕ, zero, suc, _+_, _*_, _/_, _%_, _^_, _≤_, _<_}
 use native.Mathlib.Decide.{decLt}
 use native.Mathlib.Nat.{le-of-suc-le-suc, not-suc-le-zero}
 use native.Mathlib.Omega.{arith}
@@ -13,18 +13,19 @@ use lib.ListN.{length, getD}
 use Rattle.letters.specs.Choice.{pick}
 use Rattle.letters.specs.Letters.{kindOf, isAdmitted}
 use Rattle.letters.specs.declared.kind.Kind.{Kind}
-use Rattle.letters.specs.declared.kind.Kind.the-variants.{Consonant, IndependentVowel, Medial, VowelMark, Tone, Killer, Stacker, GreatSa, Digit, Stop, Sign, Foreign}
+use Rattle.letters.specs.declared.kind.Kind.the-variants.{Foreign}
 use Rattle.letters.proofs.Arms.{inArms, InNone, in-none}
 use Rattle.letters.proofs.Counted.{on-chart, unadmitted-foreign, below-foreign, above-foreign}
 use Rattle.letters.proofs.Table.{upTo, below}
-use Rattle.formula.specs.Syllable.{carriesMarks}
+use Rattle.formula.proofs.Lists.{both-left, both-right}
+use Rattle.formula.specs.Syllable.{carriesMarks, carriesFinal}
 use Rattle.formula.specs.Row.{Row}
 use Rattle.rows.specs.Kept.{endOf, KeptOk, isNotGreatSa, step}
-use Rattle.transitions.specs.State.{State, done, plain-final, nga-final, waiting, head-stays, head-closes, head-nga, after-ya-ra, after-wa, after-both, after-ha, with-e, with-e-aa, with-i, with-u, with-vowel, stateOf, stateNumber}
-use Rattle.transitions.specs.Turn.{Turn, refuse, to, turn, Agrees}
-use Rattle.transitions.specs.Tables.{stateAt, entry, entryOf, classIn, classOf, examples, turnsOf, countsOf, bits, rulesOf, entryBy}
+use Rattle.transitions.specs.State.{State, done, plain-final, nga-final, waiting, head-stays, head-closes, head-nga, after-ya-ra, after-wa, after-ha, with-e, with-e-aa, with-i, with-u, with-vowel, stateOf, stateNumber}
+use Rattle.transitions.specs.Transition.{Transition, refuse, to, transition, byteOf, Makes, begins, begins-great-sa, adds-medial, adds-vowel, adds-tone, makes-kinzi, closes, Agrees}
+use Rattle.transitions.specs.Tables.{stateAt, entry, amountOf, entryOf, gainOf, classIn, classOf, examples, rulesAt, rulesIn, rulesOf, nextBy, gainBy}
 use Rattle.transitions.proofs.Tested.{numbered}
-use Rattle.transitions.proofs.Turned.{turned}
+use Rattle.transitions.proofs.Followed.{followed}
 
 -- what is so of every value of the chart and of all foreign values
 chart-or-foreign : (P : ℕ → Type 0) → ((x : ℕ) → 0x1000 ≤ x → x ≤ 0x104F → P x) → ((x : ℕ) → kindOf x ≡ Foreign → P x) → (x : ℕ) → P x
@@ -39,9 +40,9 @@ foreign-class : (x : ℕ) → kindOf x ≡ Foreign → classOf x ≡ 3
 unfolding classOf
 foreign-class x e = ap (λ (k : Kind). classIn k x) e
 
-foreign-entry : (q x : ℕ) → kindOf x ≡ Foreign → entryOf q x ≡ 48
+foreign-entry : (q x : ℕ) → kindOf x ≡ Foreign → entryOf q x ≡ 96
 unfolding entryOf
-foreign-entry q x e = ap (λ (k : Kind). entry (turn k x (stateAt q))) e
+foreign-entry q x e = ap (λ (k : Kind). entry (transition k x (stateAt q))) e
 
 -- a value that no arm has is foreign, where the arms have every admitted value
 unadmitted : (a b : Bool) → T (a || not b) → a ≡ false → b ≡ false
@@ -57,10 +58,11 @@ none-foreign arms t x n =
     (unadmitted (inArms arms y) (isAdmitted y) (on-chart (λ (z : ℕ). inArms arms z || not (isAdmitted z)) t y l h) (in-none arms y m))))
     (λ y e m. foreign-class y e) x n
 
--- a class that no arm has is none of the 22
+-- a class that no arm has is none of the 23
 abbrev classArms : List (List ℕ)
 classArms =
-    (21 ∷ [])
+    (22 ∷ [])
+    ∷ (21 ∷ [])
     ∷ (20 ∷ [])
     ∷ (19 ∷ [])
     ∷ (18 ∷ [])
@@ -90,48 +92,90 @@ beyond (y ∷ l) zero h = absurd (not-suc-le-zero h)
 beyond (y ∷ l) (suc k) h = beyond l k (le-of-suc-le-suc h)
 
 no-example : (class : ℕ) → InNone classArms class → getD examples class 0 ≡ 0
-no-example class n = go (decLt class 22)
+no-example class n = go (decLt class 23)
   where
-    go : Dec (class < 22) → getD examples class 0 ≡ 0
-    go (yes h) = absurd (subst T (in-none classArms class n) (below (inArms classArms) 22 tt class h))
+    go : Dec (class < 23) → getD examples class 0 ≡ 0
+    go (yes h) = absurd (subst T (in-none classArms class n) (below (inArms classArms) 23 tt class h))
     go (no h) = beyond examples class (omega arith)
 
-pub no-turns : (class : ℕ) → InNone classArms class → turnsOf class ≡ 0
-unfolding turnsOf pick
-no-turns class n = rw (no-example class n) refl
+no-rules-at : rulesAt 0 ≡ record { picks = 0; outcomes = 96; amounts = 0 }
+unfolding pick
+no-rules-at = refl
 
-pub no-counts : (class : ℕ) → InNone classArms class → countsOf class ≡ 0x3333333333333333
-unfolding countsOf pick
-no-counts class n = rw (no-example class n) refl
+pub no-rules : (class : ℕ) → InNone classArms class → rulesIn class ≡ record { picks = 0; outcomes = 96; amounts = 0 }
+unfolding rulesIn
+no-rules class n = ap rulesAt (no-example class n) ∙ no-rules-at
 
-abbrev read : ℕ → ℕ → ℕ
-read class state = bits (countsOf class) state * 16 + bits (turnsOf class) state
+-- the entry that a class has for a state, and what it adds there
+abbrev entryIn : ℕ → ℕ → ℕ
+entryIn class q = nextBy q (rulesIn class)
 
-entryRight : ℕ → Bool
-entryRight x = upTo (λ (q : ℕ). eqb (read (classOf x) q) (entryOf q x)) 16
+abbrev gainIn : ℕ → ℕ → ℕ
+gainIn class q = gainBy q (rulesIn class)
 
-tested : (x : ℕ) → 0x1000 ≤ x → x ≤ 0x104F → T (entryRight x)
-unfolding entryRight entryOf classOf turnsOf countsOf pick carriesMarks
-tested x l h = on-chart entryRight tt x l h
+ruleRight : ℕ → Bool
+ruleRight x = upTo (λ (q : ℕ). eqb (entryIn (classOf x) q) (entryOf q x) && (eqb (entryOf q x) 96 || eqb (gainIn (classOf x) q) (gainOf q x))) 15
 
-refusing : (q : ℕ) → q < 16 → T (eqb (read 3 q) 48)
-unfolding turnsOf countsOf pick
-refusing q h = below (λ (k : ℕ). eqb (read 3 k) 48) 16 tt q h
+tested : (x : ℕ) → 0x1000 ≤ x → x ≤ 0x104F → T (ruleRight x)
+unfolding ruleRight entryOf gainOf classOf rulesIn pick carriesMarks carriesFinal
+tested x l h = on-chart ruleRight tt x l h
+
+refusing : (q : ℕ) → q < 15 → T (eqb (entryIn 3 q) 96)
+unfolding rulesIn pick
+refusing q h = below (λ (k : ℕ). eqb (entryIn 3 k) 96) 15 tt q h
+
+tested-at : (q x : ℕ) → q < 15 → 0x1000 ≤ x → x ≤ 0x104F
+    → T (eqb (entryIn (classOf x) q) (entryOf q x) && (eqb (entryOf q x) 96 || eqb (gainIn (classOf x) q) (gainOf q x)))
+unfolding ruleRight
+tested-at q x h l u =
+    below (λ (k : ℕ). eqb (entryIn (classOf x) k) (entryOf k x) && (eqb (entryOf k x) 96 || eqb (gainIn (classOf x) k) (gainOf k x))) 15
+    (tested x l u) q h
 
 -- what the rules of a value say at a state is what the value does there
-pub next-entry : (q x : ℕ) → q < 16 → entryBy q (rulesOf x) ≡ entryOf q x
-unfolding entryRight
+pub next-entry : (q x : ℕ) → q < 15 → nextBy q (rulesOf x) ≡ entryOf q x
 next-entry q x h =
-    chart-or-foreign (λ (y : ℕ). read (classOf y) q ≡ entryOf q y)
-    (λ y l u. eqb→eq (read (classOf y) q) (entryOf q y) (below (λ (k : ℕ). eqb (read (classOf y) k) (entryOf k y)) 16 (tested y l u) q h))
-    (λ y e. ap (λ (k : ℕ). read k q) (foreign-class y e) ∙ eqb→eq (read 3 q) 48 (refusing q h) ∙ sym (foreign-entry q y e)) x
+    chart-or-foreign (λ (y : ℕ). entryIn (classOf y) q ≡ entryOf q y)
+    (λ y l u. eqb→eq (entryIn (classOf y) q) (entryOf q y) (both-left (eqb (entryIn (classOf y) q) (entryOf q y)) _ (tested-at q y h l u)))
+    (λ y e. ap (λ (k : ℕ). entryIn k q) (foreign-class y e) ∙ eqb→eq (entryIn 3 q) 96 (refusing q h) ∙ sym (foreign-entry q y e)) x
 
--- what an entry says of the machine's step
-pub record Enters (e : ℕ) (kept : Row) (o : Option Row) : Type 0 where
-  pub refuses : e ≡ 48 → o ≡ none
-  pub moves : (e ≡ 48 → ⊥) → (b : Row) × (o ≡ some b) × (e % 16 ≡ stateNumber (stateOf b)) × (length b + 1 ≡ length kept + e / 16)
+or-not : (a b : ℕ) → (a ≡ b → ⊥) → (c : Bool) → T (eqb a b || c) → T c
+or-not a b n c t = go (eqb a b) (λ (i : T (eqb a b)). n (eqb→eq a b i)) t
+  where
+    go : (p : Bool) → (T p → ⊥) → T (p || c) → T c
+    go true f t = absurd (f tt)
+    go false f t = t
 
-pub state-small : (s : State) → T (leb (stateNumber s) 15)
+-- and so is what it adds
+pub next-gain : (q x : ℕ) → q < 15 → (entryOf q x ≡ 96 → ⊥) → gainBy q (rulesOf x) ≡ gainOf q x
+next-gain q x h n =
+    chart-or-foreign (λ (y : ℕ). (entryOf q y ≡ 96 → ⊥) → gainIn (classOf y) q ≡ gainOf q y)
+    (λ y l u m. eqb→eq (gainIn (classOf y) q) (gainOf q y)
+    (or-not (entryOf q y) 96 m _ (both-right (eqb (entryIn (classOf y) q) (entryOf q y)) _ (tested-at q y h l u))))
+    (λ y e m. absurd (m (foreign-entry q y e))) x n
+
+pub makes-length : {x byte d a : ℕ} {kept b : Row} → Makes x byte d a kept b → length b + 1 ≡ length kept + d
+makes-length (begins h) = omega arith
+makes-length (begins-great-sa y) = omega arith
+makes-length (adds-medial e) = omega arith
+makes-length (adds-vowel e) = omega arith
+makes-length (adds-tone e) = omega arith
+makes-length makes-kinzi = omega arith
+makes-length (closes l) = omega arith
+
+-- what an entry that is no refusal says of the machine's step: the row after it, its state and what was made of the row before
+pub record Moves (x e gain : ℕ) (kept : Row) (o : Option Row) : Type 0 where
+  pub after : Row
+  pub stepped : o ≡ some after
+  pub state-is : e % 32 ≡ stateNumber (stateOf after)
+  pub amount : ℕ
+  pub makes : Makes x (byteOf (kindOf x)) (e / 32) amount kept after
+  pub gain-is : gain ≡ amount * 2 ^ (8 * byteOf (kindOf x))
+
+pub record Enters (x e gain : ℕ) (kept : Row) (o : Option Row) : Type 0 where
+  pub refuses : e ≡ 96 → o ≡ none
+  pub moves : (e ≡ 96 → ⊥) → Moves x e gain kept o
+
+pub state-small : (s : State) → T (leb (stateNumber s) 14)
 state-small done = tt
 state-small plain-final = tt
 state-small nga-final = tt
@@ -141,7 +185,6 @@ state-small head-closes = tt
 state-small head-nga = tt
 state-small after-ya-ra = tt
 state-small after-wa = tt
-state-small after-both = tt
 state-small after-ha = tt
 state-small with-e = tt
 state-small with-e-aa = tt
@@ -149,46 +192,41 @@ state-small with-i = tt
 state-small with-u = tt
 state-small with-vowel = tt
 
--- a turn adds or takes at most one syllable
-abbrev isSmall : Turn → Bool
-isSmall refuse = true
-isSmall (to d s) = leb d 2
+small-change : {x byte d a : ℕ} {kept b : Row} → Makes x byte d a kept b → d ≤ 2
+small-change (begins h) = omega arith
+small-change (begins-great-sa y) = omega arith
+small-change (adds-medial e) = omega arith
+small-change (adds-vowel e) = omega arith
+small-change (adds-tone e) = omega arith
+small-change makes-kinzi = omega arith
+small-change (closes l) = omega arith
 
-small-pick : (b : Bool) (t u : Turn) → T (isSmall t) → T (isSmall u) → T (isSmall (pick b t u))
-unfolding pick
-small-pick true t u i j = i
-small-pick false t u i j = j
-
-turn-small : (k : Kind) (x : ℕ) (s : State) → T (isSmall (turn k x s))
-turn-small Consonant x s = small-pick _ _ _ tt tt
-turn-small IndependentVowel x s = small-pick _ _ _ tt tt
-turn-small Medial x s = small-pick _ _ _ tt tt
-turn-small VowelMark x s = small-pick _ _ _ tt (small-pick _ _ _ tt (small-pick _ _ _ tt tt))
-turn-small Tone x s = small-pick _ _ _ tt tt
-turn-small Killer x s = small-pick _ _ _ tt (small-pick _ _ _ tt (small-pick _ _ _ tt tt))
-turn-small Stacker x s = small-pick _ _ _ tt (small-pick _ _ _ tt tt)
-turn-small GreatSa x s = small-pick _ _ _ tt tt
-turn-small Digit x s = small-pick _ _ _ tt tt
-turn-small Stop x s = small-pick _ _ _ tt tt
-turn-small Sign x s = small-pick _ _ _ tt tt
-turn-small Foreign x s = tt
-
-enters-by : (t : Turn) (e : ℕ) (kept : Row) (o : Option Row) → T (isSmall t) → e ≡ entry t → Agrees t kept o → Enters e kept o
-enters-by refuse e kept o i q a = record { refuses = λ _. a; moves = λ n. absurd (n q) }
-enters-by (to d s) e kept o i q a =
-    let l : d ≤ 2 = leb→le d 2 i in
-    let n : stateNumber s ≤ 15 = leb→le _ 15 (state-small s) in
-    let r : e % 16 ≡ stateNumber s = omega arith in
-    let p : e / 16 ≡ d = omega arith in
+enters-by : (x : ℕ) (t : Transition) (e gain : ℕ) (kept : Row) (o : Option Row) → e ≡ entry t → gain ≡ amountOf t * 2 ^ (8 * byteOf (kindOf x))
+    → Agrees x (byteOf (kindOf x)) t kept o → Enters x e gain kept o
+enters-by x refuse e gain kept o q g a = record { refuses = λ _. a; moves = λ n. absurd (n q) }
+enters-by x (to d m s) e gain kept o q g a =
+    let l : d ≤ 2 = small-change (a .3) in
+    let n : stateNumber s ≤ 14 = leb→le _ 14 (state-small s) in
+    let r : e % 32 ≡ stateNumber s = omega arith in
+    let p : e / 32 ≡ d = omega arith in
     record {
       refuses = λ z. let y : ⊥ = omega arith in absurd y;
-      moves = λ _. (a .0, a .1, r ∙ ap stateNumber (a .2), a .3 ∙ ap (λ (k : ℕ). length kept + k) (sym p));
+      moves = λ _.
+          record {
+            after = a .0;
+            stepped = a .1;
+            state-is = r ∙ ap stateNumber (a .2);
+            amount = m;
+            makes = subst (λ (k : ℕ). Makes x (byteOf (kindOf x)) k m kept (a .0)) (sym p) (a .3);
+            gain-is = g;
+          };
     }
 
 pub enters : (x : ℕ) (kept : Row) → KeptOk kept → T (isNotGreatSa (endOf kept)) → (state : ℕ) → state ≡ stateNumber (stateOf kept)
-    → Enters (entryOf state x) kept (step kept x)
-unfolding entryOf
+    → Enters x (entryOf state x) (gainOf state x) kept (step kept x)
+unfolding entryOf gainOf
 enters x kept k n state e =
     let s : stateAt state ≡ stateOf kept = ap stateAt e ∙ numbered (stateOf kept) in
-    enters-by (turn (kindOf x) x (stateOf kept)) (entryOf state x) kept (step kept x) (turn-small (kindOf x) x (stateOf kept))
-    (ap (λ (t : State). entry (turn (kindOf x) x t)) s) (turned x kept k n)
+    enters-by x (transition (kindOf x) x (stateOf kept)) (entryOf state x) (gainOf state x) kept (step kept x)
+    (ap (λ (t : State). entry (transition (kindOf x) x t)) s)
+    (ap (λ (t : State). amountOf (transition (kindOf x) x t) * 2 ^ (8 * byteOf (kindOf x))) s) (followed x kept k n)

@@ -1,82 +1,93 @@
 -- What the last syllable may still take, a final, a letter or a tone, is told by the state.
 -- Assumes nothing.
-use mathlib.Core.Path.{_≡_, refl, ap, sym, _∙_}
+use mathlib.Core.Path.{_≡_, refl, ap, sym, subst, _∙_}
 use mathlib.Core.Bool.{Bool, true, false, not, _&&_, _||_}
 use mathlib.Core.List.{[], _∷_}
 use Prim.Native.Nat.{ℕ}
 use lib.Dec.{T, eqb}
 use Rattle.letters.specs.Choice.{pick}
-use Rattle.letters.specs.Letters.{isConsonant}
-use Rattle.letters.specs.Marks.{MedialGroup, Vowel, ToneMark, no-tone, dot, visarga}
+use Rattle.letters.specs.Marks.{neither, MedialGroup, group, medialGroups, Vowel, no-vowel, vowels, ToneMark, no-tone, dot, visarga}
 use Rattle.letters.specs.Weights.{isFinalLetter}
-use Rattle.formula.specs.Syllable.{Final, no-final, plain, stacked, kinzi, great-sa, syllable, carriesMarks, carriesFinal, isNoFinal, isNoTone, isClosed, takesTone}
+use Rattle.formula.proofs.Lists.{both-left, both-right, every}
+use Rattle.formula.proofs.Pieces.{each-vowel, each-medial}
+use Rattle.formula.specs.Syllable.{Final, no-final, plain, stacked, kinzi, great-sa, syllable, carriesMarks, carriesFinal, isNoMedial, isNoVowel, isNoFinal, isNoTone, isClosed, takesTone, isSyllable}
 use Rattle.formula.specs.Row.{Row}
 use Rattle.rows.specs.Kept.{endOf, KeptOk, isNotGreatSa, isOpen, admits}
 use Rattle.rows.proofs.Sound.{apart}
-use Rattle.transitions.specs.State.{State, done, plain-final, nga-final, waiting, head-stays, head-closes, head-nga, after-ya-ra, after-wa, after-both, after-ha, with-e, with-e-aa, with-i, with-u, with-vowel, headState, medialState, vowelState, finalState, toneState, isOpenTop, stateOf}
-use Rattle.transitions.specs.Turn.{is, isOpenState, takesHead, takesToneState}
+use Rattle.rows.proofs.Complete.{is-true, final-consonant}
+use Rattle.transitions.specs.State.{State, done, plain-final, nga-final, waiting, head-stays, head-closes, head-nga, after-ya-ra, after-wa, after-ha, with-e, with-e-aa, with-i, with-u, with-vowel, headState, begunState, medialState, vowelState, finalState, toneState, isOpenTop, stateOf}
+use Rattle.transitions.specs.Transition.{is, isOpenState, takesHead, takesToneState}
 use Rattle.transitions.proofs.Tested.{each-open}
 
 -- what the last syllable may take, by its final and tone and by the state
 abbrev pub waits : Final → ToneMark → Bool
 waits f t = isNoTone t && (not (isClosed f) && isNotGreatSa f)
 
-abbrev Told : State → Final → ToneMark → Type 0
-Told s f t = (isOpenState s ≡ isOpen f t) × (is waiting s ≡ waits f t) × (takesToneState s ≡ (isClosed f && isNoTone t))
+abbrev Shows : State → Final → ToneMark → Type 0
+Shows s f t = (isOpenState s ≡ isOpen f t) × (is waiting s ≡ waits f t) × (takesToneState s ≡ (isClosed f && isNoTone t))
 
-told-plain : (c : ℕ) (p : Bool) → Told (pick p nga-final plain-final) (plain c) no-tone
+shows-plain : (c : ℕ) (p : Bool) → Shows (pick p nga-final plain-final) (plain c) no-tone
 unfolding pick
-told-plain c true = (refl, refl, refl)
-told-plain c false = (refl, refl, refl)
+shows-plain c true = (refl, refl, refl)
+shows-plain c false = (refl, refl, refl)
 
 -- an open state
-told-open : (s : State) → T (isOpenState s) → Told s no-final no-tone
-told-open head-stays t = (refl, refl, refl)
-told-open head-closes t = (refl, refl, refl)
-told-open head-nga t = (refl, refl, refl)
-told-open after-ya-ra t = (refl, refl, refl)
-told-open after-wa t = (refl, refl, refl)
-told-open after-both t = (refl, refl, refl)
-told-open after-ha t = (refl, refl, refl)
-told-open with-e t = (refl, refl, refl)
-told-open with-e-aa t = (refl, refl, refl)
-told-open with-i t = (refl, refl, refl)
-told-open with-u t = (refl, refl, refl)
-told-open with-vowel t = (refl, refl, refl)
+shows-open : (s : State) → T (isOpenState s) → Shows s no-final no-tone
+shows-open head-stays t = (refl, refl, refl)
+shows-open head-closes t = (refl, refl, refl)
+shows-open head-nga t = (refl, refl, refl)
+shows-open after-ya-ra t = (refl, refl, refl)
+shows-open after-wa t = (refl, refl, refl)
+shows-open after-ha t = (refl, refl, refl)
+shows-open with-e t = (refl, refl, refl)
+shows-open with-e-aa t = (refl, refl, refl)
+shows-open with-i t = (refl, refl, refl)
+shows-open with-u t = (refl, refl, refl)
+shows-open with-vowel t = (refl, refl, refl)
 
-pub opened : (m : MedialGroup) (v : Vowel) (b : Bool) (h : ℕ) → T (isOpenState (vowelState v (medialState m (headState b h))))
-opened m v b h = each-open (λ (n : MedialGroup). λ (u : Vowel). λ (s : State). isOpenState (vowelState u (medialState n s))) tt m v b h
+-- a syllable with neither final nor tone is open, whatever its head carries
+abbrev openAt : MedialGroup → Vowel → State → Bool
+openAt m v s = isOpenState (vowelState v (medialState m s))
 
-told : (s : State) (f : Final) (t : ToneMark) → T (isOpenState s) → Told (toneState t (finalState f s)) f t
-told s no-final no-tone i = told-open s i
-told s (plain c) no-tone i = told-plain c (eqb c 0x1004)
-told s (stacked c) no-tone i = (refl, refl, refl)
-told s kinzi no-tone i = (refl, refl, refl)
-told s great-sa no-tone i = (refl, refl, refl)
-told s no-final dot i = (refl, refl, refl)
-told s (plain c) dot i = (refl, refl, refl)
-told s (stacked c) dot i = (refl, refl, refl)
-told s kinzi dot i = (refl, refl, refl)
-told s great-sa dot i = (refl, refl, refl)
-told s no-final visarga i = (refl, refl, refl)
-told s (plain c) visarga i = (refl, refl, refl)
-told s (stacked c) visarga i = (refl, refl, refl)
-told s kinzi visarga i = (refl, refl, refl)
-told s great-sa visarga i = (refl, refl, refl)
+pub opened : (m : MedialGroup) (v : Vowel) (b : Bool) (h : ℕ) → T (isOpenState (vowelState v (medialState m (begunState b h))))
+unfolding pick
+opened m v b h = go (carriesMarks h)
+  where
+    go : (c : Bool) → T (openAt m v (pick c (headState b h) with-vowel))
+    go true = each-open openAt tt m v b h
+    go false =
+        each-vowel (λ (u : Vowel). openAt m u with-vowel)
+        (each-medial (λ (n : MedialGroup). every (λ (u : Vowel). openAt n u with-vowel) vowels) tt m) v
+
+shows : (s : State) (f : Final) (t : ToneMark) → T (isOpenState s) → Shows (toneState t (finalState f s)) f t
+shows s no-final no-tone i = shows-open s i
+shows s (plain c) no-tone i = shows-plain c (eqb c 0x1004)
+shows s (stacked c) no-tone i = (refl, refl, refl)
+shows s kinzi no-tone i = (refl, refl, refl)
+shows s great-sa no-tone i = (refl, refl, refl)
+shows s no-final dot i = (refl, refl, refl)
+shows s (plain c) dot i = (refl, refl, refl)
+shows s (stacked c) dot i = (refl, refl, refl)
+shows s kinzi dot i = (refl, refl, refl)
+shows s great-sa dot i = (refl, refl, refl)
+shows s no-final visarga i = (refl, refl, refl)
+shows s (plain c) visarga i = (refl, refl, refl)
+shows s (stacked c) visarga i = (refl, refl, refl)
+shows s kinzi visarga i = (refl, refl, refl)
+shows s great-sa visarga i = (refl, refl, refl)
 
 -- the same of the last syllable of a row
 abbrev pub Known : State → Bool → Final → ToneMark → Type 0
 Known s c f t = (isOpenState s ≡ (c && isOpen f t)) × (is waiting s ≡ (c && waits f t)) × (takesToneState s ≡ (c && (isClosed f && isNoTone t)))
 
-known-by : (s : State) (c : Bool) (f : Final) (t : ToneMark) → Told s f t → Known (pick c s done) c f t
+known-by : (s : State) (c : Bool) (f : Final) (t : ToneMark) → Shows s f t → Known (pick c s done) c f t
 unfolding pick
 known-by s true f t k = k
 known-by s false f t k = (refl, refl, refl)
 
 pub known : (h : ℕ) (m : MedialGroup) (v : Vowel) (f : Final) (t : ToneMark) (a : Row)
     → Known (stateOf (syllable h m v f t ∷ a)) (carriesFinal h) f t
-unfolding carriesMarks carriesFinal
-known h m v f t a = known-by _ (isConsonant h) f t (told (vowelState v (medialState m (headState (isOpenTop a) h))) f t (opened m v (isOpenTop a) h))
+known h m v f t a = known-by _ (carriesFinal h) f t (shows (vowelState v (medialState m (begunState (isOpenTop a) h))) f t (opened m v (isOpenTop a) h))
 
 pub open-is : (kept : Row) → isOpenState (stateOf kept) ≡ isOpenTop kept
 open-is [] = refl
@@ -110,7 +121,7 @@ admits-by x kinzi n = refl
 pub admits-is : (x : ℕ) (kept : Row) → KeptOk kept → T (isNotGreatSa (endOf kept)) → admits (endOf kept) x ≡ takesHead x (stateOf kept)
 admits-is x kept k n = admits-by x (endOf kept) n ∙ ap (λ (w : Bool). not w || isFinalLetter x) (sym (waiting-is kept k n))
 
--- a head that carries marks has the state that they show
+-- a head that carries a final has the state that its pieces show
 pub carried : (c : Bool) (s : State) → T c → s ≡ pick c s done
 unfolding pick
 carried true s i = refl
@@ -119,3 +130,34 @@ carried false s i = absurd i
 pub and-false : (c d : Bool) → d ≡ false → (c && d) ≡ false
 and-false true d e = e
 and-false false d e = refl
+
+-- what carries marks carries a final too, and a final letter carries both
+pub marks-final : (h : ℕ) → T (carriesMarks h) → T (carriesFinal h)
+unfolding carriesMarks carriesFinal
+marks-final h c = c
+
+pub letter-marks : (h : ℕ) → T (isFinalLetter h) → T (carriesMarks h)
+unfolding carriesMarks
+letter-marks h l = final-consonant h l
+
+pub marked-state : (b : Bool) (h : ℕ) → T (carriesMarks h) → headState b h ≡ begunState b h
+unfolding pick
+marked-state b h c = rw (is-true (carriesMarks h) c) refl
+
+-- the state of an open syllable whose head carries marks
+pub open-state : (h : ℕ) (m : MedialGroup) (v : Vowel) (a : Row) → T (carriesMarks h)
+    → vowelState v (medialState m (headState (isOpenTop a) h)) ≡ stateOf (syllable h m v no-final no-tone ∷ a)
+open-state h m v a c =
+    ap (λ (s : State). vowelState v (medialState m s)) (marked-state (isOpenTop a) h c) ∙ carried (carriesFinal h) _ (marks-final h c)
+
+no-marks-state : (m : MedialGroup) (v : Vowel) (s : State) → T (isNoMedial m) → T (isNoVowel v) → vowelState v (medialState m s) ≡ s
+no-marks-state (group neither false false) no-vowel s i j = refl
+
+-- and of one whose head carries a final and no marks
+pub unmarked-state : (h : ℕ) (m : MedialGroup) (v : Vowel) (f : Final) (t : ToneMark) (a : Row) → carriesMarks h ≡ false → T (carriesFinal h)
+    → T (isSyllable (syllable h m v f t)) → T (isOpen f t) → stateOf (syllable h m v f t ∷ a) ≡ with-vowel
+unfolding pick
+unmarked-state h m v no-final no-tone a e c i o =
+    let p : T (isNoMedial m && isNoVowel v) = subst (λ (b : Bool). T (b || (isNoMedial m && isNoVowel v))) e (apart h m v no-final no-tone i .marks) in
+    sym (carried (carriesFinal h) _ c)
+    ∙ no-marks-state m v _ (both-left (isNoMedial m) (isNoVowel v) p) (both-right (isNoMedial m) (isNoVowel v) p) ∙ (rw e refl)

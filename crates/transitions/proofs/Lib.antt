@@ -1,6 +1,7 @@
+pub mod Shifted
 pub mod Tested
 pub mod Known
 pub mod Marked
 pub mod Closing
-pub mod Turned
+pub mod Followed
 pub mod Entered

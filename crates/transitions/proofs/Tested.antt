@@ -10,10 +10,10 @@ use Rattle.letters.specs.Weights.{isFinalLetter}
 use Rattle.letters.proofs.Counted.{on-chart}
 use Rattle.letters.proofs.Table.{upTo}
 use Rattle.formula.proofs.Lists.{both-left, both-right, every}
-use Rattle.steps.proofs.Tests.{each-vowel, each-medial}
-use Rattle.transitions.specs.State.{State, done, plain-final, nga-final, waiting, head-stays, head-closes, head-nga, after-ya-ra, after-wa, after-both, after-ha, with-e, with-e-aa, with-i, with-u, with-vowel, headState, stateNumber}
-use Rattle.transitions.specs.Turn.{Turn, refuse, to}
-use Rattle.transitions.specs.Tables.{stateAt}
+use Rattle.formula.proofs.Pieces.{each-vowel, each-medial}
+use Rattle.transitions.specs.State.{State, done, plain-final, nga-final, waiting, head-stays, head-closes, head-nga, after-ya-ra, after-wa, after-ha, with-e, with-e-aa, with-i, with-u, with-vowel, headState, stateNumber}
+use Rattle.transitions.specs.Transition.{Transition, refuse, to}
+use Rattle.transitions.specs.Tables.{stateAt, same}
 
 -- a state is known by its number
 pub numbered : (s : State) → stateAt (stateNumber s) ≡ s
@@ -26,7 +26,6 @@ numbered head-closes = refl
 numbered head-nga = refl
 numbered after-ya-ra = refl
 numbered after-wa = refl
-numbered after-both = refl
 numbered after-ha = refl
 numbered with-e = refl
 numbered with-e-aa = refl
@@ -69,19 +68,15 @@ in-class class f t x c b = go (class x) c (on-chart (λ (y : ℕ). not (class y)
     go true i q = q
     go false i q = absurd i
 
--- two turns that are the same, as a test
-abbrev pub same : Turn → Turn → Bool
-same refuse refuse = true
-same refuse (to e r) = false
-same (to d s) refuse = false
-same (to d s) (to e r) = eqb d e && eqb (stateNumber s) (stateNumber r)
-
-pub same-equal : (t u : Turn) → T (same t u) → t ≡ u
+-- transitions that pass the test are the same
+pub same-equal : (t u : Transition) → T (same t u) → t ≡ u
 same-equal refuse refuse q = refl
-same-equal refuse (to e r) q = absurd q
-same-equal (to d s) refuse q = absurd q
-same-equal (to d s) (to e r) q =
-    let i : d ≡ e = eqb→eq d e (both-left (eqb d e) (eqb (stateNumber s) (stateNumber r)) q) in
-    let j : stateNumber s ≡ stateNumber r = eqb→eq _ _ (both-right (eqb d e) (eqb (stateNumber s) (stateNumber r)) q) in
+same-equal refuse (to e b r) q = absurd q
+same-equal (to d a s) refuse q = absurd q
+same-equal (to d a s) (to e b r) q =
+    let rest = both-right (eqb d e) (eqb a b && eqb (stateNumber s) (stateNumber r)) q in
+    let i : d ≡ e = eqb→eq d e (both-left (eqb d e) (eqb a b && eqb (stateNumber s) (stateNumber r)) q) in
+    let l : a ≡ b = eqb→eq a b (both-left (eqb a b) (eqb (stateNumber s) (stateNumber r)) rest) in
+    let j : stateNumber s ≡ stateNumber r = eqb→eq _ _ (both-right (eqb a b) (eqb (stateNumber s) (stateNumber r)) rest) in
     let k : s ≡ r = sym (numbered s) ∙ ap stateAt j ∙ numbered r in
-    rw (i, k) refl
+    rw (i, l, k) refl

@@ -1,3 +1,3 @@
 pub mod State
-pub mod Turn
+pub mod Transition
 pub mod Tables

@@ -1,4 +1,4 @@
--- The state of a reading: all that the next value asks of the row read so far, one of sixteen. A device of proofs and of inner contracts:
+-- The state of a reading: all that the next value asks of the row read so far, one of fifteen. A device of proofs and of inner contracts:
 -- no public promise cites it. Assumes nothing.
 use mathlib.Core.Bool.{Bool, true, false, _&&_}
 use mathlib.Core.List.{List, [], _∷_}
@@ -18,23 +18,25 @@ pub data State : Type 0 where
   plain-final nga-final waiting : State
   -- a head alone: it stays one; it may become the final of the open syllable before it; it may, and is 1004
   head-stays head-closes head-nga : State
-  -- the last medial is Y or R; W; W after Y or R; H
-  after-ya-ra after-wa after-both after-ha : State
+  -- the last medial is Y or R; W; H
+  after-ya-ra after-wa after-ha : State
   -- the vowel so far is 1031; 1031 AA; 102D; 102F; one that takes no more marks
   with-e with-e-aa with-i with-u with-vowel : State
 
--- the head h after a syllable that is open, or after none such
+-- the head h, which carries marks, after a syllable that is open, or after none such
 abbrev pub headState : Bool → ℕ → State
 headState true h = pick (isFinalLetter h) (pick (eqb h 0x1004) head-nga head-closes) head-stays
 headState false h = head-stays
+
+-- a head that carries no marks but a final is as one whose vowel takes no more marks
+abbrev pub begunState : Bool → ℕ → State
+begunState opened h = pick (carriesMarks h) (headState opened h) with-vowel
 
 abbrev pub medialState : MedialGroup → State → State
 medialState (group neither false false) state = state
 medialState (group ya false false) state = after-ya-ra
 medialState (group ra false false) state = after-ya-ra
-medialState (group neither true false) state = after-wa
-medialState (group ya true false) state = after-both
-medialState (group ra true false) state = after-both
+medialState (group yr true false) state = after-wa
 medialState (group yr w true) state = after-ha
 
 abbrev pub vowelState : Vowel → State → State
@@ -73,7 +75,7 @@ isOpenTop (syllable h m v f t ∷ kept) = carriesFinal h && isOpen f t
 abbrev pub stateOf : Row → State
 stateOf [] = done
 stateOf (syllable h m v f t ∷ kept) =
-    pick (carriesMarks h) (toneState t (finalState f (vowelState v (medialState m (headState (isOpenTop kept) h))))) done
+    pick (carriesFinal h) (toneState t (finalState f (vowelState v (medialState m (begunState (isOpenTop kept) h))))) done
 
 -- the states by number
 abbrev pub stateNumber : State → ℕ
@@ -86,10 +88,9 @@ stateNumber head-closes = 5
 stateNumber head-nga = 6
 stateNumber after-ya-ra = 7
 stateNumber after-wa = 8
-stateNumber after-both = 9
-stateNumber after-ha = 10
-stateNumber with-e = 11
-stateNumber with-e-aa = 12
-stateNumber with-i = 13
-stateNumber with-u = 14
-stateNumber with-vowel = 15
+stateNumber after-ha = 9
+stateNumber with-e = 10
+stateNumber with-e-aa = 11
+stateNumber with-i = 12
+stateNumber with-u = 13
+stateNumber with-vowel = 14

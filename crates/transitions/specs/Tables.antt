@@ -1,18 +1,19 @@
--- The tables of the code: a class for the values that do the same, and for each class what it does to the sixteen states.
+-- The tables of the code: a class for the values that do the same, and for each class what it does to the states, in three numbers.
 -- Inner contracts cite it; no public promise does. Assumes nothing.
+use mathlib.Core.Bool.{Bool, true, false, _&&_, _||_}
 use mathlib.Core.List.{List, [], _∷_, map}
 use Prim.Native.Nat.{ℕ, _+_, _-_, _*_, _/_, _%_, _^_}
-use lib.Dec.{eqb, leb}
+use lib.Dec.{eqb}
 use lib.ListN.{getD}
 use Rattle.letters.specs.Choice.{pick}
 use Rattle.letters.specs.Letters.{kindOf}
 use Rattle.letters.specs.declared.kind.Kind.{Kind}
 use Rattle.letters.specs.declared.kind.Kind.the-variants.{Consonant, IndependentVowel, Medial, VowelMark, Tone, Killer, Stacker, GreatSa, Digit, Stop, Sign, Foreign}
-use Rattle.transitions.specs.State.{State, done, plain-final, nga-final, waiting, head-stays, head-closes, head-nga, after-ya-ra, after-wa, after-both, after-ha, with-e, with-e-aa, with-i, with-u, with-vowel, stateNumber}
-use Rattle.transitions.specs.Turn.{Turn, refuse, to, turn}
+use Rattle.transitions.specs.State.{State, done, plain-final, nga-final, waiting, head-stays, head-closes, head-nga, after-ya-ra, after-wa, after-ha, with-e, with-e-aa, with-i, with-u, with-vowel, stateNumber}
+use Rattle.transitions.specs.Transition.{Transition, refuse, to, transition, byteOf}
 use Rattle.transitions.specs.declared.tables.Rules.{Rules}
 
--- the sixteen states in the order of their numbers
+-- the states in the order of their numbers
 abbrev pub states : List State
 states =
     done
@@ -24,7 +25,6 @@ states =
     ∷ head-nga
     ∷ after-ya-ra
     ∷ after-wa
-    ∷ after-both
     ∷ after-ha
     ∷ with-e
     ∷ with-e-aa
@@ -36,22 +36,25 @@ states =
 abbrev pub stateAt : ℕ → State
 stateAt n = getD states n done
 
--- a turn as two numbers: what becomes of the count, 3 where the value is refused, and the state
-abbrev pub countOf : Turn → ℕ
-countOf refuse = 3
-countOf (to d state) = d
+-- how many states three bits each have room for
+abbrev pub stateLimit : ℕ
+stateLimit = 21
 
-abbrev pub nextOf : Turn → ℕ
-nextOf refuse = 0
-nextOf (to d state) = stateNumber state
+-- a transition as a byte: 32 times what becomes of the count, 3 where the value is refused, and the state
+abbrev pub entry : Transition → ℕ
+entry refuse = 96
+entry (to d a state) = d * 32 + stateNumber state
 
--- and as one
-abbrev pub entry : Turn → ℕ
-entry t = countOf t * 16 + nextOf t
+abbrev pub amountOf : Transition → ℕ
+amountOf refuse = 0
+amountOf (to d a state) = a
 
--- what the value x does at the state of this number
+-- what the value x does at the state of this number, and what it adds to the packed syllable there
 unfoldable pub entryOf : ℕ → ℕ → ℕ
-entryOf state x = entry (turn (kindOf x) x (stateAt state))
+entryOf state x = entry (transition (kindOf x) x (stateAt state))
+
+unfoldable pub gainOf : ℕ → ℕ → ℕ
+gainOf state x = amountOf (transition (kindOf x) x (stateAt state)) * 2 ^ (8 * byteOf (kindOf x))
 
 abbrev pub classIn : Kind → ℕ → ℕ
 classIn Consonant x = pick (eqb x 0x1004) 1 (pick (eqb x 0x1021) 2 0)
@@ -60,12 +63,12 @@ classIn IndependentVowel x = 4
 classIn Digit x = 4
 classIn Stop x = 4
 classIn Sign x = 4
-classIn VowelMark x = pick (leb x 0x102C) 5 (pick (eqb x 0x1036) 12 (x - 0x102D + 6))
-classIn Tone x = x - 0x1037 + 13
-classIn Stacker x = 15
-classIn Killer x = 16
-classIn Medial x = x - 0x103B + 17
-classIn GreatSa x = 21
+classIn VowelMark x = pick (eqb x 0x1036) 13 (x - 0x102B + 5)
+classIn Tone x = x - 0x1037 + 14
+classIn Stacker x = 16
+classIn Killer x = 17
+classIn Medial x = x - 0x103B + 18
+classIn GreatSa x = 22
 
 unfoldable pub classOf : ℕ → ℕ
 classOf x = classIn (kindOf x) x
@@ -78,6 +81,7 @@ examples =
     ∷ 0x1021
     ∷ 0x1022
     ∷ 0x1023
+    ∷ 0x102B
     ∷ 0x102C
     ∷ 0x102D
     ∷ 0x102E
@@ -97,29 +101,60 @@ examples =
     ∷ 0x103F
     ∷ []
 
--- numbers below 16 in one, four bits each, the first lowest
-abbrev pub packed : List ℕ → ℕ
-packed [] = 0
-packed (n ∷ ns) = packed ns * 16 + n
+-- two transitions that are the same, as a test
+abbrev pub same : Transition → Transition → Bool
+same refuse refuse = true
+same refuse (to e b r) = false
+same (to d a s) refuse = false
+same (to d a s) (to e b r) = eqb d e && (eqb a b && eqb (stateNumber s) (stateNumber r))
 
--- the turns of a class at the sixteen states
-abbrev pub turnsAt : ℕ → List Turn
-turnsAt x = map (turn (kindOf x) x) states
+abbrev pub isIn : Transition → List Transition → Bool
+isIn t [] = false
+isIn t (u ∷ us) = same t u || isIn t us
 
-unfoldable pub turnsOf : ℕ → ℕ
-turnsOf class = packed (map nextOf (turnsAt (getD examples class 0)))
+-- the different transitions of these, without the refusal
+abbrev pub outcomes : List Transition → List Transition
+outcomes [] = []
+outcomes (t ∷ ts) = pick (same t refuse || isIn t (outcomes ts)) (outcomes ts) (t ∷ outcomes ts)
 
-unfoldable pub countsOf : ℕ → ℕ
-countsOf class = packed (map countOf (turnsAt (getD examples class 0)))
+-- the place of a transition among the outcomes, from 1; 0 where it is none of them
+abbrev pub chosenFrom : ℕ → List Transition → Transition → ℕ
+chosenFrom n [] t = 0
+chosenFrom n (u ∷ us) t = pick (same t u) n (chosenFrom (n + 1) us t)
+
+-- digits of a number, the first lowest
+abbrev pub numberIn : ℕ → List ℕ → ℕ
+numberIn base [] = 0
+numberIn base (n ∷ ns) = numberIn base ns * base + n
+
+-- what the value x does at each state
+abbrev pub transitionsAt : ℕ → List Transition
+transitionsAt x = map (transition (kindOf x) x) states
+
+-- three bits a state pick an outcome, 0 none; a byte an outcome, with the refusal first; and a byte an outcome of what it adds, with the byte
+-- of the syllable that it adds to first
+abbrev pub rulesAt : ℕ → Rules
+rulesAt x =
+    record {
+      picks = numberIn 8 (map (chosenFrom 1 (outcomes (transitionsAt x))) (transitionsAt x));
+      outcomes = numberIn 256 (entry refuse ∷ map entry (outcomes (transitionsAt x)));
+      amounts = numberIn 256 (byteOf (kindOf x) ∷ map amountOf (outcomes (transitionsAt x)));
+    }
+
+-- the rules of a class are those of its example
+unfoldable pub rulesIn : ℕ → Rules
+rulesIn class = rulesAt (getD examples class 0)
 
 -- what a value does at each state, as the code looks it up
 abbrev pub rulesOf : ℕ → Rules
-rulesOf x = record { states = turnsOf (classOf x); changes = countsOf (classOf x) }
+rulesOf x = rulesIn (classOf x)
 
--- the four bits for a state
-abbrev pub bits : ℕ → ℕ → ℕ
-bits n state = n / 2 ^ (state * 4) % 16
+-- the outcome that a state picks, its byte, and what it adds to the packed syllable
+abbrev pub chosenBy : ℕ → Rules → ℕ
+chosenBy state rules = rules .picks / 2 ^ (3 * state) % 8
 
--- what the rules say at a state
-abbrev pub entryBy : ℕ → Rules → ℕ
-entryBy state rules = bits (rules .changes) state * 16 + bits (rules .states) state
+abbrev pub nextBy : ℕ → Rules → ℕ
+nextBy state rules = rules .outcomes / 2 ^ (8 * chosenBy state rules) % 256
+
+abbrev pub gainBy : ℕ → Rules → ℕ
+gainBy state rules = (rules .amounts / 2 ^ (8 * chosenBy state rules) % 256) * 2 ^ (8 * (rules .amounts % 8))

@@ -1,96 +1,181 @@
-// What a value does to the state of a reading and to the number of syllables, by tables. Each arm has one literal and a constant, which the
-// compiler makes a table in read-only memory; an array constant would be stored at each use.
+// What a value does to the state of a reading, to the number of syllables and to the last of them, by tables. Each arm has one literal and
+// constants, which the compiler makes tables in read-only memory; an array constant would be stored at each use.
 use crate::classes::class_of;
 ghost use mathlib.Core.Path.{_≡_};
 ghost use Prim.Native.Nat.{_<_};
-ghost use Rattle.transitions.specs.Tables.{turnsOf, countsOf, rulesOf, entryBy};
+ghost use Rattle.transitions.specs.Tables.{stateLimit, rulesIn, rulesOf, chosenBy, nextBy, gainBy};
 
-// The state after a value of the class: four bits for each state before it, the first lowest; 0 where the value is refused.
-pub fn turns(class: u8) -> u64
-    ensures { λ r. ⌜ r ≡ turnsOf class ⌝ }
-{
-    match class {
-        0 => 0x5555555555554444,
-        1 => 0x6666666666664444,
-        2 => 0x4444444444440444,
-        3 => 0x0000000000000000,
-        4 => 0x0000000000000000,
-        5 => 0x0000CFFFFFFF0000,
-        6 => 0x00000DDDDDDD0000,
-        7 => 0x00000FFFFFFF0000,
-        8 => 0x00F00EEEEEEE0000,
-        9 => 0x00000FFFFFFF0000,
-        10 => 0x00000BBBBBBB0000,
-        11 => 0x00000FFFFFFF0000,
-        12 => 0x0F000FFFFFFF0000,
-        13 => 0x0000000000000000,
-        14 => 0x0000000000000000,
-        15 => 0x0000000000300300,
-        16 => 0x000F000002100000,
-        17 => 0x0000000007770000,
-        18 => 0x0000000007770000,
-        19 => 0x0000000098880000,
-        20 => 0x000000AAAAAA0000,
-        21 => 0x4444444444440000,
-        _ => 0,
-    }
-}
-
-// What a value of the class does to the number of syllables at each state: 0 one fewer, 1 as many, 2 one more; 3 where it is refused.
-pub fn counts(class: u8) -> u64
-    ensures { λ r. ⌜ r ≡ countsOf class ⌝ }
-{
-    match class {
-        0 => 0x2222222222222222,
-        1 => 0x2222222222222222,
-        2 => 0x2222222222223222,
-        3 => 0x3333333333333333,
-        4 => 0x2222222222223222,
-        5 => 0x3333111111113333,
-        6 => 0x3333311111113333,
-        7 => 0x3333311111113333,
-        8 => 0x3313311111113333,
-        9 => 0x3333311111113333,
-        10 => 0x3333311111113333,
-        11 => 0x3333311111113333,
-        12 => 0x3133311111113333,
-        13 => 0x1111111111113113,
-        14 => 0x1111111111113113,
-        15 => 0x3333333333033133,
-        16 => 0x3331333330033333,
-        17 => 0x3333333331113333,
-        18 => 0x3333333331113333,
-        19 => 0x3333333311113333,
-        20 => 0x3333331111113333,
-        21 => 0x2222222222223333,
-        _ => 0x3333333333333333,
-    }
-}
-
-// What a value does at each state, four bits a state: the state after it, and what becomes of the count.
+// What a value does at each state. Three bits a state, the first lowest, pick one of at most seven outcomes, or 0 for a refusal. An outcome has a
+// byte of `outcomes`, five bits for the state after it and above them what becomes of the count (0 one fewer, 1 as many, 2 one more), and a byte
+// of `amounts`, what it adds to the packed syllable; the lowest bytes are the refusal's and the place of the byte that is added to.
 pub struct Rules {
-    pub states: u64,
-    pub changes: u64,
+    pub picks: u64,
+    pub outcomes: u64,
+    pub amounts: u64,
 }
 
-// The rules of a value. Nothing stands between the three look-ups, so that the compiler makes of them two tables by value.
+impl Rules {
+    // The byte of a refusal.
+    pub const REFUSED: u8 = 96;
+}
+
+// The rules of a class.
+fn rules_in(class: u8) -> Rules
+    ensures { λ r. ⌜ r ≡ rulesIn class ⌝ }
+{
+    match class {
+        0 => Rules {
+            picks: 0o222222222221111,
+            outcomes: 0x454460,
+            amounts: 0x0,
+        },
+        1 => Rules {
+            picks: 0o222222222221111,
+            outcomes: 0x464460,
+            amounts: 0x0,
+        },
+        2 => Rules {
+            picks: 0o111111111110111,
+            outcomes: 0x4460,
+            amounts: 0x0,
+        },
+        3 => Rules {
+            picks: 0o0,
+            outcomes: 0x60,
+            amounts: 0x0,
+        },
+        4 => Rules {
+            picks: 0o111111111110111,
+            outcomes: 0x4060,
+            amounts: 0x0,
+        },
+        5 => Rules {
+            picks: 0o21111110000,
+            outcomes: 0x2B2E60,
+            amounts: 0x121103,
+        },
+        6 => Rules {
+            picks: 0o21111110000,
+            outcomes: 0x2B2E60,
+            amounts: 0x20103,
+        },
+        7 => Rules {
+            picks: 0o1111110000,
+            outcomes: 0x2C60,
+            amounts: 0x203,
+        },
+        8 => Rules {
+            picks: 0o1111110000,
+            outcomes: 0x2E60,
+            amounts: 0x303,
+        },
+        9 => Rules {
+            picks: 0o2001111110000,
+            outcomes: 0x2E2D60,
+            amounts: 0x90403,
+        },
+        10 => Rules {
+            picks: 0o1111110000,
+            outcomes: 0x2E60,
+            amounts: 0x503,
+        },
+        11 => Rules {
+            picks: 0o1111110000,
+            outcomes: 0x2A60,
+            amounts: 0x603,
+        },
+        12 => Rules {
+            picks: 0o1111110000,
+            outcomes: 0x2E60,
+            amounts: 0x703,
+        },
+        13 => Rules {
+            picks: 0o20001111110000,
+            outcomes: 0x2E2E60,
+            amounts: 0x80A03,
+        },
+        14 => Rules {
+            picks: 0o111111111110110,
+            outcomes: 0x2060,
+            amounts: 0x104,
+        },
+        15 => Rules {
+            picks: 0o111111111110110,
+            outcomes: 0x2060,
+            amounts: 0x204,
+        },
+        16 => Rules {
+            picks: 0o200100,
+            outcomes: 0x32360,
+            amounts: 0x4002,
+        },
+        17 => Rules {
+            picks: 0o300002100000,
+            outcomes: 0x2E020160,
+            amounts: 0x1000003,
+        },
+        18 => Rules {
+            picks: 0o1110000,
+            outcomes: 0x2760,
+            amounts: 0x101,
+        },
+        19 => Rules {
+            picks: 0o1110000,
+            outcomes: 0x2760,
+            amounts: 0x201,
+        },
+        20 => Rules {
+            picks: 0o11110000,
+            outcomes: 0x2860,
+            amounts: 0x401,
+        },
+        21 => Rules {
+            picks: 0o111110000,
+            outcomes: 0x2960,
+            amounts: 0x801,
+        },
+        22 => Rules {
+            picks: 0o111111111110000,
+            outcomes: 0x4460,
+            amounts: 0x0,
+        },
+        _ => Rules {
+            picks: 0,
+            outcomes: 96,
+            amounts: 0,
+        },
+    }
+}
+
+// The rules of a value.
 pub fn rules_of(x: u16) -> Rules
     ensures { λ r. ⌜ r ≡ rulesOf x ⌝ }
 {
-    let class = class_of(x);
-    let states = turns(class);
-    let changes = counts(class);
-    Rules { states, changes }
+    rules_in(class_of(x))
 }
 
-// What becomes of the count, times 16, and the state after a value with these rules; 48 where it is refused. The rules are looked up
-// apart from the state, so that no look-up waits for the one before it.
-pub fn next(state: usize, rules: Rules) -> u8
-    requires { ⌜ state < 16 ⌝ }
-    ensures { λ r. ⌜ r ≡ entryBy state rules ⌝ }
+// The outcome that a state picks. The rules are looked up apart from the state, so that no look-up waits for the one before it.
+fn chosen(state: usize, rules: Rules) -> u64
+    requires { ⌜ state < stateLimit ⌝ }
+    ensures { λ r. ⌜ (r ≡ chosenBy state rules) × (r < 8) ⌝ }
 {
-    let shift = state * 4;
-    let to = (rules.states >> shift) % 16;
-    let count = (rules.changes >> shift) % 16;
-    (count * 16 + to) as u8
+    (rules.picks >> (3 * state)) % 8
+}
+
+// The byte of the outcome at a state: the state after it and what becomes of the count; 96 for a refusal.
+pub fn next(state: usize, rules: Rules) -> u8
+    requires { ⌜ state < stateLimit ⌝ }
+    ensures { λ r. ⌜ r ≡ nextBy state rules ⌝ }
+{
+    let outcome = chosen(state, rules);
+    ((rules.outcomes >> (8 * outcome)) % 256) as u8
+}
+
+// What the outcome at a state adds to the packed syllable.
+pub fn gain(state: usize, rules: Rules) -> u64
+    requires { ⌜ state < stateLimit ⌝ }
+    ensures { λ r. ⌜ r ≡ gainBy state rules ⌝ }
+{
+    let outcome = chosen(state, rules);
+    ((rules.amounts >> (8 * outcome)) % 256) << (8 * (rules.amounts % 8))
 }

@@ -8,19 +8,19 @@ use Rattle.spelling.proofs.measure.Statement.{statement}
 use Rattle.spelling.proofs.measure.Tie as tie
 
 abbrev Inv-loop : tie.InvT-loop
-Inv-loop count syllables size₀ number₀ size number = Measured syllables count size number
+Inv-loop syllables count size₀ number₀ size number = Measured syllables count size number
 
 abbrev μ-loop : tie.MeasureT-loop
-μ-loop count syllables size₀ number₀ size number = count - number
+μ-loop syllables count size₀ number₀ size number = count - number
 
 loop-holds : tie.Need-loop-holds Inv-loop μ-loop
-loop-holds c = measured-none (c .args .t1) (c .args .count)
+loop-holds c = measured-none (c .args .syllables .now) (c .args .count)
 
 mul-plain-record : tie.Need-mul-plain-record Inv-loop μ-loop
 mul-plain-record c = omega arith
 
-array-copy-out-plain-record : tie.Need-array-copy-out-plain-record Inv-loop μ-loop
-array-copy-out-plain-record c = omega arith
+element-copy-out-plain-record : tie.Need-element-copy-out-plain-record Inv-loop μ-loop
+element-copy-out-plain-record c = omega arith
 
 plain-record-requires : tie.Need-plain-record-requires Inv-loop μ-loop
 plain-record-requires c κs = search needs
@@ -51,7 +51,7 @@ measure-spec =
     μ-loop
     loop-holds
     mul-plain-record
-    array-copy-out-plain-record
+    element-copy-out-plain-record
     plain-record-requires
     part-size-requires
     add-size

@@ -8,19 +8,19 @@ use Rattle.spelling.proofs.put.Statement.{statement}
 use Rattle.spelling.proofs.put.Tie as tie
 
 abbrev Inv-loop : tie.InvT-loop
-Inv-loop count values₀ starts₀ syllables at₀ number₀ values starts at number = Filled syllables count values₀ starts₀ values starts at number
+Inv-loop syllables count values₀ starts₀ at₀ number₀ values starts at number = Filled syllables count values₀ starts₀ values starts at number
 
 abbrev μ-loop : tie.MeasureT-loop
-μ-loop count values₀ starts₀ syllables at₀ number₀ values starts at number = count - number
+μ-loop syllables count values₀ starts₀ at₀ number₀ values starts at number = count - number
 
 loop-holds : tie.Need-loop-holds Inv-loop μ-loop
-loop-holds c = filled-none (c .before .before .args .t1) _ _ _
+loop-holds c = filled-none (c .before .before .args .syllables .now) _ _ _
 
 mul-put-syllable : tie.Need-mul-put-syllable Inv-loop μ-loop
 mul-put-syllable c = omega arith
 
-array-copy-out-put-syllable : tie.Need-array-copy-out-put-syllable Inv-loop μ-loop
-array-copy-out-put-syllable c = omega arith
+element-copy-out-put-syllable : tie.Need-element-copy-out-put-syllable Inv-loop μ-loop
+element-copy-out-put-syllable c = omega arith
 
 put-syllable-requires : tie.Need-put-syllable-requires Inv-loop μ-loop
 put-syllable-requires c κs = search (needs, filled-room) depth 14
@@ -35,10 +35,10 @@ loop-again : tie.Need-loop-again Inv-loop μ-loop
 loop-again c = search (needs, filled-more) depth 14
 
 same-length : tie.Need-same-length Inv-loop μ-loop
-same-length c = values-length (c .before .before .before .before .args .t1) _ _ _ _ _ _ _ (c .before .loop .inv) (c .before .before .before .before .pre)
+same-length c = values-length (c .before .before .before .before .args .syllables .now) _ _ _ _ _ _ _ (c .before .loop .inv) (c .before .before .before .before .pre)
 
 same-length-2 : tie.Need-same-length-2 Inv-loop μ-loop
-same-length-2 c = starts-same (c .before .before .before .before .args .t1) _ _ _ _ _ _ _ (c .before .loop .inv) (c .before .before .before .before .pre)
+same-length-2 c = starts-same (c .before .before .before .before .args .syllables .now) _ _ _ _ _ _ _ (c .before .loop .inv) (c .before .before .before .before .pre)
 
 returns : tie.Need-returns Inv-loop μ-loop
 returns c = search (needs, filled-all) depth 14
@@ -51,7 +51,7 @@ put-spec =
     μ-loop
     loop-holds
     mul-put-syllable
-    array-copy-out-put-syllable
+    element-copy-out-put-syllable
     put-syllable-requires
     add-number
     loop-less

@@ -1,7 +1,7 @@
 -- `collation::weigh::weigh` meets its contract: a row of syllables is weighed as it is, and any other word by its stored form.
 -- Assumes nothing.
 use borrow.Author.Needs.{needs}
-use Rattle.collation.proofs.Weighing.{row-weighed}
+use Rattle.collation.proofs.Weighing.{row-weighed, refused-zeros}
 use Rattle.collation.proofs.weigh.weigh.Statement.{statement}
 use Rattle.collation.proofs.weigh.weigh.Tie as tie
 
@@ -20,7 +20,10 @@ enum-told-2 : tie.Need-enum-told-2
 enum-told-2 c = search needs
 
 weigh-stored-requires : tie.Need-weigh-stored-requires
-weigh-stored-requires c κs = c .before .before .before .fill .ensures .size
+weigh-stored-requires c κs =
+    let t = c .before in
+    let a = t .before .before in
+    refused-zeros (a .before .before .before .args .word .now) (a .fill .result) _ (a .fill .ensures) (t .enum-told2 .given .0 .0) (t .enum-told2 .given .1)
 
 returns-2 : tie.Need-returns-2
 returns-2 c = search needs

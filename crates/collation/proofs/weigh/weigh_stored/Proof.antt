@@ -1,5 +1,7 @@
 -- `collation::weigh::weigh_stored` meets its contract: the stored form is read and weighed as any word.
 -- Assumes nothing.
+use mathlib.Core.Path.{ap}
+use lib.ListN.{length}
 use borrow.Author.Needs.{needs}
 use Rattle.formula.proofs.Held.{held-front, held-fits, held-length}
 use Rattle.storage.specs.Stored.{storedForm}
@@ -9,7 +11,9 @@ use Rattle.collation.proofs.weigh.weigh_stored.Statement.{statement}
 use Rattle.collation.proofs.weigh.weigh_stored.Tie as tie
 
 returns : tie.Need-returns
-returns c = record { answers = too-long (c .if1 .taken); weighed = tt; room = c .before .before .pre }
+returns c =
+    let s = c .before .before in
+    record { answers = too-long (c .if1 .taken); weighed = s .pre; room = ap length (s .pre) }
 
 stored-requires : tie.Need-stored-requires
 stored-requires c κs = search needs
@@ -17,12 +21,12 @@ stored-requires c κs = search needs
 array-share-prefix-values : tie.Need-array-share-prefix-values
 array-share-prefix-values c =
     let f = c .before in
-    held-fits (f .stored .result) (storedForm (f .before .before .before .before .args .word .now)) (f .stored .ensures)
+    held-fits (f .stored .result) (storedForm (f .before .before .before .args .word .now)) (f .stored .ensures)
 
 slice-aggregate-fill : tie.Need-slice-aggregate-fill
 slice-aggregate-fill c =
     let f = c .before .before in
-    held-length (f .stored .result) (storedForm (f .before .before .before .before .args .word .now)) (f .stored .ensures)
+    held-length (f .stored .result) (storedForm (f .before .before .before .args .word .now)) (f .stored .ensures)
 
 fill-requires : tie.Need-fill-requires
 fill-requires c κs = search needs
@@ -38,8 +42,8 @@ returns-2 c =
     let a = c .before .before in
     let b = a .before .before in
     let f = b .before .before .before .before in
-    let word = f .before .before .before .before .args .word .now in
-    form-refused word _ (f .before .before .if1 .left) (held-front (f .stored .result) (storedForm word) (f .stored .ensures)) (b .fill .result) _ (b .fill .ensures)
+    let word = f .before .before .before .args .word .now in
+    form-refused word _ (f .before .if1 .left) (held-front (f .stored .result) (storedForm word) (f .stored .ensures)) (b .fill .result) _ (b .fill .ensures)
     (a .answer .given .0 .0) (c .as-handed-in .result) (a .answer .given .1) (c .as-handed-in .ensures)
 
 enum-told : tie.Need-enum-told
@@ -49,8 +53,8 @@ returns-3 : tie.Need-returns-3
 returns-3 c =
     let b = c .before .before in
     let f = b .before .before .before .before in
-    let word = f .before .before .before .before .args .word .now in
-    form-weighed word _ (f .before .before .if1 .left) (held-front (f .stored .result) (storedForm word) (f .stored .ensures)) (b .fill .result) _ (b .fill .ensures)
+    let word = f .before .before .before .args .word .now in
+    form-weighed word _ (f .before .if1 .left) (held-front (f .stored .result) (storedForm word) (f .stored .ensures)) (b .fill .result) _ (b .fill .ensures)
     (c .enum-told .given .0 .0) (c .enum-told .given .1)
 
 pub weigh-stored-spec : {M : Type 1} → statement M

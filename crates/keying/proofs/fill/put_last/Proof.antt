@@ -1,7 +1,7 @@
 -- `keying::fill::put_last` meets its contract: one test.
 -- Assumes nothing.
 use borrow.Author.Needs.{needs}
-use Rattle.steps.proofs.Branches.{branches}
+use Rattle.letters.proofs.Branches.{branches}
 use Rattle.keying.specs.Filling.{putLast}
 use Rattle.keying.proofs.fill.put_last.Statement.{statement}
 use Rattle.keying.proofs.fill.put_last.Tie as tie

@@ -15,7 +15,7 @@ use Rattle.reading.proofs.parts.part_place.Tie as tie
 reads : (c : tie.After-known-told2) → Reads (c .before .before .before .before .before .before .before .args .word .now) (c .before .answer2 .given .0 .0)
 reads c =
     let a = c .before .before .before in
-    subst (λ (w : Counted). Answers (a .before .before .before .before .args .word .now) (outcomeOf w)) (c .before .answer2 .given .1) (a .conclude .ensures)
+    subst (λ (w : Counted). Answers (a .before .before .before .before .args .word .now) (outcomeOf w)) (c .before .answer2 .given .1) (a .answer-at .ensures)
 
 returns : tie.Need-returns
 returns c = too-long (c .if1 .taken)
@@ -23,8 +23,8 @@ returns c = too-long (c .if1 .taken)
 scan-word-requires : tie.Need-scan-word-requires
 scan-word-requires c κs = search needs
 
-conclude-requires : tie.Need-conclude-requires
-conclude-requires c κs = search needs
+answer-at-requires : tie.Need-answer-at-requires
+answer-at-requires c κs = search needs
 
 enum-known-answer : tie.Need-enum-known-answer
 enum-known-answer c = search needs
@@ -32,7 +32,7 @@ enum-known-answer c = search needs
 returns-2 : tie.Need-returns-2
 returns-2 c =
     let a = c .before .before .before in
-    subst (λ (w : Counted). Answers (a .before .before .before .before .args .word .now) (outcomeOf w)) (c .before .answer .given .1) (a .conclude .ensures)
+    subst (λ (w : Counted). Answers (a .before .before .before .before .args .word .now) (outcomeOf w)) (c .before .answer .given .1) (a .answer-at .ensures)
 
 enum-known-answer-2 : tie.Need-enum-known-answer-2
 enum-known-answer-2 c = search needs
@@ -63,7 +63,7 @@ sub-t11 c =
     let e = w .before .before in
     let a = e .before .before .before .before in
     let s = a .before .scan-word in
-    from-to (a .before .before .before .before .args .word .now) (s .result .at) (s .result .window) (s .ensures .stopped) (s .result .starts) (s .ensures .starts-of)
+    from-to (a .before .before .before .before .args .word .now) (s .result .at) (s .result .state) (s .result .count) (s .ensures .stopped) (s .result .starts) (s .ensures .starts-of)
     (e .before .before .answer2 .given .0 .0) (reads (e .before)) (a .before .before .before .before .args .number) (e .if2 .left)
     (w .wide .result) (c .end-of .result) (w .wide .ensures) (c .end-of .ensures)
 
@@ -73,7 +73,7 @@ returns-4 c =
     let e = w .before .before in
     let a = e .before .before .before .before in
     let s = a .before .scan-word in
-    part-placed (a .before .before .before .before .args .word .now) (s .result .at) (s .result .window) (s .ensures .stopped) (s .result .starts) (s .ensures .starts-of)
+    part-placed (a .before .before .before .before .args .word .now) (s .result .at) (s .result .state) (s .result .count) (s .ensures .stopped) (s .result .starts) (s .ensures .starts-of)
     (e .before .before .answer2 .given .0 .0) (reads (e .before)) (a .before .before .before .before .args .number) (e .if2 .left)
     (w .wide .result) (c .end-of .result) (w .wide .ensures) (c .end-of .ensures)
 
@@ -83,7 +83,7 @@ part-place-spec =
     (tie.spec
     returns
     scan-word-requires
-    conclude-requires
+    answer-at-requires
     enum-known-answer
     returns-2
     enum-known-answer-2

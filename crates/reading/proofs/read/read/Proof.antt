@@ -21,8 +21,8 @@ returns c =
 scan-word-requires : tie.Need-scan-word-requires
 scan-word-requires c κs = search needs
 
-conclude-requires : tie.Need-conclude-requires
-conclude-requires c κs = c .scan-word .ensures .stopped
+answer-at-requires : tie.Need-answer-at-requires
+answer-at-requires c κs = c .scan-word .ensures .stopped
 
 enum-known-answer : tie.Need-enum-known-answer
 enum-known-answer c = search needs
@@ -35,7 +35,7 @@ returns-2 c =
     let word = c .before .before .before .before .before .before .before .before .args .word .now in
     subst (ReadRight word) (sym (c .refused2 .ensures))
     (record {
-      answers = subst (λ (a : Counted). Answers word (outcomeOf a)) (c .before .before .answer .given .1) (c .before .before .before .before .conclude .ensures);
+      answers = subst (λ (a : Counted). Answers word (outcomeOf a)) (c .before .before .answer .given .1) (c .before .before .before .before .answer-at .ensures);
       syllables = refl;
     })
 
@@ -49,11 +49,11 @@ returns-3 c =
     let scan = a .before .scan-word .result in
     let e = c .before .enum-told .given .1 in
     record {
-      answers = a .conclude .ensures;
+      answers = a .answer-at .ensures;
       syllables =
           subst (λ (r : Counted). SyllablesFor word (outcomeOf r) (scan .syllables)) (sym e)
-          (syllables-right word (scan .at) (scan .window) (a .before .scan-word .ensures .stopped) (c .before .enum-told .given .0 .0)
-          (subst (λ (r : Counted). Answers word (outcomeOf r)) e (a .conclude .ensures)) (scan .syllables) (a .before .scan-word .ensures .whole));
+          (syllables-right word (scan .at) (scan .state) (scan .count) (a .before .scan-word .ensures .stopped) (c .before .enum-told .given .0 .0)
+          (subst (λ (r : Counted). Answers word (outcomeOf r)) e (a .answer-at .ensures)) (scan .syllables) (a .before .scan-word .ensures .whole));
     }
 
 pub read-spec : {M : Type 1} → statement M
@@ -63,7 +63,7 @@ read-spec =
     refused-requires
     returns
     scan-word-requires
-    conclude-requires
+    answer-at-requires
     enum-known-answer
     refused-requires-2
     returns-2

@@ -5,7 +5,7 @@ use native.Mathlib.Omega.{arith}
 use borrow.Author.Needs.{needs}
 use Rattle.refusals.specs.Outcome.{outcomeOf}
 use Rattle.refusals.specs.declared.Counted.{Counted}
-use Rattle.recogniser.specs.Answer.{Answers}
+use Rattle.recogniser.specs.Answer.{Reads, Answers}
 use Rattle.recogniser.proofs.Counted.{count-limit}
 use Rattle.reading.specs.Records.{RecordRight}
 use Rattle.reading.proofs.Recorded.{reads, has-record}
@@ -27,33 +27,25 @@ enum-known-answer-2 c = search needs
 without-record-requires-2 : tie.Need-without-record-requires-2
 without-record-requires-2 c κs = search needs
 
+-- the word is a row
+row-read : (c : tie.After-known-told2) → Reads (c .before .before .before .before .before .args .word .now) (c .before .answer2 .given .0 .0)
+row-read c =
+    let a = c .before .before .before in
+    reads (a .before .before .args .word .now) (a .read .result) (a .read .ensures) (c .before .answer2 .given .0 .0) (c .before .answer2 .given .1)
+
 returns : tie.Need-returns
 returns c =
-    let a = c .before .before .before .before .before in
-    let s = a .before .before .args in
-    let r = reads (s .word .now) (a .read .result) (a .read .ensures) (c .before .before .before .answer2 .given .0 .0) (c .before .before .before .answer2 .given .1) in
+    let k = c .before .before in
+    let s = k .before .before .before .before .before .args in
+    let r = row-read k in
     subst (RecordRight (s .word .now) (s .number)) (sym (c .without-record2 .ensures))
     (record { admissible = r .admissible; row = r .row; gives = r .gives; beyond = let h = c .before .if1 .taken in omega (arith, r .count); is = refl })
 
 mul-bytes-of : tie.Need-mul-bytes-of
-mul-bytes-of c =
-    let a = c .before .before .before .before .before in
-    let h = c .before .if1 .left in
-    omega (
-      arith,
-      count-limit (a .before .before .args .word .now) (c .before .before .before .answer2 .given .0 .0)
-          (reads (a .before .before .args .word .now) (a .read .result) (a .read .ensures) (c .before .before .before .answer2 .given .0 .0) (c .before .before .before .answer2 .given .1)),
-    )
+mul-bytes-of c = let h = c .before .if1 .left in omega (arith, count-limit _ _ (row-read (c .before .before)))
 
-array-copy-out-bytes-of : tie.Need-array-copy-out-bytes-of
-array-copy-out-bytes-of c =
-    let a = c .before .before .before .before .before in
-    let h = c .before .if1 .left in
-    omega (
-      arith,
-      count-limit (a .before .before .args .word .now) (c .before .before .before .answer2 .given .0 .0)
-          (reads (a .before .before .args .word .now) (a .read .result) (a .read .ensures) (c .before .before .before .answer2 .given .0 .0) (c .before .before .before .answer2 .given .1)),
-    )
+array-read-bytes-of : tie.Need-array-read-bytes-of
+array-read-bytes-of c = let h = c .before .if1 .left in omega (arith, count-limit _ _ (row-read (c .before .before)))
 
 bytes-of-requires : tie.Need-bytes-of-requires
 bytes-of-requires c κs = search needs
@@ -67,7 +59,7 @@ returns-2 c =
 
 returns-3 : tie.Need-returns-3
 returns-3 c =
-    let e = c .before .before .before in
+    let e = c .before .before in
     let a = e .before .before .before .before in
     let s = a .before .before .args in (
       refl,
@@ -86,7 +78,7 @@ record-at-spec =
     without-record-requires-2
     returns
     mul-bytes-of
-    array-copy-out-bytes-of
+    array-read-bytes-of
     bytes-of-requires
     returns-2
     returns-3)

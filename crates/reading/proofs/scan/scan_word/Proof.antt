@@ -1,111 +1,127 @@
--- `reading::scan::scan_word` meets its contract: before each turn the window and the arrays show what the machine has kept of the values
--- read. The measure is what is left of the word. Assumes nothing.
+-- `reading::scan::scan_word` meets its contract: before each turn the state, the window and the arrays show what the machine has kept of the
+-- values read. The measure is what is left of the word. Assumes nothing.
+use mathlib.Core.Path.{_≡_, ap, _∙_}
 use mathlib.Core.Logic.{⊎-elim}
-use Prim.Native.Nat.{_-_, _≤_, _<_}
+use Prim.Native.Nat.{_-_, _≤_}
 use native.Mathlib.Omega.{arith}
 use borrow.Author.Needs.{needs}
-use lib.ListN.{length}
-use denote.Ref.{now}
-use Rattle.formula.specs.Limits.{limit}
-use Rattle.recogniser.proofs.Kept.{count-bound}
+use lib.ListN.{length, getD}
+use Rattle.transitions.specs.Tables.{entryOf, gainOf, nextBy, gainBy}
+use Rattle.transitions.proofs.Entered.{next-entry, next-gain}
+use Rattle.recogniser.proofs.Walking.{state-bound, walk-refused}
 use Rattle.reading.specs.Scanned.{Reached}
-use Rattle.reading.proofs.Reach.{at-start, stop, completed, next-count, begun-count, begun, kept-on, window-count}
+use Rattle.reading.proofs.Reach.{completed, at-start, count-fits, Turned, turn-fits, turned}
 use Rattle.reading.proofs.scan.scan_word.Statement.{statement}
 use Rattle.reading.proofs.scan.scan_word.Tie as tie
 
 abbrev Inv-loop : tie.InvT-loop
-Inv-loop word window₀ syllables₀ starts₀ at₀ window syllables starts at = (at ≤ length word) × Reached word at window syllables starts
+Inv-loop word window₀ state₀ syllables₀ starts₀ at₀ window state syllables starts at = (at ≤ length word) × Reached word at state window syllables starts
 
 abbrev μ-loop : tie.MeasureT-loop
-μ-loop word window₀ syllables₀ starts₀ at₀ window syllables starts at = length word - at
+μ-loop word window₀ state₀ syllables₀ starts₀ at₀ window state syllables starts at = length word - at
 
 unread-requires : tie.Need-unread-requires Inv-loop μ-loop
 unread-requires c κs = search needs
 
-nothing-requires : tie.Need-nothing-requires Inv-loop μ-loop
-nothing-requires c κs = search needs
-
 loop-holds : tie.Need-loop-holds Inv-loop μ-loop
-loop-holds c = rw (c .before .unread .ensures, c .nothing .ensures) (omega arith, at-start (c .before .before .before .args .word .now))
+loop-holds c = rw (c .unread .ensures) (omega arith, at-start (c .before .before .args .word .now))
 
-mul-step : tie.Need-mul-step Inv-loop μ-loop
-mul-step c = omega arith
+mul-x : tie.Need-mul-x Inv-loop μ-loop
+mul-x c = omega arith
 
-shared-slice-read-step : tie.Need-shared-slice-read-step Inv-loop μ-loop
-shared-slice-read-step c = omega arith
+shared-slice-read-x : tie.Need-shared-slice-read-x Inv-loop μ-loop
+shared-slice-read-x c = omega arith
 
-step-requires : tie.Need-step-requires Inv-loop μ-loop
-step-requires c κs = search needs
+rules-of-requires : tie.Need-rules-of-requires Inv-loop μ-loop
+rules-of-requires c κs = search needs
 
-refuses-requires : tie.Need-refuses-requires Inv-loop μ-loop
-refuses-requires c κs = search needs
+-- the state is one of the table's
+state-small : (c : tie.At-loop Inv-loop μ-loop) → c .loop .state ≤ 14
+state-small c =
+    let b = state-bound (c .before .before .before .args .word .now) (c .loop .at) (c .loop .state) (c .loop .window .count) (c .loop .inv .1 .walked) in
+    omega arith
+
+next-requires : tie.Need-next-requires Inv-loop μ-loop
+next-requires c κs = let b = state-small (c .before .before .before) in omega arith
+
+-- the entry is what the value does at the state
+entered : (c : tie.After-next Inv-loop μ-loop) → let l = c .before .before .before .before in
+    c .next .result ≡ entryOf (l .loop .state) (getD (l .before .before .before .args .word .now) (l .loop .at) 0)
+entered c =
+    let l = c .before .before .before .before in
+    let b = state-small l in
+    c .next .ensures ∙ ap (nextBy (l .loop .state)) (c .before .rules-of .ensures) ∙ next-entry (l .loop .state) _ (omega arith)
 
 returns : tie.Need-returns Inv-loop μ-loop
 returns c =
     let l = c .before .before .before .before .before in
-    let word = l .before .before .before .before .args .word .now in
-    let inside : l .loop .at < length word = c .before .before .before .before .loop-test .taken in
+    let word = l .before .before .before .args .word .now in
     let r = l .loop .inv .1 in
+    let inside = c .before .before .before .before .loop-test .taken in
     record {
       stopped =
           record {
-            short = l .before .before .before .before .pre;
+            short = l .before .before .before .pre;
             within = l .loop .inv .0;
-            kept = r .kept;
-            came = r .came;
-            window-of = r .window-of;
-            refused = λ i. stop word (l .loop .at) (l .loop .window) (l .loop .syllables) (l .loop .starts) i (l .before .before .before .before .pre) r (c .before .before .step .result) (c .before .before .step .ensures) (c .before .refuses .result) (c .before .refuses .ensures) (c .if1 .taken);
+            walked = r .walked;
+            refused = λ _. walk-refused word (l .loop .at) (l .loop .state) (l .loop .window .count) (r .walked) (c .before .next .result) (entered (c .before)) (c .if1 .taken);
           };
-      starts-of = r .starts-of;
+      starts-of = r .arrays-of .starts-of;
       whole = λ e. let z : ⊥ = omega arith in absurd z;
     }
 
-moved-requires : tie.Need-moved-requires Inv-loop μ-loop
-moved-requires c κs =
-    let l = c .before .before .before .before .before in
-    window-count (l .before .before .before .before .args .word .now) (l .loop .at) (l .loop .window) (l .loop .syllables) (l .loop .starts) (omega arith) (l .loop .inv .1)
+gain-requires : tie.Need-gain-requires Inv-loop μ-loop
+gain-requires c κs = let b = state-small (c .before .before .before .before .before) in omega arith
 
-begins-requires : tie.Need-begins-requires Inv-loop μ-loop
-begins-requires c κs = search needs
+-- what is added is what the value adds at the state
+gained : (c : tie.After-gain Inv-loop μ-loop) → let l = c .before .before .before .before .before .before in
+    c .gain .result ≡ gainOf (l .loop .state) (getD (l .before .before .before .args .word .now) (l .loop .at) 0)
+gained c =
+    let n = c .before .before in
+    let l = n .before .before .before .before in
+    let b = state-small l in
+    c .gain .ensures ∙ ap (gainBy (l .loop .state)) (n .before .rules-of .ensures)
+    ∙ next-gain (l .loop .state) _ (omega arith) (λ e. c .before .if1 .left (entered n ∙ e))
+
+window-after-requires : tie.Need-window-after-requires Inv-loop μ-loop
+window-after-requires c κs =
+    let n = c .before .before in
+    let l = n .before .before .before .before in
+    let s = l .before .before .before in
+    turn-fits (s .args .word .now) (l .loop .at) (l .loop .state) (l .loop .window) (l .loop .syllables) (l .loop .starts) (l .loop .inv .1)
+    (n .next .result) (entered n) (n .before .before .before .loop-test .taken) (c .before .if1 .left) (s .pre) (c .gain .result) (gained c)
+
+turns : (c : tie.After-window-after Inv-loop μ-loop) → let n = c .before .before .before in let l = n .before .before .before .before in
+    Turned (l .before .before .before .args .word .now) (l .loop .at) (n .next .result) (l .loop .syllables) (l .loop .starts) (c .window-after .result)
+turns c =
+    let g = c .before in
+    let n = g .before .before in
+    let l = n .before .before .before .before in
+    let s = l .before .before .before in
+    turned (s .args .word .now) (l .loop .at) (l .loop .state) (l .loop .window) (l .loop .syllables) (l .loop .starts) (l .loop .inv .1)
+    (n .next .result) (entered n) (n .before .before .before .loop-test .taken) (g .before .if1 .left) (s .pre) (g .gain .result) (gained g)
+    (c .window-after .result) (c .window-after .ensures)
 
 less-requires : tie.Need-less-requires Inv-loop μ-loop
 less-requires c κs = search needs
 
 mul-syllables : tie.Need-mul-syllables Inv-loop μ-loop
-mul-syllables c =
-    let k = c .before .before .before in
-    let l = k .before .before .before .before .before .before .before in
-    let word = l .before .before .before .before .args .word .now in
-    let q = next-count word (l .loop .at) (l .loop .window) (l .loop .syllables) (l .loop .starts) (k .before .before .before .before .before .before .loop-test .taken) (l .before .before .before .before .pre) (l .loop .inv .1) (k .before .before .before .before .step .result) (k .before .before .before .before .step .ensures) (k .before .before .before .refuses .result) (k .before .before .before .refuses .ensures) (k .before .before .if1 .left) (k .before .moved .result) (k .before .moved .ensures) (k .begins .result) (k .begins .ensures) in
-    omega (arith, c .before .less .ensures)
+mul-syllables c = omega (arith, c .less .ensures, turns (c .before .before) .few)
 
-array-set-from-syllables : tie.Need-array-set-from-syllables Inv-loop μ-loop
-array-set-from-syllables c =
-    let k = c .before .before .before in
-    let l = k .before .before .before .before .before .before .before in
-    let word = l .before .before .before .before .args .word .now in
-    let q = next-count word (l .loop .at) (l .loop .window) (l .loop .syllables) (l .loop .starts) (k .before .before .before .before .before .before .loop-test .taken) (l .before .before .before .before .pre) (l .loop .inv .1) (k .before .before .before .before .step .result) (k .before .before .before .before .step .ensures) (k .before .before .before .refuses .result) (k .before .before .before .refuses .ensures) (k .before .before .if1 .left) (k .before .moved .result) (k .before .moved .ensures) (k .begins .result) (k .begins .ensures) in
-    omega (arith, c .before .less .ensures)
+array-write-syllables : tie.Need-array-write-syllables Inv-loop μ-loop
+array-write-syllables c = omega (arith, c .less .ensures, turns (c .before .before) .few)
 
 cast-starts : tie.Need-cast-starts Inv-loop μ-loop
 cast-starts c = omega arith
 
 sub-starts : tie.Need-sub-starts Inv-loop μ-loop
-sub-starts c =
-    let k = c .before .before .before in
-    let l = k .before .before .before .before .before .before .before in
-    let word = l .before .before .before .before .args .word .now in
-    let q = begun-count word (l .loop .at) (l .loop .window) (l .loop .syllables) (l .loop .starts) (k .before .before .before .before .before .before .loop-test .taken) (l .before .before .before .before .pre) (l .loop .inv .1) (k .before .before .before .before .step .result) (k .before .before .before .before .step .ensures) (k .before .before .before .refuses .result) (k .before .before .before .refuses .ensures) (k .before .before .if1 .left) (k .before .moved .result) (k .before .moved .ensures) (k .begins .result) (k .begins .ensures) (c .before .before .if2 .taken) in
-    omega (arith, c .before .less .ensures)
+sub-starts c = turns (c .before .before) .starts-one (c .before .if2 .taken)
 
 array-write-starts : tie.Need-array-write-starts Inv-loop μ-loop
-array-write-starts c =
-    let k = c .before .before .before in
-    let l = k .before .before .before .before .before .before .before in
-    let word = l .before .before .before .before .args .word .now in
-    let q = next-count word (l .loop .at) (l .loop .window) (l .loop .syllables) (l .loop .starts) (k .before .before .before .before .before .before .loop-test .taken) (l .before .before .before .before .pre) (l .loop .inv .1) (k .before .before .before .before .step .result) (k .before .before .before .before .step .ensures) (k .before .before .before .refuses .result) (k .before .before .before .refuses .ensures) (k .before .before .if1 .left) (k .before .moved .result) (k .before .moved .ensures) (k .begins .result) (k .begins .ensures) in
-    let d = begun-count word (l .loop .at) (l .loop .window) (l .loop .syllables) (l .loop .starts) (k .before .before .before .before .before .before .loop-test .taken) (l .before .before .before .before .pre) (l .loop .inv .1) (k .before .before .before .before .step .result) (k .before .before .before .before .step .ensures) (k .before .before .before .refuses .result) (k .before .before .before .refuses .ensures) (k .before .before .if1 .left) (k .before .moved .result) (k .before .moved .ensures) (k .begins .result) (k .begins .ensures) (c .before .before .if2 .taken) in
-    omega (arith, c .before .less .ensures)
+array-write-starts c = omega (arith, turns (c .before .before) .few)
+
+cast-state : tie.Need-cast-state Inv-loop μ-loop
+cast-state c = omega arith
 
 add-at : tie.Need-add-at Inv-loop μ-loop
 add-at c = omega arith
@@ -115,51 +131,43 @@ loop-less c = omega arith
 
 loop-again : tie.Need-loop-again Inv-loop μ-loop
 loop-again c =
-    let k = c .before in
-    let l = k .before .before .before .before .before .before .before in
-    let word = l .before .before .before .before .args .word .now in (
+    let t = turns (c .before) in (
       omega arith,
       ⊎-elim
-          (λ w. begun word (l .loop .at) (l .loop .window) (l .loop .syllables) (l .loop .starts) (k .before .before .before .before .before .before .loop-test .taken) (l .before .before .before .before .pre) (l .loop .inv .1) (k .before .before .before .before .step .result) (k .before .before .before .before .step .ensures) (k .before .before .before .refuses .result) (k .before .before .before .refuses .ensures) (k .before .before .if1 .left) (k .before .moved .result) (k .before .moved .ensures) (k .begins .result) (k .begins .ensures) (w .0 .taken) (w .1 .result) (w .1 .ensures) (c .if2 .syllables) (w .3) (c .if2 .starts) (w .4))
-          (λ w. kept-on word (l .loop .at) (l .loop .window) (l .loop .syllables) (l .loop .starts) (k .before .before .before .before .before .before .loop-test .taken) (l .before .before .before .before .pre) (l .loop .inv .1) (k .before .before .before .before .step .result) (k .before .before .before .before .step .ensures) (k .before .before .before .refuses .result) (k .before .before .before .refuses .ensures) (k .before .before .if1 .left) (k .before .moved .result) (k .before .moved .ensures) (k .begins .result) (k .begins .ensures) (w .0 .left) (c .if2 .syllables) (w .1) (c .if2 .starts) (w .2))
+          (λ w. t .begun (w .0 .taken) (w .1 .result) (w .1 .ensures) (c .if2 .syllables) (w .2) (c .if2 .starts) (w .3))
+          (λ w. t .stays (w .0 .left) (c .if2 .syllables) (w .1) (c .if2 .starts) (w .2))
           (c .if2 .came),
     )
 
 less-requires-2 : tie.Need-less-requires-2 Inv-loop μ-loop
 less-requires-2 c κs = search needs
 
-mul-syllables-2 : tie.Need-mul-syllables-2 Inv-loop μ-loop
-mul-syllables-2 c =
-    let l = c .before .before .before in
-    let q = window-count (l .before .before .before .before .args .word .now) (l .loop .at) (l .loop .window) (l .loop .syllables) (l .loop .starts) (omega arith) (l .loop .inv .1) in
-    omega (arith, c .before .less2 .ensures)
+-- the window has at most as many syllables as the word has values
+few : (c : tie.At-loop Inv-loop μ-loop) → c .loop .window .count ≤ c .loop .at
+few c =
+    count-fits (c .before .before .before .args .word .now) (c .loop .at) (c .loop .state) (c .loop .window) (c .loop .syllables) (c .loop .starts) (c .loop .inv .1)
 
-array-set-from-syllables-2 : tie.Need-array-set-from-syllables-2 Inv-loop μ-loop
-array-set-from-syllables-2 c =
-    let l = c .before .before .before in
-    let q = window-count (l .before .before .before .before .args .word .now) (l .loop .at) (l .loop .window) (l .loop .syllables) (l .loop .starts) (omega arith) (l .loop .inv .1) in
-    omega (arith, c .before .less2 .ensures)
+mul-syllables-2 : tie.Need-mul-syllables-2 Inv-loop μ-loop
+mul-syllables-2 c = let n = few (c .before .before) in omega (arith, c .less2 .ensures)
+
+array-write-syllables-2 : tie.Need-array-write-syllables-2 Inv-loop μ-loop
+array-write-syllables-2 c = let n = few (c .before .before) in omega (arith, c .less2 .ensures)
 
 returns-2 : tie.Need-returns-2 Inv-loop μ-loop
 returns-2 c =
-    let l = c .before .before .before in
-    let word = l .before .before .before .before .args .word .now in
-    let done : length word ≤ l .loop .at = c .before .before .loop-test .left in
+    let l = c .before .before in
     let r = l .loop .inv .1 in
-    let short : length word ≤ limit = l .before .before .before .before .pre in
-    let within : l .loop .at ≤ length word = l .loop .inv .0 in
+    let done = c .before .loop-test .left in
     record {
       stopped =
           record {
-            short = short;
-            within = within;
-            kept = r .kept;
-            came = r .came;
-            window-of = r .window-of;
+            short = l .before .before .before .pre;
+            within = l .loop .inv .0;
+            walked = r .walked;
             refused = λ i. let z : ⊥ = omega arith in absurd z;
           };
-      starts-of = r .starts-of;
-      whole = λ _. rw (c .before .less2 .ensures) (completed (r .kept) (l .loop .window) (l .loop .syllables) (omega (arith, count-bound word (l .loop .at) (r .kept) (r .came))) (r .window-of) (r .syllables-of));
+      starts-of = r .arrays-of .starts-of;
+      whole = λ _. rw (c .less2 .ensures) (completed (r .walked .kept) (l .loop .window) (l .loop .syllables) (r .window-of) (r .arrays-of .syllables-of));
     }
 
 pub scan-word-spec : {M : Type 1} → statement M
@@ -169,25 +177,25 @@ scan-word-spec =
     Inv-loop
     μ-loop
     unread-requires
-    nothing-requires
     loop-holds
-    mul-step
-    shared-slice-read-step
-    step-requires
-    refuses-requires
+    mul-x
+    shared-slice-read-x
+    rules-of-requires
+    next-requires
     returns
-    moved-requires
-    begins-requires
+    gain-requires
+    window-after-requires
     less-requires
     mul-syllables
-    array-set-from-syllables
+    array-write-syllables
     cast-starts
     sub-starts
     array-write-starts
+    cast-state
     add-at
     loop-less
     loop-again
     less-requires-2
     mul-syllables-2
-    array-set-from-syllables-2
+    array-write-syllables-2
     returns-2)

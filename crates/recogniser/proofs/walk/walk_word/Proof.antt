@@ -5,7 +5,7 @@ use Prim.Native.Nat.{_-_, _≤_}
 use native.Mathlib.Omega.{arith}
 use lib.ListN.{length, getD}
 use borrow.Author.Needs.{needs}
-use Rattle.transitions.specs.Tables.{entryOf, entryBy}
+use Rattle.transitions.specs.Tables.{entryOf, nextBy}
 use Rattle.transitions.proofs.Entered.{next-entry}
 use Rattle.recogniser.specs.Walked.{Walked}
 use Rattle.recogniser.proofs.Walking.{walk-start, state-bound, count-within, walk-refused, some-left, walk-on}
@@ -33,14 +33,15 @@ rules-of-requires c κs = search needs
 next-requires : tie.Need-next-requires Inv-loop μ-loop
 next-requires c κs =
     let l = c .before .before .before in
-    state-bound (l .before .before .args .word .now) (l .loop .at) (l .loop .state) (l .loop .count) (l .loop .inv .1)
+    let b = state-bound (l .before .before .args .word .now) (l .loop .at) (l .loop .state) (l .loop .count) (l .loop .inv .1) in
+    omega arith
 
 -- the entry is what the value does at the state
 entered : (c : tie.After-next Inv-loop μ-loop) → let l = c .before .before .before .before in
     c .next .result ≡ entryOf (l .loop .state) (getD (l .before .before .args .word .now) (l .loop .at) 0)
 entered c =
     let l = c .before .before .before .before in
-    c .next .ensures ∙ ap (entryBy (l .loop .state)) (c .before .rules-of .ensures)
+    c .next .ensures ∙ ap (nextBy (l .loop .state)) (c .before .rules-of .ensures)
     ∙ next-entry (l .loop .state) _
     (state-bound (l .before .before .args .word .now) (l .loop .at) (l .loop .state) (l .loop .count) (l .loop .inv .1))
 

@@ -90,71 +90,71 @@ returns-10 c = same-at classOf 5 (arm 9) refl (c .before .args .x) (c .match .ke
 
 returns-11 : tie.Need-returns-11
 unfolding pick arms arm classOf
-returns-11 c = same-at classOf 5 (arm 10) refl (c .before .args .x) (c .match .keys11)
+returns-11 c = same-at classOf 6 (arm 10) refl (c .before .args .x) (c .match .keys11)
 
 returns-12 : tie.Need-returns-12
 unfolding pick arms arm classOf
-returns-12 c = same-at classOf 6 (arm 11) refl (c .before .args .x) (c .match .keys12)
+returns-12 c = same-at classOf 7 (arm 11) refl (c .before .args .x) (c .match .keys12)
 
 returns-13 : tie.Need-returns-13
 unfolding pick arms arm classOf
-returns-13 c = same-at classOf 7 (arm 12) refl (c .before .args .x) (c .match .keys13)
+returns-13 c = same-at classOf 8 (arm 12) refl (c .before .args .x) (c .match .keys13)
 
 returns-14 : tie.Need-returns-14
 unfolding pick arms arm classOf
-returns-14 c = same-at classOf 8 (arm 13) refl (c .before .args .x) (c .match .keys14)
+returns-14 c = same-at classOf 9 (arm 13) refl (c .before .args .x) (c .match .keys14)
 
 returns-15 : tie.Need-returns-15
 unfolding pick arms arm classOf
-returns-15 c = same-at classOf 9 (arm 14) refl (c .before .args .x) (c .match .keys15)
+returns-15 c = same-at classOf 10 (arm 14) refl (c .before .args .x) (c .match .keys15)
 
 returns-16 : tie.Need-returns-16
 unfolding pick arms arm classOf
-returns-16 c = same-at classOf 10 (arm 15) refl (c .before .args .x) (c .match .keys16)
+returns-16 c = same-at classOf 11 (arm 15) refl (c .before .args .x) (c .match .keys16)
 
 returns-17 : tie.Need-returns-17
 unfolding pick arms arm classOf
-returns-17 c = same-at classOf 11 (arm 16) refl (c .before .args .x) (c .match .keys17)
+returns-17 c = same-at classOf 12 (arm 16) refl (c .before .args .x) (c .match .keys17)
 
 returns-18 : tie.Need-returns-18
 unfolding pick arms arm classOf
-returns-18 c = same-at classOf 12 (arm 17) refl (c .before .args .x) (c .match .keys18)
+returns-18 c = same-at classOf 13 (arm 17) refl (c .before .args .x) (c .match .keys18)
 
 returns-19 : tie.Need-returns-19
 unfolding pick arms arm classOf
-returns-19 c = same-at classOf 13 (arm 18) refl (c .before .args .x) (c .match .keys19)
+returns-19 c = same-at classOf 14 (arm 18) refl (c .before .args .x) (c .match .keys19)
 
 returns-20 : tie.Need-returns-20
 unfolding pick arms arm classOf
-returns-20 c = same-at classOf 14 (arm 19) refl (c .before .args .x) (c .match .keys20)
+returns-20 c = same-at classOf 15 (arm 19) refl (c .before .args .x) (c .match .keys20)
 
 returns-21 : tie.Need-returns-21
 unfolding pick arms arm classOf
-returns-21 c = same-at classOf 15 (arm 20) refl (c .before .args .x) (c .match .keys21)
+returns-21 c = same-at classOf 16 (arm 20) refl (c .before .args .x) (c .match .keys21)
 
 returns-22 : tie.Need-returns-22
 unfolding pick arms arm classOf
-returns-22 c = same-at classOf 16 (arm 21) refl (c .before .args .x) (c .match .keys22)
+returns-22 c = same-at classOf 17 (arm 21) refl (c .before .args .x) (c .match .keys22)
 
 returns-23 : tie.Need-returns-23
 unfolding pick arms arm classOf
-returns-23 c = same-at classOf 17 (arm 22) refl (c .before .args .x) (c .match .keys23)
+returns-23 c = same-at classOf 18 (arm 22) refl (c .before .args .x) (c .match .keys23)
 
 returns-24 : tie.Need-returns-24
 unfolding pick arms arm classOf
-returns-24 c = same-at classOf 18 (arm 23) refl (c .before .args .x) (c .match .keys24)
+returns-24 c = same-at classOf 19 (arm 23) refl (c .before .args .x) (c .match .keys24)
 
 returns-25 : tie.Need-returns-25
 unfolding pick arms arm classOf
-returns-25 c = same-at classOf 19 (arm 24) refl (c .before .args .x) (c .match .keys25)
+returns-25 c = same-at classOf 20 (arm 24) refl (c .before .args .x) (c .match .keys25)
 
 returns-26 : tie.Need-returns-26
 unfolding pick arms arm classOf
-returns-26 c = same-at classOf 20 (arm 25) refl (c .before .args .x) (c .match .keys26)
+returns-26 c = same-at classOf 21 (arm 25) refl (c .before .args .x) (c .match .keys26)
 
 returns-27 : tie.Need-returns-27
 unfolding pick arms arm classOf
-returns-27 c = same-at classOf 21 (arm 26) refl (c .before .args .x) (c .match .keys27)
+returns-27 c = same-at classOf 22 (arm 26) refl (c .before .args .x) (c .match .keys27)
 
 returns-28 : tie.Need-returns-28
 unfolding pick arms arm classOf

@@ -1,0 +1,35 @@
+-- `keying::fill::advance` meets its contract: one test.
+-- Assumes nothing.
+use mathlib.Core.Path.{_∙_}
+use borrow.Author.Needs.{needs}
+use Rattle.keying.proofs.Placed.{not-begun, is-begun}
+use Rattle.keying.proofs.fill.advance.Statement.{statement}
+use Rattle.keying.proofs.fill.advance.Tie as tie
+
+window-after-requires : tie.Need-window-after-requires
+window-after-requires c κs = search needs
+
+put-last-requires : tie.Need-put-last-requires
+put-last-requires c κs = c .before .before .before .pre .room
+
+returns : tie.Need-returns
+returns c =
+    let i = c .before .before in
+    let w = i .before in
+    let a = w .before .args in
+    record {
+      moved = w .window-after .ensures;
+      put = c .put-last .ensures ∙ is-begun (a .change) (a .window .count) (w .window-after .result .before) (a .bytes .now) (i .if1 .taken);
+    }
+
+returns-2 : tie.Need-returns-2
+returns-2 c =
+    let w = c .before in
+    let a = w .before .args in
+    record {
+      moved = w .window-after .ensures;
+      put = not-begun (a .change) (a .window .count) (w .window-after .result .before) (a .bytes .now) (c .if1 .left);
+    }
+
+pub advance-spec : {M : Type 1} → statement M
+advance-spec = tie.close (tie.spec window-after-requires put-last-requires returns returns-2)

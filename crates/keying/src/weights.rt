@@ -1,0 +1,40 @@
+// The weights of document 01, "Weights", of a packed syllable.
+use letters::weight::Weighed;
+use letters::weight::head_weight;
+use letters::weight::independent_vowel_weight;
+use letters::weight::medial_weight;
+use syllables::parts;
+ghost use mathlib.Core.Path.{_≡_};
+ghost use Prim.Native.Nat.{_+_, _≤_};
+ghost use lib.Seq.{sets};
+ghost use Rattle.weighing.specs.Keys.{keyLimit};
+ghost use Rattle.keying.specs.Weights.{weightOr, weightsBy};
+
+// The weight, or what stands for it where there is none.
+fn weight_or(weighed: Weighed, other: u8) -> u8
+    ensures { λ r. ⌜ r ≡ weightOr weighed other ⌝ }
+{
+    let Weighed::Weight(weight) = weighed else {
+        return other;
+    };
+    weight
+}
+
+// Puts the five weights of a packed syllable at a place of a key, in the order in which they are compared. A head that is an I has a vowel weight,
+// and a final weighs its number, whichever form it has.
+pub(crate) fn put_weights(bytes: &mut [u8; 320], at: usize, packed: u64)
+    requires { ⌜ at + 5 ≤ keyLimit ⌝ }
+    ensures { λ _. ⌜ now (bytes .exit) ≡ sets (now (bytes .entry)) at (weightsBy packed) ⌝ }
+{
+    let value = 0x1000 + parts::head(packed) as u16;
+    let head = weight_or(head_weight(value), 0);
+    let medial = weight_or(medial_weight(parts::medials(packed)), 0);
+    let letter = parts::letter(packed);
+    let vowel = weight_or(independent_vowel_weight(value), parts::vowel(packed));
+    let tone = parts::tone(packed);
+    bytes[at] = head;
+    bytes[at + 1] = medial;
+    bytes[at + 2] = letter;
+    bytes[at + 3] = vowel;
+    bytes[at + 4] = tone;
+}

@@ -1,0 +1,165 @@
+-- What a transition makes of the row it makes of the window too, by cases on what it makes; and the numbers fit.
+-- Assumes nothing.
+use mathlib.Core.Path.{_≡_, refl, ap, sym, subst, _∙_}
+use mathlib.Core.Bool.{Bool, true, false}
+use mathlib.Core.List.{[], _∷_}
+use Prim.Native.Nat.{ℕ, _+_, _-_, _*_, _^_, _≤_, _<_}
+use native.Mathlib.Nat.{zero-mul}
+use native.Mathlib.Omega.{arith}
+use lib.Dec.{T, eqb}
+use lib.ListN.{length}
+use Rattle.letters.specs.Choice.{pick}
+use Rattle.letters.specs.Marks.{MedialGroup, Vowel, ToneMark}
+use Rattle.letters.specs.Weights.{isHead, isFinalLetter}
+use Rattle.letters.proofs.Branches.{when-equal, when-unequal}
+use Rattle.formula.proofs.Classes.{within-bounds, head-bounds}
+use Rattle.formula.specs.Limits.{limit}
+use Rattle.formula.specs.Syllable.{Final, no-final, plain, stacked, syllable, bare, isNoFinal}
+use Rattle.formula.specs.Row.{Row}
+use Rattle.formula.specs.Packed.{packed, packedTop}
+use Rattle.formula.specs.declared.Window.{Window}
+use Rattle.rows.specs.Kept.{KeptOk}
+use Rattle.transitions.specs.Transition.{finalBy, Makes, begins, begins-great-sa, adds-medial, adds-vowel, adds-tone, makes-kinzi, closes}
+use Rattle.transitions.proofs.Entered.{makes-length}
+use Rattle.syllables.specs.Window.{begunBy, closedBy, linkBy, lastKept, windowAfter, Closable, Fit, WindowOf}
+use Rattle.syllables.proofs.Parted.{packed-small}
+
+module _ (w : Window) (d l : ℕ) where
+  pub last-itself : d ≡ 1 → w .last ≡ lastKept d l w
+  unfolding lastKept
+  last-itself e = when-equal d 1 _ _ _ e refl
+
+  pub last-closed : (d ≡ 1 → ⊥) → w .before + (w .last + 1 + l) * 0x10000 ≡ lastKept d l w
+  unfolding lastKept
+  last-closed e = when-unequal d 1 _ _ _ e refl
+
+module _ (w : Window) (d g x : ℕ) where
+  pub after-head : (h b : ℕ) → d ≡ 2 → h ≡ begunBy x → b ≡ closedBy x (w .last)
+      → record { count = w .count + 1; last = h; before = b } ≡ windowAfter d g x w
+  unfolding windowAfter
+  after-head h b e f c = when-equal d 2 _ _ _ e (rw (f, c) refl)
+
+  pub after-gain : (k n : ℕ) → (d ≡ 2 → ⊥) → k ≡ lastKept d (linkBy x) w → n ≡ w .count + d - 1
+      → record { count = n; last = k + g; before = w .before } ≡ windowAfter d g x w
+  unfolding windowAfter
+  after-gain k n e f c = when-unequal d 2 _ _ _ e (rw (f, c) refl)
+
+no-great-sa : (x : ℕ) → T (isHead x) → x ≡ 0x103F → ⊥
+no-great-sa x h e = subst (λ (y : ℕ). T (isHead y)) e h
+
+begun-head : (x : ℕ) → T (isHead x) → begunBy x ≡ packed (bare x)
+unfolding begunBy packed
+begun-head x h = let e : x - 0x1000 ≡ packed (bare x) = omega arith in sym (when-unequal x 0x103F _ _ _ (no-great-sa x h) (sym e))
+
+closed-itself : (x last : ℕ) → (x ≡ 0x103F → ⊥) → closedBy x last ≡ last
+unfolding closedBy
+closed-itself x last n = sym (when-unequal x 0x103F last _ _ n refl)
+
+closed-great : (x last : ℕ) → x ≡ 0x103F → closedBy x last ≡ last + 0xDF0000
+unfolding closedBy
+closed-great x last e = sym (when-equal x 0x103F _ _ _ e refl)
+
+begun-great : (x : ℕ) → x ≡ 0x103F → begunBy x ≡ packed (bare 0x101E)
+unfolding begunBy packed pick
+begun-great x e = rw e refl
+
+closed-packed : (x c h : ℕ) (m : MedialGroup) (v : Vowel) (t : ToneMark) → T (isFinalLetter c)
+    → packed (syllable h m v no-final t) + (packed (bare c) + 1 + linkBy x) * 0x10000 ≡ packed (syllable h m v (finalBy x c) t)
+unfolding packed linkBy pick
+closed-packed x c h m v t l = go (eqb x 0x1039)
+  where
+    go : (b : Bool) → packed (syllable h m v no-final t) + (packed (bare c) + 1 + pick b 0x80 0x40) * 0x10000
+        ≡ packed (syllable h m v (pick b (stacked c) (plain c)) t)
+    go true = omega arith
+    go false = omega arith
+
+pub closed-final : (x c : ℕ) → T (isNoFinal (finalBy x c)) → ⊥
+unfolding pick
+closed-final x c = go (eqb x 0x1039)
+  where
+    go : (b : Bool) → T (isNoFinal (pick b (stacked c) (plain c))) → ⊥
+    go true t = t
+    go false t = t
+
+bare-letter : (c : ℕ) → T (isFinalLetter c) → packed (bare c) ≤ 0x20
+unfolding packed
+bare-letter c l = let b = within-bounds 0x1000 0x1020 c l in omega arith
+
+module _ (w : Window) where
+  -- where there are as many syllables
+  gained : (g x : ℕ) → record { count = w .count; last = w .last + g; before = w .before } ≡ windowAfter 1 g x w
+  gained g x = after-gain w 1 g x (w .last) (w .count) (λ (i : 1 ≡ 2). omega arith) (last-itself w 1 (linkBy x) refl) (omega arith)
+
+  -- the window after the value is that of the new row
+  pub window-moves : {x byte d a : ℕ} {kept b : Row} → Makes x byte d a kept b → (g : ℕ) → g ≡ a * 2 ^ (8 * byte) → WindowOf kept w
+      → WindowOf b (windowAfter d g x w)
+  unfolding packed
+  window-moves {x} {kept = kept} (begins h) g q o =
+      subst (WindowOf (bare x ∷ kept)) (after-head w 2 g x (begunBy x) (closedBy x (w .last)) refl refl refl)
+      (record {
+        count = omega (arith, o .count);
+        last = begun-head x h;
+        before = λ _. closed-itself x (w .last) (no-great-sa x h) ∙ o .last;
+      })
+  window-moves {x} (begins-great-sa y) g q o =
+      subst (WindowOf _) (after-head w 2 g x (begunBy x) (closedBy x (w .last)) refl refl refl)
+      (record {
+        count = omega (arith, o .count);
+        last = begun-great x y;
+        before = λ _. closed-great x (w .last) y ∙ omega (arith, o .last);
+      })
+  window-moves {x} (adds-medial e) g q o =
+      subst (WindowOf _) (gained g x) (record { count = o .count; last = omega (arith, o .last, e, q); before = o .before })
+  window-moves {x} (adds-vowel e) g q o =
+      subst (WindowOf _) (gained g x) (record { count = o .count; last = omega (arith, o .last, e, q); before = o .before })
+  window-moves {x} (adds-tone e) g q o =
+      subst (WindowOf _) (gained g x) (record { count = o .count; last = omega (arith, o .last, e, q); before = o .before })
+  window-moves {x} makes-kinzi g q o =
+      subst (WindowOf _) (gained g x) (record { count = o .count; last = omega (arith, o .last, q); before = λ t. absurd t })
+  window-moves {x} {byte} (closes {c = c} {h = h} {m = m} {v = v} {t = t} {kept = kept} l) g q o =
+      let z : g ≡ 0 = q ∙ zero-mul (2 ^ (8 * byte)) in
+      let p : w .before + (w .last + 1 + linkBy x) * 0x10000 ≡ packed (syllable h m v (finalBy x c) t) =
+      ap (λ (n : ℕ). n + (w .last + 1 + linkBy x) * 0x10000) (o .before tt)
+      ∙ ap (λ (n : ℕ). packed (syllable h m v no-final t) + (n + 1 + linkBy x) * 0x10000) (o .last) ∙ closed-packed x c h m v t l in
+      subst (WindowOf (syllable h m v (finalBy x c) t ∷ kept))
+      (after-gain w 0 g x (w .before + (w .last + 1 + linkBy x) * 0x10000) (length (bare c ∷ kept)) (λ (i : 0 ≡ 2). omega arith)
+      (last-closed w 0 (linkBy x) (λ (i : 0 ≡ 1). omega arith)) (omega (arith, o .count)))
+      (record { count = refl; last = omega (arith, p, z); before = λ n. absurd (closed-final x c n) })
+
+  -- and the numbers fit
+  pub window-fits : {x byte d a : ℕ} {kept b : Row} → Makes x byte d a kept b → (g : ℕ) → g ≡ a * 2 ^ (8 * byte) → KeptOk kept → KeptOk b
+      → length kept ≤ limit → WindowOf kept w → Fit d g x w
+  window-fits {x} {byte} {d} {a} {kept} {b} m g q k j r o =
+      record {
+        room = omega (arith, o .count);
+        some-left = let l = makes-length m in omega (arith, o .count);
+        last = top-small kept k (w .last) (o .last);
+        begins = λ e. begun m e;
+        closing = λ e f. closing m k o e f;
+        gains = λ e.
+            top-small b j (lastKept d (linkBy x) w + g)
+            (ap (λ (u : Window). u .last) (after-gain w d g x (lastKept d (linkBy x) w) (w .count + d - 1) e refl refl) ∙ window-moves m g q o .last);
+      }
+    where
+      top-small : (kept : Row) → KeptOk kept → (n : ℕ) → n ≡ packedTop kept → n < 0x300000000
+      top-small [] k n e = omega arith
+      top-small (syllable h m v f t ∷ kept) k n e = let s = packed-small h m v f t (k .1) in omega arith
+
+      begun : {byte d a : ℕ} {kept b : Row} → Makes x byte d a kept b → d ≡ 2 → 0x1000 ≤ x
+      begun (begins h) e = head-bounds x h .0
+      begun (begins-great-sa y) e = omega arith
+      begun (adds-medial i) e = omega arith
+      begun (adds-vowel i) e = omega arith
+      begun (adds-tone i) e = omega arith
+      begun makes-kinzi e = omega arith
+      begun (closes l) e = omega arith
+
+      closing : {byte d a : ℕ} {kept b : Row} → Makes x byte d a kept b → KeptOk kept → WindowOf kept w → (d ≡ 2 → ⊥) → Closable d w
+      closing (begins h) k o e f = absurd (e refl)
+      closing (begins-great-sa y) k o e f = absurd (e refl)
+      closing (adds-medial i) k o e f = absurd (f refl)
+      closing (adds-vowel i) k o e f = absurd (f refl)
+      closing (adds-tone i) k o e f = absurd (f refl)
+      closing makes-kinzi k o e f = absurd (f refl)
+      closing (closes {c = c} {h = h} {m = m} {v = v} {t = t} {kept = rest} l) k o e f =
+          (omega (arith, o .last, bare-letter c l), omega (arith, o .before tt, packed-small h m v no-final t (k .2 .1)))

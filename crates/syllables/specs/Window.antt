@@ -1,0 +1,53 @@
+-- The window of a reading: the last two syllables, packed, and what a value makes of them. Inner contracts cite it; no public promise does.
+-- Assumes nothing.
+use mathlib.Core.Path.{_≡_}
+use Prim.Native.Nat.{ℕ, _+_, _-_, _*_, _≤_, _<_}
+use lib.Dec.{T, eqb}
+use lib.ListN.{length}
+use Rattle.letters.specs.Choice.{pick}
+use Rattle.formula.specs.Limits.{limit}
+use Rattle.formula.specs.Syllable.{isNoFinal}
+use Rattle.formula.specs.Row.{Row}
+use Rattle.formula.specs.Packed.{packedTop, packedBelow}
+use Rattle.formula.specs.declared.Window.{Window}
+use Rattle.rows.specs.Kept.{endOf}
+
+-- what the value x begins a syllable with, what it makes of the syllable that it ends, and the link of a final that it makes
+unfoldable pub begunBy : ℕ → ℕ
+begunBy x = pick (eqb x 0x103F) 0x1E (x - 0x1000)
+
+unfoldable pub closedBy : ℕ → ℕ → ℕ
+closedBy x last = pick (eqb x 0x103F) (last + 0xDF0000) last
+
+unfoldable pub linkBy : ℕ → ℕ
+linkBy x = pick (eqb x 0x1039) 0x80 0x40
+
+-- the last syllable where none is begun, before a value that makes d syllables more, less 1, adds to it: the last of as many; or the one before
+-- it, with the last head as its final
+unfoldable pub lastKept : ℕ → ℕ → Window → ℕ
+lastKept d link w = pick (eqb d 1) (w .last) (w .before + (w .last + 1 + link) * 0x10000)
+
+-- after the value x, which makes d syllables more, less 1, and adds g: one more; or as many or one fewer
+unfoldable pub windowAfter : ℕ → ℕ → ℕ → Window → Window
+windowAfter d g x w =
+    pick (eqb d 2) (record { count = w .count + 1; last = begunBy x; before = closedBy x (w .last) })
+    (record { count = w .count + d - 1; last = lastKept d (linkBy x) w + g; before = w .before })
+
+-- the last syllable, where it is the final of the one before, is a letter alone
+abbrev pub Closable : ℕ → Window → Type 0
+Closable d w = (d ≡ 1 → ⊥) → (w .last ≤ 0x20) × (w .before < 0x300000000)
+
+-- the numbers fit where a value changes the window so
+pub record Fit (d g x : ℕ) (w : Window) : Type 0 where
+  pub room : w .count ≤ limit
+  pub some-left : 1 ≤ w .count + d
+  pub last : w .last < 0x300000000
+  pub begins : d ≡ 2 → 0x1000 ≤ x
+  pub closing : (d ≡ 2 → ⊥) → Closable d w
+  pub gains : (d ≡ 2 → ⊥) → lastKept d (linkBy x) w + g < 0x300000000
+
+-- the window shows what is kept; the syllable before the last is right while the last has no final
+pub record WindowOf (kept : Row) (w : Window) : Type 0 where
+  pub count : w .count ≡ length kept
+  pub last : w .last ≡ packedTop kept
+  pub before : T (isNoFinal (endOf kept)) → w .before ≡ packedBelow kept

@@ -1,0 +1,146 @@
+-- What a value does to the state of a reading, to the number of syllables and to the last of them. A device of proofs and of inner contracts:
+-- no public promise cites it. Assumes nothing.
+use mathlib.Core.Path.{_≡_}
+use mathlib.Core.Bool.{Bool, not, _&&_, _||_}
+use mathlib.Core.List.{_∷_}
+use mathlib.Core.Option.{Option, none, some}
+use Prim.Native.Nat.{ℕ, _+_, _-_, _*_}
+use lib.Dec.{T, eqb, leb}
+use Rattle.letters.specs.Choice.{pick}
+use Rattle.letters.specs.Letters.{within}
+use Rattle.letters.specs.Kinds.{byKind}
+use Rattle.letters.specs.Marks.{MedialGroup, Vowel, ToneMark}
+use Rattle.letters.specs.Weights.{isHead, isFinalLetter, medialSet, vowelWeight, vowelTall, toneWeight}
+use Rattle.letters.specs.declared.kind.Kind.{Kind}
+use Rattle.formula.specs.Syllable.{Final, no-final, plain, stacked, kinzi, great-sa, syllable, bare, carriesFinal}
+use Rattle.formula.specs.Row.{Row}
+use Rattle.transitions.specs.State.{State, done, plain-final, nga-final, waiting, head-stays, head-closes, head-nga, after-ya-ra, after-wa, after-ha, with-e, with-e-aa, with-i, with-u, with-vowel, begunState, stateOf, stateNumber}
+
+-- a value is refused; or what becomes of the number of syllables, 0 for one fewer, 1 for as many, 2 for one more; what is added to a byte of
+-- the last syllable; and the state after it
+pub data Transition : Type 0 where
+  refuse : Transition
+  to : ℕ → ℕ → State → Transition
+
+-- the state is this one; it is one of those from the first to the last
+abbrev pub is : State → State → Bool
+is one state = eqb (stateNumber state) (stateNumber one)
+
+abbrev pub among : State → State → State → Bool
+among first last state = within (stateNumber first) (stateNumber last) (stateNumber state)
+
+-- the last syllable may still take a final; it is a head alone
+abbrev pub isOpenState : State → Bool
+isOpenState state = among head-stays with-vowel state
+
+abbrev pub isHeadState : State → Bool
+isHeadState state = among head-stays head-nga state
+
+-- after a stacked final or kinzi the next head is a letter 1000 to 1020
+abbrev pub takesHead : ℕ → State → Bool
+takesHead x state = not (is waiting state) || isFinalLetter x
+
+-- medials stand in the order Y R W H, each once, and not Y with R
+abbrev pub takesMedial : ℕ → State → Bool
+takesMedial x state = isHeadState state || ((is after-ya-ra state && leb 0x103D x) || (is after-wa state && eqb x 0x103E))
+
+-- what is open takes a tone, and so does a plain final
+abbrev pub takesToneState : State → Bool
+takesToneState state = isOpenState state || among plain-final nga-final state
+
+abbrev pub medialAfter : ℕ → State
+medialAfter x = pick (eqb x 0x103E) after-ha (pick (eqb x 0x103D) after-wa after-ya-ra)
+
+-- the member of the set of medials: Y 1, R 2, W 4, H 8
+abbrev pub medialBit : ℕ → ℕ
+medialBit x = pick (eqb x 0x103B) 1 (pick (eqb x 0x103C) 2 (pick (eqb x 0x103D) 4 8))
+
+-- the first mark of a vowel, and the weight of a vowel of that mark alone; a tall AA is 16 more
+abbrev pub vowelBegun : ℕ → State
+vowelBegun x = pick (eqb x 0x102D) with-i (pick (eqb x 0x102F) with-u (pick (eqb x 0x1031) with-e with-vowel))
+
+abbrev pub tallMark : ℕ → ℕ
+tallMark x = pick (eqb x 0x102B) 16 0
+
+abbrev pub markWeight : ℕ → ℕ
+markWeight x = pick (leb x 0x102C) 1 (pick (eqb x 0x1036) 10 (x - 0x102D + 2))
+
+-- a letter, an I, N, P or S begins a syllable
+abbrev pub onHead : ℕ → State → Transition
+onHead x state = pick (takesHead x state) (to 2 0 (pick (carriesFinal x) (begunState (isOpenState state) x) done)) refuse
+
+abbrev pub onMedial : ℕ → State → Transition
+onMedial x state = pick (takesMedial x state) (to 1 (medialBit x) (medialAfter x)) refuse
+
+-- the first mark of a vowel, or the next one of 1031 AA, 102D 102F or 102F 1036, which makes 6 of weight to 8, 2 to 11 or 4 to 12
+abbrev pub onVowel : ℕ → State → Transition
+onVowel x state =
+    pick (among head-stays after-ha state) (to 1 (markWeight x + tallMark x) (vowelBegun x))
+    (pick (is with-e state && leb x 0x102C) (to 1 (2 + tallMark x) with-e-aa)
+    (pick (is with-i state && eqb x 0x102F) (to 1 9 with-vowel) (pick (is with-u state && eqb x 0x1036) (to 1 8 with-vowel) refuse)))
+
+abbrev pub onTone : ℕ → State → Transition
+onTone x state = pick (takesToneState state) (to 1 (x - 0x1036) done) refuse
+
+-- 103A makes the letter a plain final of the syllable before, or ends the vowel 1031 AA 103A, which makes 8 of weight to 9
+abbrev pub onKiller : State → Transition
+onKiller state =
+    pick (is head-closes state) (to 0 0 plain-final) (pick (is head-nga state) (to 0 0 nga-final) (pick (is with-e-aa state) (to 1 1 with-vowel) refuse))
+
+-- 1039 makes the letter a stacked final of the syllable before, or a plain 1004 kinzi, whose link is 1 more
+abbrev pub onStacker : State → Transition
+onStacker state = pick (is head-closes state) (to 0 0 waiting) (pick (is nga-final state) (to 1 0x40 waiting) refuse)
+
+-- 103F is the final of an open syllable and the head of its own
+abbrev pub onGreatSa : State → Transition
+onGreatSa state = pick (isOpenState state) (to 2 0 head-stays) refuse
+
+-- the value x, of this kind
+abbrev pub transition : Kind → ℕ → State → Transition
+transition kind x state =
+    byKind
+    (record {
+      head = onHead x state;
+      medial = onMedial x state;
+      vowel = onVowel x state;
+      tone = onTone x state;
+      killer = onKiller state;
+      stacker = onStacker state;
+      great-sa = onGreatSa state;
+      foreign = refuse;
+    })
+    kind
+
+-- the byte of a syllable that a mark of the kind adds to: 1 the set of medials, 2 the final, 3 the vowel, 4 the tone
+abbrev pub byteOf : Kind → ℕ
+byteOf kind = byKind (record { head = 0; medial = 1; vowel = 3; tone = 4; killer = 3; stacker = 2; great-sa = 0; foreign = 0 }) kind
+
+-- what a vowel has in its byte of a packed syllable: its weight, and 16 more for a tall AA
+abbrev pub vowelByte : Vowel → ℕ
+vowelByte v = vowelWeight v + 16 * vowelTall v
+
+-- 103A makes a letter a plain final, and 1039 a stacked one
+abbrev pub finalBy : ℕ → ℕ → Final
+finalBy x c = pick (eqb x 0x1039) (stacked c) (plain c)
+
+-- the value x makes of the row on the left the one on the right, last syllable first, by a transition with d for the count and the amount a,
+-- which is added to this byte
+pub data Makes (x : ℕ) : ℕ → ℕ → ℕ → Row → Row → Type 0 where
+  begins : {byte : ℕ} {kept : Row} → T (isHead x) → Makes x byte 2 0 kept (bare x ∷ kept)
+  begins-great-sa : {byte h : ℕ} {m : MedialGroup} {v : Vowel} {t : ToneMark} {kept : Row} → x ≡ 0x103F
+      → Makes x byte 2 0 (syllable h m v no-final t ∷ kept) (bare 0x101E ∷ syllable h m v great-sa t ∷ kept)
+  adds-medial : {a h : ℕ} {m n : MedialGroup} {v : Vowel} {f : Final} {t : ToneMark} {kept : Row} → medialSet n ≡ medialSet m + a
+      → Makes x 1 1 a (syllable h m v f t ∷ kept) (syllable h n v f t ∷ kept)
+  adds-vowel : {a h : ℕ} {m : MedialGroup} {v u : Vowel} {f : Final} {t : ToneMark} {kept : Row} → vowelByte u ≡ vowelByte v + a
+      → Makes x 3 1 a (syllable h m v f t ∷ kept) (syllable h m u f t ∷ kept)
+  adds-tone : {a h : ℕ} {m : MedialGroup} {v : Vowel} {f : Final} {t n : ToneMark} {kept : Row} → toneWeight n ≡ toneWeight t + a
+      → Makes x 4 1 a (syllable h m v f t ∷ kept) (syllable h m v f n ∷ kept)
+  makes-kinzi : {h : ℕ} {m : MedialGroup} {v : Vowel} {t : ToneMark} {kept : Row}
+      → Makes x 2 1 0x40 (syllable h m v (plain 0x1004) t ∷ kept) (syllable h m v kinzi t ∷ kept)
+  closes : {byte c h : ℕ} {m : MedialGroup} {v : Vowel} {t : ToneMark} {kept : Row} → T (isFinalLetter c)
+      → Makes x byte 0 0 (bare c ∷ syllable h m v no-final t ∷ kept) (syllable h m v (finalBy x c) t ∷ kept)
+
+-- the transition by x takes the row kept to o
+abbrev pub Agrees : ℕ → ℕ → Transition → Row → Option Row → Type 0
+Agrees x byte refuse kept o = o ≡ none
+Agrees x byte (to d a state) kept o = (b : Row) × (o ≡ some b) × (state ≡ stateOf b) × Makes x byte d a kept b
