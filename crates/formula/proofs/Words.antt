@@ -21,6 +21,7 @@ pub record Example : Type 0 where
   pub weigh : List (List ℕ)
   pub spell : List (List ℕ)
 
+-- the one table of worked words that are readable; 1000 1031 102C 103A is "one syllable"
 abbrev pub examples : List Example
 examples =
     record { word = []; row = []; weigh = []; spell = [] }

@@ -1,8 +1,8 @@
--- The starred words of document 01, as one table: the answer that the definitions give each word, its weights and its spelled syllables.
+-- The starred words of document 01: the answer that the definitions give each word, its weights and its spelled syllables.
 -- Assumes nothing.
 use mathlib.Core.Path.{_≡_, refl, ap, sym, subst, _∙_}
 use mathlib.Core.Bool.{Bool, true, false, _&&_}
-use mathlib.Core.List.{List, [], _∷_, reverse, reverse-reverse}
+use mathlib.Core.List.{List, [], _∷_, _++_, map, reverse, reverse-reverse}
 use mathlib.Core.Option.{Option, none, some, Option·some-injective}
 use Prim.Native.Nat.{ℕ, suc, _+_, _≤_, _<_}
 use native.Mathlib.Numerals.{add-one}
@@ -18,6 +18,7 @@ use Rattle.formula.specs.Row.{Row, Gives, Viable}
 use Rattle.formula.specs.Spelled.{spelled}
 use Rattle.formula.specs.Weighing.{weightsOf, weights}
 use Rattle.formula.proofs.Lists.{both-left, both-right, every, All, every-all, every-at, sameLists, sameLists-equal}
+use Rattle.formula.proofs.Words.{Example, examples}
 use Rattle.rows.specs.Kept.{endOf, step, run}
 use Rattle.rows.proofs.Sound.{sound}
 use Rattle.rows.proofs.Viable.{read-back, only-row, unfinished, alive, stops, goes-on, longest}
@@ -90,41 +91,21 @@ abbrev pub expectedOutcome : Expected → Outcome
 expectedOutcome (readable w s) = accepts (length w)
 expectedOutcome (refused n p) = refuses n p
 
--- the starred words; 1000 1031 102C 103A is "one syllable"
+-- a word of the one table of readable words, with the weights and the spelled syllables that it has there
+abbrev pub asExpected : Example → List ℕ × Expected
+asExpected e = (e .word, readable (e .weigh) (e .spell))
+
+-- the starred words: the readable ones, and those that are refused
 abbrev pub starred : List (List ℕ × Expected)
 starred =
-    ([], readable [] [])
-    ∷ (0x1000 ∷ [], readable ((13 ∷ 0 ∷ 0 ∷ 0 ∷ 0 ∷ []) ∷ []) ((0x1000 ∷ []) ∷ []))
-    ∷ (
-      0x101E ∷ 0x1019 ∷ 0x102E ∷ 0x1038 ∷ [],
-      readable ((43 ∷ 0 ∷ 0 ∷ 0 ∷ 0 ∷ []) ∷ (38 ∷ 0 ∷ 0 ∷ 3 ∷ 2 ∷ []) ∷ []) ((0x101E ∷ []) ∷ (0x1019 ∷ 0x102E ∷ 0x1038 ∷ []) ∷ []),
-    )
-    ∷ (
-      0x1010 ∷ 0x1000 ∷ 0x1039 ∷ 0x1000 ∷ 0x101E ∷ 0x102D ∷ 0x102F ∷ 0x101C ∷ 0x103A ∷ [],
-      readable ((29 ∷ 0 ∷ 1 ∷ 0 ∷ 0 ∷ []) ∷ (13 ∷ 0 ∷ 0 ∷ 0 ∷ 0 ∷ []) ∷ (43 ∷ 0 ∷ 29 ∷ 11 ∷ 0 ∷ []) ∷ [])
-          ((0x1010 ∷ 0x1000 ∷ 0x103A ∷ []) ∷ (0x1000 ∷ []) ∷ (0x101E ∷ 0x102D ∷ 0x102F ∷ 0x101C ∷ 0x103A ∷ []) ∷ []),
-    )
-    ∷ (
-      0x1021 ∷ 0x1004 ∷ 0x103A ∷ 0x1039 ∷ 0x1002 ∷ 0x101C ∷ 0x1014 ∷ 0x103A ∷ [],
-      readable ((46 ∷ 0 ∷ 5 ∷ 0 ∷ 0 ∷ []) ∷ (15 ∷ 0 ∷ 0 ∷ 0 ∷ 0 ∷ []) ∷ (41 ∷ 0 ∷ 21 ∷ 0 ∷ 0 ∷ []) ∷ [])
-          ((0x1021 ∷ 0x1004 ∷ 0x103A ∷ []) ∷ (0x1002 ∷ []) ∷ (0x101C ∷ 0x1014 ∷ 0x103A ∷ []) ∷ []),
-    )
-    ∷ (
-      0x1015 ∷ 0x103C ∷ 0x103F ∷ 0x1014 ∷ 0x102C ∷ [],
-      readable ((34 ∷ 2 ∷ 31 ∷ 0 ∷ 0 ∷ []) ∷ (43 ∷ 0 ∷ 0 ∷ 0 ∷ 0 ∷ []) ∷ (33 ∷ 0 ∷ 0 ∷ 1 ∷ 0 ∷ []) ∷ [])
-          ((0x1015 ∷ 0x103C ∷ 0x101E ∷ 0x103A ∷ []) ∷ (0x101E ∷ []) ∷ (0x1014 ∷ 0x102C ∷ []) ∷ []),
-    )
-    ∷ (0x1000 ∷ 0x1039 ∷ [], refused 3 1)
+    map asExpected examples
+    ++ ((0x1000 ∷ 0x1039 ∷ [], refused 3 1)
     ∷ (0x1000 ∷ 0x1000 ∷ 0x1039 ∷ [], refused 4 3)
     ∷ (0x1000 ∷ 0x1004 ∷ 0x1039 ∷ 0x1000 ∷ [], refused 3 2)
     ∷ (0x103F ∷ [], refused 3 0)
     ∷ (0x1000 ∷ 0x103B ∷ 0x103C ∷ [], refused 3 2)
     ∷ (0x1000 ∷ 0x102C ∷ 0x103A ∷ [], refused 3 2)
-    ∷ (
-      0x1000 ∷ 0x1031 ∷ 0x102C ∷ 0x103A ∷ [],
-      readable ((13 ∷ 0 ∷ 0 ∷ 9 ∷ 0 ∷ []) ∷ []) ((0x1000 ∷ 0x1031 ∷ 0x102C ∷ 0x103A ∷ []) ∷ []),
-    )
-    ∷ []
+    ∷ [])
 
 -- the row that was kept has these weights and spelled syllables
 abbrev hasForms : Expected → Option Row → Bool
