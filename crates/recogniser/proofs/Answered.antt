@@ -18,7 +18,7 @@ use Rattle.rows.specs.Kept.{endOf, run}
 use Rattle.rows.proofs.Sound.{sound}
 use Rattle.rows.proofs.Admitted.{run-admitted}
 use Rattle.rows.proofs.Viable.{only-row, unfinished, alive, stops, longest}
-use Rattle.recogniser.specs.Answer.{Admissible, RefusedWith, too-long, foreign, no-continuation, unfinished as open-end, Reads, Readable}
+use Rattle.recogniser.specs.Answer.{AdmissibleWithin, Admissible, RefusedWithin, RefusedWith, too-long, foreign, no-continuation, unfinished as open-end, Reads, Readable}
 use Rattle.recogniser.specs.Concluded.{AdmittedTo, Halted}
 
 -- whether a test of the row's last final passes
@@ -96,7 +96,8 @@ pub reads-readable : (word : List ℕ) (n : ℕ) → Reads word n → Readable w
 reads-readable word n r = record { admissible = r .admissible; row = r .row; gives = r .gives; only = r .only }
 
 -- a refused word of admitted values within the limit is given by no row
-pub refused-no-row : (word : List ℕ) (number place : ℕ) → RefusedWith word number place → Admissible word → (row : Row) → Gives row word → ⊥
+pub refused-no-row : {most : ℕ} (word : List ℕ) (number place : ℕ) → RefusedWithin most word number place → AdmissibleWithin most word → (row : Row)
+    → Gives row word → ⊥
 refused-no-row word number place (too-long h) a row g = let s = a .short in omega arith
 refused-no-row word number place (foreign f) a row g = f .foreign (a .admitted place (f .within))
 refused-no-row word number place (no-continuation b n l) a row g = n (row-viable row word g)

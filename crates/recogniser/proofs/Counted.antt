@@ -5,10 +5,9 @@ use mathlib.Core.List.{List, [], _∷_}
 use Prim.Native.Nat.{ℕ, _≤_}
 use native.Mathlib.Omega.{arith}
 use lib.ListN.{length, length-append}
-use Rattle.formula.specs.Limits.{limit}
 use Rattle.formula.specs.Syllable.{Final, no-final, Syllable, syllable, finalOf, part}
 use Rattle.formula.specs.Row.{Row, joinAfter}
-use Rattle.recogniser.specs.Answer.{Reads}
+use Rattle.recogniser.specs.Answer.{ReadsWithin}
 
 -- each part has a value
 pub part-length : (f : Final) (s : Syllable) → 1 ≤ length (part f s)
@@ -21,7 +20,7 @@ row-bound f (s ∷ row) =
     let q = row-bound (finalOf s) row in
     simp length-append (omega arith)
 
-pub count-limit : (word : List ℕ) (n : ℕ) → Reads word n → n ≤ limit
+pub count-limit : {most : ℕ} (word : List ℕ) (n : ℕ) → ReadsWithin most word n → n ≤ most
 count-limit word n r =
     let c = r .count in
     let s = r .admissible .short in
