@@ -8,7 +8,8 @@ use Prim.Native.Nat.{ℕ}
 use lib.Dec.{T, eqb, eqb-refl}
 use Rattle.formula.proofs.Lists.{both, sameList}
 use Rattle.recogniser.specs.Answer.{Readable, RowTest}
-use Rattle.entries.specs.Readable.{decide, decided, isReadable}
+use Rattle.entries.specs.Readable.{decided, isReadable}
+use Rattle.recogniser.proofs.Decided.{decide}
 
 pub is-true : (t : Bool) → T t → t ≡ true
 is-true true h = refl

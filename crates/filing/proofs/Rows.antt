@@ -14,7 +14,7 @@ use Rattle.recogniser.proofs.Counted.{row-bound}
 use Rattle.weighing.specs.Keys.{keyOf}
 use Rattle.weighing.proofs.Laws.{key-used}
 use Rattle.entries.specs.Limits.{bookLimit}
-use Rattle.entries.specs.Readable.{decide}
+use Rattle.recogniser.proofs.Decided.{decide}
 use Rattle.entries.specs.Entries.{wordAt}
 use Rattle.entries.proofs.Records.{Framed, framed-true, length-word}
 use Rattle.filing.specs.Filing.{decidedRow, rowOf, keptKey, keyRoom, HasKey}

@@ -14,7 +14,7 @@ use Rattle.weighing.specs.Keys.{keyOf}
 use Rattle.weighing.specs.Order.{Filed, filed, order}
 use Rattle.weighing.specs.declared.order.Order.{Order}
 use Rattle.weighing.specs.declared.order.Order.the-variants.{Less, Equal, Greater}
-use Rattle.entries.specs.Readable.{decide}
+use Rattle.recogniser.proofs.Decided.{decide}
 use Rattle.entries.specs.Entries.{Entry, wordAt, isFramed}
 use Rattle.entries.specs.Book.{IsBook}
 use Rattle.entries.specs.Map.{liveCount}

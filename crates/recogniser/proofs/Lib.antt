@@ -4,3 +4,4 @@ pub mod Answered
 pub mod Walking
 pub mod Determined
 pub mod Words
+pub mod Decided
