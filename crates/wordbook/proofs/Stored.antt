@@ -1,18 +1,21 @@
 -- The stored form of a word that is not empty is not empty, since sorting keeps each value and rule 2 leaves one of two; and where it is a row, it can be stored.
 -- Assumes nothing.
-use mathlib.Core.Path.{_≡_}
+use mathlib.Core.Path.{refl, ap}
 use mathlib.Core.Bool.{Bool, true, false}
 use mathlib.Core.List.{List, [], _∷_}
 use Prim.Native.Nat.{ℕ, _≤_, _-_}
 use native.Mathlib.Omega.{arith}
-use lib.ListN.{length, take}
+use lib.ListN.{length, drop, length-append}
+use lib.Seq.{take-at}
 use Rattle.letters.specs.Choice.{pick}
-use Rattle.formula.specs.declared.Word.{Word}
-use Rattle.formula.proofs.Held.{held-front, held-fits, held-length}
+use Rattle.formula.specs.Limits.{limit}
+use Rattle.refusals.specs.Outcome.{Outcome}
+use Rattle.refusals.specs.Output.{refused as not-stored, put, too-short}
 use Rattle.storage.specs.Stored.{sortRuns, makesLongVowel, makesLetter, compose, storedForm}
 use Rattle.storage.proofs.Runs.{sort-length}
+use Rattle.normaliser.specs.Normal.{NormaliseRight}
 use Rattle.entries.specs.Change.{Storable}
-use Rattle.wordbook.specs.Calls.{WordStored, HeldForm}
+use Rattle.wordbook.specs.Calls.{refused, WordStored, EnteredFor}
 
 -- rule 2 leaves something of what there is
 compose-some : (word : List ℕ) → 1 ≤ length word → 1 ≤ length (compose word)
@@ -37,12 +40,17 @@ stored-storable word s =
       readable = record { admissible = r .admissible; row = r .row; gives = r .gives; only = r .only };
     }
 
--- the front of a held word's array is the stored form
-pub form-front : {word : List ℕ} {held : Word} → HeldForm word held → take (held .count) (held .values) ≡ storedForm word
-form-front {word} {held} h = held-front held (storedForm word) (h .held-is)
-
-pub form-fits : {word : List ℕ} {held : Word} → HeldForm word held → held .count ≤ length (held .values)
-form-fits {word} {held} h = held-fits held (storedForm word) (h .held-is)
-
-pub form-length : {word : List ℕ} {held : Word} → HeldForm word held → held .count ≡ length (take (held .count) (held .values))
-form-length {word} {held} h = held-length held (storedForm word) (h .held-is)
+-- what the normaliser writes of a word that is not empty goes on to the book: there is room for any stored form
+pub entered-right : (word before after : List ℕ) (o : Outcome) → 1 ≤ length word → limit ≤ length before → NormaliseRight word before after o
+    → EnteredFor word after o
+entered-right word before after o some room (not-stored r e) = refused some r
+entered-right word before after o some room (put {thing = n} s h e) =
+    record {
+      stored = record { some = some; syllables = n; stores = s };
+      fits = omega (arith, ap length e, length-append (storedForm word) (drop (length (storedForm word)) before));
+      front = rw e (take-at (storedForm word) (drop (length (storedForm word)) before) (length (storedForm word)) refl);
+    }
+entered-right word before after o some room (too-short s h e) =
+    let short = s .reads .admissible .short in
+    let z : ⊥ = omega arith in
+    absurd z

@@ -3,18 +3,13 @@
 use mathlib.Core.Path.{_≡_}
 use mathlib.Core.List.{List}
 use Prim.Native.Nat.{ℕ, _≤_}
-use lib.ListN.{length}
-use Rattle.formula.specs.Held.{wordOf}
-use Rattle.formula.specs.declared.Word.{Word}
-use Rattle.refusals.specs.Refusal.{numberOf, placeOf}
-use Rattle.refusals.specs.Outcome.{Outcome, refuses}
+use lib.ListN.{length, take}
+use Rattle.refusals.specs.Outcome.{Outcome, accepts, accepts-both, absent, refuses}
 use Rattle.storage.specs.Stored.{storedForm}
 use Rattle.normaliser.specs.Normal.{StoreRefusedWith, Stores}
 use Rattle.entries.specs.Entries.{entries}
 use Rattle.lookup.specs.Outcome.{addOf, removeOf}
 use Rattle.keeping.specs.Written.{bytesAdded, bytesRemoved}
-use Rattle.wordbook.specs.declared.enter.EnterAnswer.{EnterAnswer}
-use Rattle.wordbook.specs.declared.enter.EnterAnswer.the-variants as entered
 
 -- "Tests run in the order 1, 7, 8, 2, 3 or 4": the refusals of a word that is handed in with a book
 pub data WordRefused (word : List ℕ) : ℕ → ℕ → Type 0 where
@@ -44,11 +39,14 @@ pub record RemovePromise (word before after : List ℕ) (outcome : Outcome) : Ty
   pub answers : CallAnswers word (removeOf (entries before) (storedForm word)) outcome
   pub bytes : after ≡ bytesRemoved outcome before
 
--- the word by value that goes on to the book; an inner contract cites it
-pub record HeldForm (word : List ℕ) (held : Word) : Type 0 where
+-- the stored form that goes on to the book, at the front of values; an inner contract cites it
+pub record FormAt (word values : List ℕ) (count : ℕ) : Type 0 where
   pub stored : WordStored word
-  pub held-is : held ≡ wordOf (storedForm word)
+  pub fits : count ≤ length values
+  pub front : take count values ≡ storedForm word
 
-abbrev pub EnteredFor : List ℕ → EnterAnswer → Word → Type 0
-EnteredFor word entered.Stored held = HeldForm word held
-EnteredFor word (entered.Refused refusal) held = WordRefused word (numberOf refusal) (placeOf refusal)
+abbrev pub EnteredFor : List ℕ → List ℕ → Outcome → Type 0
+EnteredFor word values (accepts count) = FormAt word values count
+EnteredFor word values (accepts-both n m) = ⊥
+EnteredFor word values absent = ⊥
+EnteredFor word values (refuses number place) = WordRefused word number place

@@ -1,4 +1,5 @@
 // The word book: the calls on a book in a lent buffer, for every buffer and every word.
+use formula::Word;
 use lookup::plan::Found;
 use opening::open::Opening;
 use opening::open::open_book;
@@ -12,9 +13,8 @@ ghost use Rattle.lookup.specs.Outcome.{foundOutcome, checkOf, findOf};
 ghost use Rattle.ranking.specs.Rank.{rankOf};
 ghost use Rattle.wordbook.specs.Calls.{CallAnswers, AddPromise, RemovePromise};
 
-pub mod enter; // enter.rt: the word that is handed in with a book
+mod enter; // enter.rt: the word that is handed in with a book
 
-use crate::enter::EnterAnswer;
 use crate::enter::enter;
 
 // Whether the buffer is a book, and how many live records it has.
@@ -31,45 +31,33 @@ pub fn check(book: &[u8]) -> Counted
 pub fn find(book: &[u8], word: &[u16]) -> Found
     ensures { λ r. ⌜ CallAnswers (now (word .entry)) (findOf (entries (now (book .entry))) (storedForm (now (word .entry)))) (foundOutcome r) ⌝ }
 {
-    let entered = enter(word);
-    let answer = entered.answer;
-    if let EnterAnswer::Refused(refusal) = answer {
-        return Found::Refused(refusal);
+    let mut values = [0; Word::LIMIT];
+    match enter(word, &mut values) {
+        Counted::Refused(refusal) => Found::Refused(refusal),
+        Counted::Count(count) => lookup::plan::find(book, &values[..count]),
     }
-    let form = entered.word;
-    let count = form.count;
-    let values = form.values;
-    lookup::plan::find(book, &values[..count])
 }
 
 // Puts a live record with the word just after the last record, and gives its start.
 pub fn add(book: &mut [u8], word: &[u16], stock: u32) -> Counted
     ensures { λ r. ⌜ AddPromise (now (word .entry)) stock (now (book .entry)) (now (book .exit)) (outcomeOf r) ⌝ }
 {
-    let entered = enter(word);
-    let answer = entered.answer;
-    if let EnterAnswer::Refused(refusal) = answer {
-        return Counted::Refused(refusal);
+    let mut values = [0; Word::LIMIT];
+    match enter(word, &mut values) {
+        Counted::Refused(refusal) => Counted::Refused(refusal),
+        Counted::Count(count) => keeping::change::add(book, &values[..count], stock),
     }
-    let form = entered.word;
-    let count = form.count;
-    let values = form.values;
-    keeping::change::add(book, &values[..count], stock)
 }
 
 // Marks the live record with the word as removed, and gives its start.
 pub fn remove(book: &mut [u8], word: &[u16]) -> Counted
     ensures { λ r. ⌜ RemovePromise (now (word .entry)) (now (book .entry)) (now (book .exit)) (outcomeOf r) ⌝ }
 {
-    let entered = enter(word);
-    let answer = entered.answer;
-    if let EnterAnswer::Refused(refusal) = answer {
-        return Counted::Refused(refusal);
+    let mut values = [0; Word::LIMIT];
+    match enter(word, &mut values) {
+        Counted::Refused(refusal) => Counted::Refused(refusal),
+        Counted::Count(count) => keeping::change::remove(book, &values[..count]),
     }
-    let form = entered.word;
-    let count = form.count;
-    let values = form.values;
-    keeping::change::remove(book, &values[..count])
 }
 
 // Start and stock number of the live record with `number` live records before it in word order.

@@ -2,67 +2,75 @@
 -- Assumes nothing.
 use borrow.Author.Needs.{needs}
 use mathlib.Core.Path.{sym, ap, subst, _∙_}
+use lib.Seq.{length-take-le}
 use denote.Ref.{now}
 use Rattle.refusals.specs.Refusal.{numberOf, placeOf}
+use Rattle.refusals.specs.Outcome.{outcomeOf}
+use Rattle.refusals.specs.declared.Counted.{Counted}
 use Rattle.storage.specs.Stored.{storedForm}
 use Rattle.entries.specs.Entries.{entries}
-use Rattle.wordbook.specs.declared.enter.EnterAnswer.{EnterAnswer}
 use Rattle.lookup.specs.Outcome.{findOf}
-use Rattle.wordbook.specs.Calls.{WordRefused, HeldForm, EnteredFor, CallAnswers, word-refused, word-stored}
-use Rattle.wordbook.proofs.Stored.{form-front, form-fits, form-length}
+use Rattle.wordbook.specs.Calls.{WordRefused, FormAt, EnteredFor, CallAnswers, word-refused, word-stored}
 use Rattle.wordbook.proofs.find.Statement.{statement}
 use Rattle.wordbook.proofs.find.Tie as tie
 
 -- the word went on to the book
-form : (c : tie.After-enum-told) → HeldForm (now (c .before .before .before .before .before .args .word)) (c .before .before .enter .result .word)
+form : (c : tie.After-known-told2) → let e = c .before .before .before .before in
+    FormAt (now (e .before .before .before .before .args .word)) (e .enter .last .1 .0) (c .before .count .given .0 .0)
 form c =
-    let e = c .before .before in
-    subst (λ (a : EnterAnswer). EnteredFor (now (e .before .before .before .args .word)) a (e .enter .result .word)) (c .enum-told .given .1) (e .enter .ensures)
+    let e = c .before .before .before .before in
+    subst (λ (a : Counted). EnteredFor (now (e .before .before .before .before .args .word)) (e .enter .last .1 .0) (outcomeOf a)) (c .before .count .given .1)
+    (e .enter .ensures)
 
-refused : (c : tie.After-known-told) → let s = c .before .before .before .before .before .before .args in
-    WordRefused (now (s .word)) (numberOf (c .before .answer .given .0 .0)) (placeOf (c .before .answer .given .0 .0))
+refused : (c : tie.After-known-told) → let e = c .before .before .before .before in
+    WordRefused (now (e .before .before .before .before .args .word)) (numberOf (c .before .refusal .given .0 .0)) (placeOf (c .before .refusal .given .0 .0))
 refused c =
-    let e = c .before .before .before in
-    subst (λ (a : EnterAnswer). EnteredFor (now (e .before .before .before .args .word)) a (e .enter .result .word)) (c .before .answer .given .1) (e .enter .ensures)
+    let e = c .before .before .before .before in
+    subst (λ (a : Counted). EnteredFor (now (e .before .before .before .before .args .word)) (e .enter .last .1 .0) (outcomeOf a)) (c .before .refusal .given .1)
+    (e .enter .ensures)
+
+slice-aggregate-enter : tie.Need-slice-aggregate-enter
+slice-aggregate-enter c = search needs
 
 enter-requires : tie.Need-enter-requires
 enter-requires c κs = search needs
 
-enum-known-answer : tie.Need-enum-known-answer
-enum-known-answer c = search needs
+enum-known-refusal : tie.Need-enum-known-refusal
+enum-known-refusal c = search needs
 
-returns : tie.Need-returns
-returns c = word-refused (refused c)
-
-enum-told : tie.Need-enum-told
-enum-told c = search needs
+enum-known-count : tie.Need-enum-known-count
+enum-known-count c = search needs
 
 array-share-prefix-values : tie.Need-array-share-prefix-values
-array-share-prefix-values c = form-fits (form (c .before .before))
+array-share-prefix-values c = form c .fits
 
 slice-aggregate-find : tie.Need-slice-aggregate-find
-slice-aggregate-find c = form-length (form (c .before .before .before))
+slice-aggregate-find c = sym (length-take-le _ _ (form (c .before) .fits))
 
 find-requires : tie.Need-find-requires
 find-requires c κs = search needs
 
+returns : tie.Need-returns
+returns c = word-refused (refused c)
+
 returns-2 : tie.Need-returns-2
 returns-2 c =
-    let t = c .before .before .before .before in
-    let s = t .before .before .before .before .before .args in
+    let t = c .before .before in
+    let s = t .before .before .before .before .before .before .before .before .args in
     let h = form t in
     subst (CallAnswers (now (s .word)) (findOf (entries (now (s .book))) (storedForm (now (s .word)))))
-    (sym (c .find .ensures ∙ ap (findOf (entries (now (s .book)))) (form-front h))) (word-stored (h .stored))
+    (sym (c .find .ensures ∙ ap (findOf (entries (now (s .book)))) (h .front))) (word-stored (h .stored))
 
 pub find-spec : {M : Type 1} → statement M
 find-spec =
     tie.close
     (tie.spec
+    slice-aggregate-enter
     enter-requires
-    enum-known-answer
-    returns
-    enum-told
+    enum-known-refusal
+    enum-known-count
     array-share-prefix-values
     slice-aggregate-find
     find-requires
+    returns
     returns-2)

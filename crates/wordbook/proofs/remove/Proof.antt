@@ -4,63 +4,69 @@ use borrow.Author.Needs.{needs}
 use mathlib.Core.Path.{refl, sym, subst}
 use mathlib.Core.List.{List}
 use Prim.Native.Nat.{ℕ}
+use lib.Seq.{length-take-le}
 use denote.Ref.{now}
 use Rattle.refusals.specs.Refusal.{numberOf, placeOf}
 use Rattle.refusals.specs.Outcome.{outcomeOf}
+use Rattle.refusals.specs.declared.Counted.{Counted}
 use Rattle.storage.specs.Stored.{storedForm}
 use Rattle.entries.specs.Entries.{entries}
-use Rattle.wordbook.specs.declared.enter.EnterAnswer.{EnterAnswer}
 use Rattle.lookup.specs.Outcome.{removeOf}
 use Rattle.keeping.specs.Written.{RemoveRight}
-use Rattle.wordbook.specs.Calls.{WordRefused, HeldForm, EnteredFor, CallAnswers, word-refused, word-stored}
-use Rattle.wordbook.proofs.Stored.{form-front, form-fits, form-length}
+use Rattle.wordbook.specs.Calls.{WordRefused, FormAt, EnteredFor, CallAnswers, word-refused, word-stored}
 use Rattle.wordbook.proofs.remove.Statement.{statement}
 use Rattle.wordbook.proofs.remove.Tie as tie
 
 -- the word went on to the book
-form : (c : tie.After-enum-told) → HeldForm (now (c .before .before .before .before .before .args .word)) (c .before .before .enter .result .word)
+form : (c : tie.After-known-told2) → let e = c .before .before .before .before in
+    FormAt (now (e .before .before .before .before .args .word)) (e .enter .last .1 .0) (c .before .count .given .0 .0)
 form c =
-    let e = c .before .before in
-    subst (λ (a : EnterAnswer). EnteredFor (now (e .before .before .before .args .word)) a (e .enter .result .word)) (c .enum-told .given .1) (e .enter .ensures)
+    let e = c .before .before .before .before in
+    subst (λ (a : Counted). EnteredFor (now (e .before .before .before .before .args .word)) (e .enter .last .1 .0) (outcomeOf a)) (c .before .count .given .1)
+    (e .enter .ensures)
 
-refused : (c : tie.After-known-told) → let s = c .before .before .before .before .before .before .args in
-    WordRefused (now (s .word)) (numberOf (c .before .answer .given .0 .0)) (placeOf (c .before .answer .given .0 .0))
+refused : (c : tie.After-known-told) → let e = c .before .before .before .before in
+    WordRefused (now (e .before .before .before .before .args .word)) (numberOf (c .before .refusal .given .0 .0)) (placeOf (c .before .refusal .given .0 .0))
 refused c =
-    let e = c .before .before .before in
-    subst (λ (a : EnterAnswer). EnteredFor (now (e .before .before .before .args .word)) a (e .enter .result .word)) (c .before .answer .given .1) (e .enter .ensures)
+    let e = c .before .before .before .before in
+    subst (λ (a : Counted). EnteredFor (now (e .before .before .before .before .args .word)) (e .enter .last .1 .0) (outcomeOf a)) (c .before .refusal .given .1)
+    (e .enter .ensures)
+
+slice-aggregate-enter : tie.Need-slice-aggregate-enter
+slice-aggregate-enter c = search needs
 
 enter-requires : tie.Need-enter-requires
 enter-requires c κs = search needs
 
-enum-known-answer : tie.Need-enum-known-answer
-enum-known-answer c = search needs
+enum-known-refusal : tie.Need-enum-known-refusal
+enum-known-refusal c = search needs
 
-returns : tie.Need-returns
-returns c = record { answers = word-refused (refused c); bytes = refl }
-
-enum-told : tie.Need-enum-told
-enum-told c = search needs
+enum-known-count : tie.Need-enum-known-count
+enum-known-count c = search needs
 
 array-share-prefix-values : tie.Need-array-share-prefix-values
-array-share-prefix-values c = form-fits (form (c .before .before .before))
+array-share-prefix-values c = form (c .before) .fits
 
 slice-aggregate-remove : tie.Need-slice-aggregate-remove
-slice-aggregate-remove c = form-length (form (c .before .before .before .before))
+slice-aggregate-remove c = sym (length-take-le _ _ (form (c .before .before) .fits))
 
 remove-requires : tie.Need-remove-requires
 remove-requires c κs = search needs
+
+returns : tie.Need-returns
+returns c = record { answers = word-refused (refused c); bytes = refl }
 
 same-length : tie.Need-same-length
 same-length c = search needs
 
 returns-2 : tie.Need-returns-2
 returns-2 c =
-    let t = c .before .before .before .before .before .before .before in
-    let s = t .before .before .before .before .before .args in
+    let t = c .before .before .before .before .before in
+    let s = t .before .before .before .before .before .before .before .before .args in
     let h = form t in
     let outcome = outcomeOf (c .before .before .remove .result) in
     let r : RemoveRight (storedForm (now (s .word))) (now (s .book)) (c .before .before .remove .last .0) outcome =
-    subst (λ (w : List ℕ). RemoveRight w (now (s .book)) (c .before .before .remove .last .0) outcome) (form-front h) (c .before .before .remove .ensures) in
+    subst (λ (w : List ℕ). RemoveRight w (now (s .book)) (c .before .before .remove .last .0) outcome) (h .front) (c .before .before .remove .ensures) in
     record {
       answers = subst (CallAnswers (now (s .word)) (removeOf (entries (now (s .book))) (storedForm (now (s .word))))) (sym (r .answer)) (word-stored (h .stored));
       bytes = r .bytes;
@@ -70,12 +76,13 @@ pub remove-spec : {M : Type 1} → statement M
 remove-spec =
     tie.close
     (tie.spec
+    slice-aggregate-enter
     enter-requires
-    enum-known-answer
-    returns
-    enum-told
+    enum-known-refusal
+    enum-known-count
     array-share-prefix-values
     slice-aggregate-remove
     remove-requires
+    returns
     same-length
     returns-2)
