@@ -141,7 +141,7 @@ module _ (word : List ℕ) (at state count : ℕ) (s : WalkStopped word at state
           is = cut;
         }
 
-parts-length : (f : Final) (row : Row) → length (partsAfter f row) ≡ length row
+pub parts-length : (f : Final) (row : Row) → length (partsAfter f row) ≡ length row
 parts-length f [] = refl
 parts-length f (s ∷ row) = ap suc (parts-length (finalOf s) row)
 

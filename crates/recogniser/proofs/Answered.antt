@@ -1,6 +1,6 @@
 -- The answer where a pass has stopped is right: what the machine kept is the word's row, or shows that there is none.
 -- Assumes nothing.
-use mathlib.Core.Path.{_≡_, subst, sym, _∙_}
+use mathlib.Core.Path.{_≡_, refl, subst, sym, _∙_}
 use mathlib.Core.Bool.{Bool, true, false, not}
 use mathlib.Core.List.{List, [], append-nil, reverse}
 use mathlib.Core.Option.{some}
@@ -17,8 +17,8 @@ use Rattle.formula.specs.Row.{Row, Gives, Viable}
 use Rattle.rows.specs.Kept.{endOf, run}
 use Rattle.rows.proofs.Sound.{sound}
 use Rattle.rows.proofs.Admitted.{run-admitted}
-use Rattle.rows.proofs.Viable.{only-row, unfinished, alive, stops, longest}
-use Rattle.recogniser.specs.Answer.{AdmissibleWithin, Admissible, RefusedWithin, RefusedWith, too-long, foreign, no-continuation, unfinished as open-end, Reads, Readable}
+use Rattle.rows.proofs.Viable.{read-back, only-row, unfinished, alive, stops, longest}
+use Rattle.recogniser.specs.Answer.{AdmissibleWithin, Admissible, RefusedWithin, RefusedWith, too-long, foreign, no-continuation, unfinished as open-end, ReadsWithin, Reads, Readable}
 use Rattle.recogniser.specs.Concluded.{AdmittedTo, Halted}
 
 -- whether a test of the row's last final passes
@@ -90,6 +90,17 @@ module _ (word : List ℕ) (at : ℕ) (waits : Bool) (count : ℕ) (s : Halted w
 -- a row that gives the word shows that it is viable
 pub row-viable : (row : Row) (word : List ℕ) → Gives row word → Viable word
 row-viable row word g = record { continuation = []; by = row; gives = record { is-row = g .is-row; joined = g .joined ∙ sym (append-nil word) } }
+
+-- the values of a row are admitted, so a word within the limit that a row gives is read as the row
+pub row-reads : {most : ℕ} (row : Row) (word : List ℕ) → Gives row word → length word ≤ most → ReadsWithin most word (length row)
+row-reads row word g short =
+    record {
+      admissible = record { short = short; admitted = every-at isAdmitted word (run-admitted word [] (reverse row) (read-back row word g)) };
+      row = row;
+      gives = g;
+      only = λ other h. only-row other row word h g;
+      count = refl;
+    }
 
 -- a word that is read is a row, of however many syllables
 pub reads-readable : (word : List ℕ) (n : ℕ) → Reads word n → Readable word

@@ -15,10 +15,10 @@ use Rattle.formula.specs.Record.{finalNumberOf}
 use Rattle.formula.specs.Spelled.{spelledOf, spelled}
 use Rattle.rows.proofs.Complete.{first}
 use Rattle.recogniser.specs.Answer.{Reads}
+use Rattle.recogniser.proofs.Answered.{row-reads}
 use Rattle.spelling.specs.Spell.{joined, startsFrom, spelledStarts}
 use Rattle.spelling.specs.Plain.{plainFinal, plainOf}
 use Rattle.spelling.proofs.Plains.{plain-syllable, plain-part, spelled-small}
-use Rattle.spelling.proofs.Admitted.{row-reads}
 
 -- the syllable with another final
 abbrev pub withFinal : Syllable → Final → Syllable

@@ -2,7 +2,6 @@ pub mod Plains
 pub mod Fronts
 pub mod Answers
 pub mod Determined
-pub mod Admitted
 pub mod Laws
 pub mod Longest
 pub mod RoundTrip

@@ -19,11 +19,10 @@ use Rattle.reading.specs.Reading.{ReadRight}
 use Rattle.reading.specs.Records.{recordOutcomeOf, HasRecord, RecordAnswers, RecordRight}
 use Rattle.reading.specs.declared.read.Reading.{Reading}
 use Rattle.reading.specs.declared.records.SyllableRecord.{SyllableRecord}
-use Rattle.recogniser.proofs.Answered.{refused-no-row}
+use Rattle.recogniser.proofs.Answered.{row-reads, refused-no-row}
 use Rattle.recogniser.proofs.Determined.{answers-alike}
 use Rattle.writing.specs.Write.{Recorded, no-such-row, WriteRight}
 use Rattle.writing.proofs.Laws.{write-determined}
-use Rattle.spelling.proofs.Admitted.{row-reads}
 
 record-length : (s : Syllable) → length (recordOf s) ≡ 7
 unfolding recordOf

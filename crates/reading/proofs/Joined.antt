@@ -1,0 +1,61 @@
+-- Document 01, "The syllable": "Parts joined give the word". So do those of its row, and those that are asked for by number.
+-- Assumes nothing.
+use mathlib.Core.Path.{_≡_, refl, ap, sym, _∙_}
+use mathlib.Core.List.{List, [], _∷_, _++_, flatten}
+use Prim.Native.Nat.{ℕ, zero, suc, _≤_, _<_, suc-le-suc}
+use native.Mathlib.Omega.{arith}
+use lib.ListN.{length, getD, take, drop}
+use Rattle.formula.specs.Limits.{limit}
+use Rattle.formula.specs.Syllable.{Final, no-final, finalOf, part}
+use Rattle.formula.specs.Row.{Row, partsAfter, parts, joinAfter, Gives}
+use Rattle.recogniser.proofs.Answered.{row-reads}
+use Rattle.reading.specs.Parts.{PartRight, partOutcomeOf, PartAnswers}
+use Rattle.reading.specs.declared.parts.PartAnswer.{PartAnswer}
+use Rattle.reading.specs.declared.parts.PartAnswer.the-variants.{At, NoSyllable, Refused}
+use Rattle.reading.proofs.Parted.{parts-length, part-right, part-beyond, part-refused}
+
+parts-join : (f : Final) (row : Row) → flatten (partsAfter f row) ≡ joinAfter f row
+unfolding flatten
+parts-join f [] = refl
+parts-join f (s ∷ row) = ap (λ (l : List ℕ). part f s ++ l) (parts-join (finalOf s) row)
+
+-- the parts of a row, joined, are the word that it gives
+pub parts-joined : (row : Row) (word : List ℕ) → Gives row word → flatten (parts row) ≡ word
+parts-joined row word g = parts-join no-final row ∙ g .joined
+
+-- the lists of the numbers 0 to n - 1, joined in order
+abbrev pub joinedTo : ℕ → (ℕ → List ℕ) → List ℕ
+joinedTo zero list = []
+joinedTo (suc n) list = list 0 ++ joinedTo n (λ (number : ℕ). list (suc number))
+
+numbered-join : (lists : List (List ℕ)) (list : ℕ → List ℕ) → ((number : ℕ) → number < length lists → list number ≡ getD lists number [])
+    → joinedTo (length lists) list ≡ flatten lists
+unfolding flatten
+numbered-join [] list is = refl
+numbered-join (l ∷ lists) list is =
+    ap (λ (k : List ℕ). k ++ joinedTo (length lists) (λ (number : ℕ). list (suc number))) (is 0 (omega arith))
+    ∙ ap (λ (k : List ℕ). l ++ k) (numbered-join lists (λ (number : ℕ). list (suc number)) (λ number h. is (suc number) (suc-le-suc h)))
+
+-- the part that an answer tells the place of
+abbrev pub partBy : List ℕ → PartAnswer → List ℕ
+partBy word (At place size) = take size (drop place word)
+partBy word NoSyllable = []
+partBy word (Refused refusal) = []
+
+told-right : (word : List ℕ) (number : ℕ) (answer : PartAnswer) → PartAnswers word number (partOutcomeOf answer)
+    → PartRight word number (partBy word answer)
+told-right word number (At place size) a = part-right word number place size a
+told-right word number NoSyllable a = part-beyond word number a
+told-right word number (Refused refusal) a = part-refused word number _ _ a
+
+module _ (row : Row) (word : List ℕ) (gives : Gives row word) (short : length word ≤ limit) where
+  -- the parts of a word by number, from 0 to that of its last syllable, joined, are the word
+  pub parts-by-number : (at : ℕ → List ℕ) → ((number : ℕ) → PartRight word number (at number)) → joinedTo (length row) at ≡ word
+  parts-by-number at right =
+      ap (λ (n : ℕ). joinedTo n at) (sym (parts-length no-final row))
+      ∙ numbered-join (parts row) at (λ number _. right number .has (row-reads row word gives short .admissible) row gives) ∙ parts-joined row word gives
+
+  -- and so are the parts at the places and of the lengths that are told by number
+  pub places-by-number : (answer : ℕ → PartAnswer) → ((number : ℕ) → PartAnswers word number (partOutcomeOf (answer number)))
+      → joinedTo (length row) (λ (number : ℕ). partBy word (answer number)) ≡ word
+  places-by-number answer right = parts-by-number _ (λ number. told-right word number (answer number) (right number))
