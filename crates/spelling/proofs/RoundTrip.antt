@@ -1,16 +1,17 @@
 -- Reading and writing undo each other: a row is known by its word and by its records, and both entry points promise the word or the records of a row.
 -- Assumes nothing.
 use mathlib.Core.Path.{_≡_, refl, ap, sym, _∙_}
-use mathlib.Core.List.{List, [], _∷_, _++_}
-use Prim.Native.Nat.{ℕ, zero, suc, _+_, _*_, _≤_, _<_}
+use mathlib.Core.List.{List, [], _∷_, _++_, map}
+use Prim.Native.Nat.{ℕ, zero, suc, _+_, _-_, _*_, _≤_, _<_}
 use native.Mathlib.Nat.{le-of-suc-le-suc, not-suc-le-zero}
 use native.Mathlib.Omega.{arith}
-use lib.ListN.{length, getD, take, drop, length-append, length-drop, take-append-drop}
+use lib.ListN.{length, getD, take, drop, replicate, length-append, length-drop, take-append-drop}
 use lib.Seq.{take-at, drop-at, drop-drop}
 use Rattle.formula.specs.Limits.{limit}
 use Rattle.formula.specs.Syllable.{Syllable, syllable, bare}
-use Rattle.formula.specs.Row.{Row, join, Gives}
+use Rattle.formula.specs.Row.{Row, IsRow, join, Gives}
 use Rattle.formula.specs.Record.{recordOf, recordBytes}
+use Rattle.formula.specs.Packed.{packed}
 use Rattle.refusals.specs.Outcome.{Outcome, accepts, accepts-both, absent, refuses, outcomeOf}
 use Rattle.refusals.specs.Output.{refused, put, too-short}
 use Rattle.rows.proofs.Viable.{only-row}
@@ -185,3 +186,35 @@ write-then-read bytes before after outcome count w done reading right =
     ap (take count) (a .front) ∙ take-at (join (a .row)) (drop (length (join (a .row))) before) count (sym (a .count)) in
     read-back (take count after) bytes (a .row) (record { is-row = a .recorded .is-row; joined = sym front }) (a .recorded .records)
     (omega (arith, a .recorded .short, ap length front)) reading right
+
+-- a row that comes back: its word is written, and the reading of that has its number of syllables, these packed and their records, and no other
+-- row gives what was written
+pub record Restored (row : Row) (before after : List ℕ) (outcome : Outcome) (reading : Reading) : Type 0 where
+  pub written : WrittenTo (join row) before after outcome
+  pub counted : outcomeOf (reading .answer) ≡ accepts (length row)
+  pub gives : Gives row (take (length (join row)) after)
+  pub only : (other : Row) → Gives other (take (length (join row)) after) → other ≡ row
+  pub syllables : reading .syllables ≡ map packed row ++ replicate (limit - length row) 0
+  pub records : (number : ℕ) → number < length row → (r : SyllableRecord) → RecordRight (take (length (join row)) after) number r
+      → r .bytes ≡ recordOf (getD row number (bare 0x1000))
+
+-- for every row of at most 64 values: reading what is written from its records restores the row
+pub row-restored : (row : Row) → IsRow row → length (join row) ≤ limit → (before after : List ℕ) (outcome : Outcome) → length (join row) ≤ length before
+    → WriteRight (recordBytes row) before after outcome → (reading : Reading) → ReadRight (take (length (join row)) after) reading
+    → Restored row before after outcome reading
+row-restored row is short before after outcome room w reading right =
+    let p = row-accepted (recordBytes row) before after outcome row (record { is-row = is; records = refl; short = short }) room w in
+    let word = take (length (join row)) after in
+    let front : word ≡ join row = ap (take (length (join row))) (p .front) ∙ take-at (join row) (drop (length (join row)) before) (length (join row)) refl in
+    let g : Gives row word = record { is-row = is; joined = sym front } in
+    let fits : length word ≤ limit = omega (arith, ap length front) in
+    let counted = answers-alike word (outcomeOf (reading .answer)) (accepts (length row)) (right .answers) (row-reads row word g fits) in
+    record {
+      written = p;
+      counted = counted;
+      gives = g;
+      only = λ other h. only-row other row word h g;
+      syllables = (rw counted at (right .syllables)) row g;
+      records = λ number below r h.
+          asked word (recordBytes row) row g refl fits number below (recordOutcomeOf (r .answer)) (r .bytes) h .1 ∙ record-number row number below;
+    }
