@@ -10,7 +10,7 @@ use lib.Dec.{ltb}
 use lib.ListN.{length, length-append}
 use borrow.Author.Tests.{lt-ltb, le-ltb}
 use Rattle.letters.specs.Choice.{pick}
-use Rattle.key_text.specs.Text.{digitOf, decimalWithin, decimalOf}
+use Rattle.key_text.specs.Text.{digitOf, decimalWithin, decimalOf, decimalLimit}
 
 -- any two bounds above the number give the same digits
 within-same : (f g n : ℕ) → n < f → n < g → decimalWithin f n ≡ decimalWithin g n
@@ -47,9 +47,9 @@ short-within (suc k) n h = go (decLt n 10) (short-within k (n / 10) (omega arith
     go (no l) s = rw (decimal-more n (omega arith), length-append) (omega arith)
 
 -- a number of 64 bits has at most twenty digits
-pub decimal-short : (n : ℕ) → n < 2 ^ 64 → length (decimalOf n) ≤ 20
+pub decimal-short : (n : ℕ) → n < 2 ^ 64 → length (decimalOf n) ≤ decimalLimit
 decimal-short n h = short-within 19 n (omega arith)
 
 -- and its tenth part one less
-pub decimal-shorter : (n : ℕ) → n < 2 ^ 64 → length (decimalOf (n / 10)) ≤ 19
-decimal-shorter n h = short-within 18 (n / 10) (omega arith)
+pub decimal-shorter : (n : ℕ) → n < 2 ^ 64 → length (decimalOf (n / 10)) < decimalLimit
+decimal-shorter n h = omega (arith, short-within 18 (n / 10) (omega arith))

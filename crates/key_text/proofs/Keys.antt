@@ -1,4 +1,4 @@
--- The text of a key as its loop writes it: a syllable a turn, and a hyphen behind all but the last, at most eleven bytes.
+-- The text of a key as its loops write it: a weight a turn, and a syllable a turn with a hyphen behind all but the last.
 -- Assumes nothing.
 use mathlib.Core.Path.{_≡_, refl, ap, sym, _∙_}
 use mathlib.Core.List.{List, [], _∷_, _++_, append-assoc, append-nil}
@@ -6,15 +6,21 @@ use Prim.Native.Nat.{ℕ, zero, suc, _+_, _*_, _≤_, _<_}
 use native.Mathlib.Omega.{arith}
 use native.Mathlib.Numerals.{add-one}
 use lib.ListN.{length, length-append}
-use Rattle.key_text.specs.Text.{syllableText, furtherText, keyText}
+use Rattle.formula.specs.Limits.{limit, weightCount}
+use Rattle.weighing.specs.Keys.{usedBytes}
+use Rattle.key_text.specs.Text.{hexadecimalsOf, syllableText, furtherText, keyText, syllableTextSize, keyTextLimit}
 use Rattle.key_text.specs.Put.{Put}
 use Rattle.key_text.proofs.Putting.{put-nothing, put-after, put-length}
 
-pub syllable-length : (key : List ℕ) (syllable : ℕ) → length (syllableText key syllable) ≡ 10
-unfolding syllableText
-syllable-length key syllable = refl
+pub hexadecimals-length : (count : ℕ) (bytes : List ℕ) (from : ℕ) → length (hexadecimalsOf count bytes from) ≡ 2 * count
+hexadecimals-length zero bytes from = refl
+hexadecimals-length (suc count) bytes from = rw length-append (omega (arith, hexadecimals-length count bytes from))
 
-pub further-length : (count : ℕ) (key : List ℕ) → length (furtherText count key) ≡ 11 * count
+pub syllable-length : (key : List ℕ) (syllable : ℕ) → length (syllableText key syllable) ≡ syllableTextSize
+unfolding syllableText
+syllable-length key syllable = hexadecimals-length weightCount key (usedBytes syllable)
+
+pub further-length : (count : ℕ) (key : List ℕ) → length (furtherText count key) ≡ suc syllableTextSize * count
 further-length zero key = refl
 further-length (suc count) key =
     rw length-append (omega (arith, further-length count key, syllable-length key (suc count)))
@@ -24,7 +30,7 @@ pub record Further (key : List ℕ) (start : List ℕ) (from : ℕ) (count : ℕ
   pub text : List ℕ
   pub put : Put start from text out next
   pub within : done ≤ count
-  pub short : length text ≤ 11 * done
+  pub short : length text ≤ suc syllableTextSize * done
   pub ready : done < count → text ++ syllableText key done ≡ keyText (suc done) key
   pub whole : done ≡ count → text ≡ keyText count key
 
@@ -71,7 +77,7 @@ module _ {key start out middle : List ℕ} {from count next place done : ℕ} (f
 
 -- where one more syllable with a hyphen goes, there is room
 pub further-room : {key start out : List ℕ} {from count next done : ℕ} → Further key start from count out next done
-    → done < count → count ≤ 64 → from + 704 ≤ length start → next + 11 ≤ length out
+    → done < count → count ≤ limit → from + keyTextLimit ≤ length start → next + suc syllableTextSize ≤ length out
 further-room {key} {start} {out} {from} {count} {next} {done} f h k room = omega (arith, put-length (f .put), f .put .next, f .short)
 
 pub key-whole : {key start out : List ℕ} {from count next done : ℕ} → Further key start from count out next done → count ≤ done
@@ -80,6 +86,6 @@ key-whole {key} {start} {out} {from} {count} {next} {done} f h =
     let same : done ≡ count = omega (arith, f .within) in
     rw (f .whole same) at (f .put)
 
-pub key-short : (count : ℕ) (key : List ℕ) → count ≤ 64 → length (keyText count key) ≤ 704
+pub key-short : (count : ℕ) (key : List ℕ) → count ≤ limit → length (keyText count key) ≤ keyTextLimit
 key-short zero key h = omega arith
 key-short (suc count) key h = rw length-append (omega (arith, syllable-length key 0, further-length count key))

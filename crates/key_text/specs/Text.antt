@@ -5,6 +5,8 @@ use Prim.Native.Nat.{ℕ, zero, suc, _+_, _*_, _-_, _/_, _%_}
 use lib.Dec.{ltb}
 use lib.ListN.{getD}
 use Rattle.letters.specs.Choice.{pick}
+use Rattle.formula.specs.Limits.{limit, weightCount}
+use Rattle.weighing.specs.Keys.{usedBytes}
 
 -- "upper-case": the byte of a digit below 16, 0 to 9 and then A to F
 unfoldable pub digitOf : ℕ → ℕ
@@ -24,14 +26,14 @@ decimalOf number = decimalWithin (suc number) number
 abbrev pub hexadecimalOf : ℕ → List ℕ
 hexadecimalOf byte = digitOf (byte / 16) ∷ digitOf (byte % 16) ∷ []
 
--- the five weights of a syllable of a key
+-- so many bytes of a list from a place on, one behind the other
+abbrev pub hexadecimalsOf : ℕ → List ℕ → ℕ → List ℕ
+hexadecimalsOf zero bytes from = []
+hexadecimalsOf (suc count) bytes from = hexadecimalsOf count bytes from ++ hexadecimalOf (getD bytes (from + count) 0)
+
+-- the weights of a syllable of a key
 unfoldable pub syllableText : List ℕ → ℕ → List ℕ
-syllableText key syllable =
-    hexadecimalOf (getD key (5 * syllable) 0)
-    ++ hexadecimalOf (getD key (5 * syllable + 1) 0)
-    ++ hexadecimalOf (getD key (5 * syllable + 2) 0)
-    ++ hexadecimalOf (getD key (5 * syllable + 3) 0)
-    ++ hexadecimalOf (getD key (5 * syllable + 4) 0)
+syllableText key syllable = hexadecimalsOf weightCount key (usedBytes syllable)
 
 -- the syllables of a key behind the first, as many as the number says, each behind a hyphen
 abbrev pub furtherText : ℕ → List ℕ → List ℕ
@@ -42,3 +44,15 @@ furtherText (suc count) key = furtherText count key ++ (0x2D ∷ syllableText ke
 abbrev pub keyText : ℕ → List ℕ → List ℕ
 keyText zero key = 0x2D ∷ []
 keyText (suc count) key = syllableText key 0 ++ furtherText count key
+
+-- the most digits of a number of 64 bits in decimal
+abbrev pub decimalLimit : ℕ
+decimalLimit = 20
+
+-- the bytes of a syllable's text: two digits for each weight
+abbrev pub syllableTextSize : ℕ
+syllableTextSize = 2 * weightCount
+
+-- the most bytes of a key's text: for each syllable its weights and a hyphen
+abbrev pub keyTextLimit : ℕ
+keyTextLimit = suc syllableTextSize * limit

@@ -1,11 +1,19 @@
 // Numbers, keys and single bytes as text, written into a lent list at a place. Each function answers the place behind what it wrote.
+use formula::Word;
 ghost use Prim.Native.Nat.{_+_, _≤_, _<_};
 ghost use mathlib.Core.Path.{_≡_};
 ghost use mathlib.Core.List.{[], _∷_};
 ghost use lib.ListN.{length};
 ghost use Rattle.formula.specs.Limits.{limit};
 ghost use Rattle.key_text.specs.Text.{digitOf, decimalOf, hexadecimalOf, syllableText, keyText};
+ghost use Rattle.key_text.specs.Text.{decimalLimit, syllableTextSize, keyTextLimit};
 ghost use Rattle.key_text.specs.Put.{Put};
+
+// The most digits of a number in decimal.
+pub const DECIMAL_LIMIT: usize = 20;
+
+// The most bytes of a key's text: for each syllable two digits a weight and a hyphen.
+pub const KEY_TEXT_LIMIT: usize = (2 * Word::WEIGHTS + 1) * Word::LIMIT;
 
 // One byte.
 pub fn put(out: &mut [u8], at: usize, byte: u8) -> usize
@@ -30,7 +38,7 @@ fn digit(value: u8) -> u8
 
 // A number in decimal, without leading zeros.
 pub fn put_decimal(out: &mut [u8], at: usize, number: u64) -> usize
-    requires { ⌜ at + 20 ≤ length (now out) ⌝ }
+    requires { ⌜ at + decimalLimit ≤ length (now out) ⌝ }
     ensures { λ r. ⌜ Put (now (out .entry)) at (decimalOf number) (now (out .exit)) r ⌝ }
 {
     if number < 10 {
@@ -49,22 +57,24 @@ fn put_hexadecimal(out: &mut [u8], at: usize, byte: u8) -> usize
     put(out, next, digit(byte % 16))
 }
 
-// The five weights of a syllable of a key.
-fn put_syllable(out: &mut [u8], at: usize, key: &[u8; 320], syllable: usize) -> usize
-    requires { ⌜ (at + 10 ≤ length (now out)) × (syllable < limit) ⌝ }
+// The weights of a syllable of a key.
+fn put_syllable(out: &mut [u8], at: usize, key: &[u8; Word::KEY], syllable: usize) -> usize
+    requires { ⌜ (at + syllableTextSize ≤ length (now out)) × (syllable < limit) ⌝ }
     ensures { λ r. ⌜ Put (now (out .entry)) at (syllableText (now (key .entry)) syllable) (now (out .exit)) r ⌝ }
 {
-    let first = 5 * syllable;
-    let head = put_hexadecimal(out, at, key[first]);
-    let medial = put_hexadecimal(out, head, key[first + 1]);
-    let last = put_hexadecimal(out, medial, key[first + 2]);
-    let vowel = put_hexadecimal(out, last, key[first + 3]);
-    put_hexadecimal(out, vowel, key[first + 4])
+    let first = Word::WEIGHTS * syllable;
+    let mut next = at;
+    let mut done = 0;
+    while done < Word::WEIGHTS {
+        next = put_hexadecimal(out, next, key[first + done]);
+        done += 1;
+    }
+    next
 }
 
 // A key of `count` syllables, with hyphens between them.
-pub fn put_key(out: &mut [u8], at: usize, count: usize, key: &[u8; 320]) -> usize
-    requires { ⌜ (at + 704 ≤ length (now out)) × (count ≤ limit) ⌝ }
+pub fn put_key(out: &mut [u8], at: usize, count: usize, key: &[u8; Word::KEY]) -> usize
+    requires { ⌜ (at + keyTextLimit ≤ length (now out)) × (count ≤ limit) ⌝ }
     ensures { λ r. ⌜ Put (now (out .entry)) at (keyText count (now (key .entry))) (now (out .exit)) r ⌝ }
 {
     if count == 0 {

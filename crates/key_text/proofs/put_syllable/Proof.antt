@@ -1,85 +1,77 @@
--- `key_text::put_syllable` meets its contract: the five weights are written one behind the other.
+-- `key_text::put_syllable` meets its contract. The loop's invariant: the weights so far are written, two digits for each. The measure is the number of weights that are left.
 -- Assumes nothing.
-use Rattle.key_text.specs.Text.{syllableText}
-use Rattle.key_text.proofs.Putting.{put-after}
-use borrow.Author.Needs.{needs}
+use mathlib.Core.Path.{_≡_}
+use Prim.Native.Nat.{_-_, _≤_}
+use native.Mathlib.Omega.{arith}
+use native.Mathlib.Numerals.{add-one}
+use denote.Ref.{now}
+use Rattle.formula.specs.Limits.{weightCount}
+use Rattle.weighing.specs.Keys.{usedBytes}
+use Rattle.key_text.specs.Put.{Put}
+use Rattle.key_text.specs.Text.{hexadecimalsOf, syllableText}
+use Rattle.key_text.proofs.Putting.{put-nothing, put-after, put-length}
+use Rattle.key_text.proofs.Keys.{hexadecimals-length}
 use Rattle.key_text.proofs.put_syllable.Statement.{statement}
 use Rattle.key_text.proofs.put_syllable.Tie as tie
 
-mul-first : tie.Need-mul-first
-mul-first c = search needs
+abbrev Inv-loop : tie.InvT-loop
+Inv-loop out₀ at key syllable first next₀ done₀ out next done =
+    Put out₀ at (hexadecimalsOf done key first) out next × (done ≤ weightCount)
 
-element-copy-out-put-hexadecimal : tie.Need-element-copy-out-put-hexadecimal
-element-copy-out-put-hexadecimal c = search needs
+abbrev μ-loop : tie.MeasureT-loop
+μ-loop out₀ at key syllable first next₀ done₀ out next done = weightCount - done
 
-put-hexadecimal-requires : tie.Need-put-hexadecimal-requires
-put-hexadecimal-requires c κs = search needs
+mul-first : tie.Need-mul-first Inv-loop μ-loop
+mul-first c = omega arith
 
-add-put-hexadecimal : tie.Need-add-put-hexadecimal
-add-put-hexadecimal c = search needs
+loop-holds : tie.Need-loop-holds Inv-loop μ-loop
+loop-holds c = (put-nothing _ _, omega arith)
 
-element-copy-out-put-hexadecimal-2 : tie.Need-element-copy-out-put-hexadecimal-2
-element-copy-out-put-hexadecimal-2 c = search needs
+add-put-hexadecimal : tie.Need-add-put-hexadecimal Inv-loop μ-loop
+add-put-hexadecimal c = omega arith
 
-put-hexadecimal-requires-2 : tie.Need-put-hexadecimal-requires-2
-put-hexadecimal-requires-2 c κs = search needs
+element-copy-out-put-hexadecimal : tie.Need-element-copy-out-put-hexadecimal Inv-loop μ-loop
+element-copy-out-put-hexadecimal c = omega arith
 
-add-put-hexadecimal-2 : tie.Need-add-put-hexadecimal-2
-add-put-hexadecimal-2 c = search needs
+put-hexadecimal-requires : tie.Need-put-hexadecimal-requires Inv-loop μ-loop
+put-hexadecimal-requires c κs =
+    let l = c .before .before .before in
+    let s = l .before .before in
+    omega (arith, put-length (l .loop .inv .0), l .loop .inv .0 .next, hexadecimals-length (l .loop .done) (now (s .args .key)) (usedBytes (s .args .syllable)))
 
-element-copy-out-put-hexadecimal-3 : tie.Need-element-copy-out-put-hexadecimal-3
-element-copy-out-put-hexadecimal-3 c = search needs
+add-done : tie.Need-add-done Inv-loop μ-loop
+add-done c = omega arith
 
-put-hexadecimal-requires-3 : tie.Need-put-hexadecimal-requires-3
-put-hexadecimal-requires-3 c κs = search needs
+loop-less : tie.Need-loop-less Inv-loop μ-loop
+loop-less c = omega arith
 
-add-put-hexadecimal-3 : tie.Need-add-put-hexadecimal-3
-add-put-hexadecimal-3 c = search needs
+loop-again : tie.Need-loop-again Inv-loop μ-loop
+loop-again c =
+    let l = c .before .before .before .before .before .before in
+    (rw add-one (put-after (l .loop .inv .0) (c .before .before .put-hexadecimal .ensures)), omega arith)
 
-element-copy-out-put-hexadecimal-4 : tie.Need-element-copy-out-put-hexadecimal-4
-element-copy-out-put-hexadecimal-4 c = search needs
+same-length : tie.Need-same-length Inv-loop μ-loop
+same-length c = put-length (c .before .loop .inv .0)
 
-put-hexadecimal-requires-4 : tie.Need-put-hexadecimal-requires-4
-put-hexadecimal-requires-4 c κs = search needs
-
-add-put-hexadecimal-4 : tie.Need-add-put-hexadecimal-4
-add-put-hexadecimal-4 c = search needs
-
-element-copy-out-put-hexadecimal-5 : tie.Need-element-copy-out-put-hexadecimal-5
-element-copy-out-put-hexadecimal-5 c = search needs
-
-put-hexadecimal-requires-5 : tie.Need-put-hexadecimal-requires-5
-put-hexadecimal-requires-5 c κs = search needs
-
-same-length : tie.Need-same-length
-same-length c = search needs
-
-returns : tie.Need-returns
+returns : tie.Need-returns Inv-loop μ-loop
 unfolding syllableText
 returns c =
-    put-after (c .before .before .before .before .before .before .before .before .before .before .before .before .before .before .before .before .before .before .before .before .before .before .put-hexadecimal .ensures)
-    (put-after (c .before .before .before .before .before .before .before .before .before .before .before .before .before .before .before .before .before .put-hexadecimal2 .ensures)
-    (put-after (c .before .before .before .before .before .before .before .before .before .before .before .before .put-hexadecimal3 .ensures)
-    (put-after (c .before .before .before .before .before .before .before .put-hexadecimal4 .ensures) (c .before .before .put-hexadecimal5 .ensures))))
+    let whole : c .before .loop .done ≡ weightCount = omega arith in
+    rw whole at (c .before .loop .inv .0)
 
 pub put-syllable-spec : {M : Type 1} → statement M
 put-syllable-spec =
     tie.close
     (tie.spec
+    Inv-loop
+    μ-loop
     mul-first
+    loop-holds
+    add-put-hexadecimal
     element-copy-out-put-hexadecimal
     put-hexadecimal-requires
-    add-put-hexadecimal
-    element-copy-out-put-hexadecimal-2
-    put-hexadecimal-requires-2
-    add-put-hexadecimal-2
-    element-copy-out-put-hexadecimal-3
-    put-hexadecimal-requires-3
-    add-put-hexadecimal-3
-    element-copy-out-put-hexadecimal-4
-    put-hexadecimal-requires-4
-    add-put-hexadecimal-4
-    element-copy-out-put-hexadecimal-5
-    put-hexadecimal-requires-5
+    add-done
+    loop-less
+    loop-again
     same-length
     returns)
