@@ -21,7 +21,7 @@ AllEncodable [] = Unit {0}
 AllEncodable (v ∷ vs) = Encodable v × AllEncodable vs
 
 -- the bytes of a value are a three
-encoded-bounds : (v : ℕ) → Encodable v → Bounds 0xE1 (0x80 + (v - 0x1000) / 64) (0x80 + (v - 0x1000) % 64)
+encoded-bounds : (v : ℕ) → Encodable v → Bounds 0xE1 (0x80 + (v - 0x1000) / 0x40) (0x80 + (v - 0x1000) % 0x40)
 encoded-bounds v h = record {
   first = refl;
   second-least = omega arith;
@@ -35,7 +35,7 @@ pub decode-encode : (p : ℕ) (vs : List ℕ) → AllEncodable vs → decodeFrom
 unfolding pick after
 decode-encode p [] h = refl
 decode-encode p (v ∷ vs) (here, rest) =
-    let own : valueOf (0x80 + (v - 0x1000) / 64) (0x80 + (v - 0x1000) % 64) ≡ v = omega arith in
+    let own : valueOf (0x80 + (v - 0x1000) / 0x40) (0x80 + (v - 0x1000) % 0x40) ≡ v = omega arith in
     rw (bounds-three _ _ _ (encoded-bounds v here), decode-encode (p + 3) vs rest, own)
 
 -- what a decoding says of its line: the values are those that threes can hold, and they encode to the line
@@ -51,8 +51,8 @@ encodes-three a b c p line false e d h = tt
 encodes-three a b c p line true e (faulty q) h = tt
 encodes-three a b c p line true e (values vs) h =
     let bounds = three-bounds a b c e in
-    let second : 0x80 + (valueOf b c - 0x1000) / 64 ≡ b = omega arith in
-    let third : 0x80 + (valueOf b c - 0x1000) % 64 ≡ c = omega arith in (
+    let second : 0x80 + (valueOf b c - 0x1000) / 0x40 ≡ b = omega arith in
+    let third : 0x80 + (valueOf b c - 0x1000) % 0x40 ≡ c = omega arith in (
       cc,
       (record { least = omega arith; most = omega arith }, h .1),
     )

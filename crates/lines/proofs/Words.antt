@@ -2,9 +2,10 @@
 -- Assumes nothing.
 use mathlib.Core.Path.{_≡_, refl}
 use mathlib.Core.List.{List, [], _∷_, map}
-use Prim.Native.Nat.{ℕ}
+use Prim.Native.Nat.{ℕ, suc}
 use lib.ListN.{replicate}
 use Rattle.letters.specs.Choice.{pick}
+use Rattle.formula.specs.Limits.{limit, lineLimit}
 use Rattle.refusals.specs.declared.Refusal.the-variants.{TooLong, FaultyLine}
 use Rattle.lines.specs.Line.{isThree, values, after, encode, refusedLine}
 use Rattle.lines.specs.declared.Decoded.{Decoded}
@@ -35,10 +36,10 @@ words =
     ∷ (0xE1 ∷ 0x80 ∷ 0x80 ∷ 0x0D ∷ [], refusedLine (FaultyLine 3))
     -- two faulty threes: the first counts
     ∷ (0xE1 ∷ 0x80 ∷ 0x80 ∷ 0xE1 ∷ 0x80 ∷ 0xC0 ∷ 0xE1 ∷ 0x82 ∷ 0x80 ∷ [], refusedLine (FaultyLine 3))
-    -- 64 values are a word; 65 values, and 193 bytes that are no UTF-8, are refusal 1
-    ∷ (encode (replicate 64 0x1000), word (replicate 64 0x1000))
-    ∷ (encode (replicate 65 0x1000), refusedLine TooLong)
-    ∷ (replicate 193 0x61, refusedLine TooLong)
+    -- as many values as the limit are a word; one more, and a longer line that is no UTF-8, are refusal 1
+    ∷ (encode (replicate limit 0x1000), word (replicate limit 0x1000))
+    ∷ (encode (replicate (suc limit) 0x1000), refusedLine TooLong)
+    ∷ (replicate (suc lineLimit) 0x61, refusedLine TooLong)
     ∷ []
 
 -- each line of the table has its answer

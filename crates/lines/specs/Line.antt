@@ -21,7 +21,7 @@ isThree a b c = eqb a 0xE1 && leb 0x80 b && leb b 0x81 && leb 0x80 c && leb c 0x
 
 -- "It reads UTF-8 lines": the code value of a three, 1000 and the low six bits of its second and its third byte
 abbrev pub valueOf : ℕ → ℕ → ℕ
-valueOf b c = 0x1000 + (b - 0x80) * 64 + (c - 0x80)
+valueOf b c = 0x1000 + (b - 0x80) * 0x40 + (c - 0x80)
 
 -- the values of a line, or the "byte place where the first faulty three begins"
 pub data Decoding : Type 0 where
@@ -44,7 +44,7 @@ decodeFrom p (a ∷ b ∷ c ∷ line) =
 -- "UTF-8 lines", the other way: the bytes of values from 1000 to 107F, three for each
 abbrev pub encode : List ℕ → List ℕ
 encode [] = []
-encode (v ∷ vs) = 0xE1 ∷ (0x80 + (v - 0x1000) / 64) ∷ (0x80 + (v - 0x1000) % 64) ∷ encode vs
+encode (v ∷ vs) = 0xE1 ∷ (0x80 + (v - 0x1000) / 0x40) ∷ (0x80 + (v - 0x1000) % 0x40) ∷ encode vs
 
 -- the line is not too long, and these are its values
 pub record Decodes (line word : List ℕ) : Type 0 where

@@ -70,7 +70,7 @@ fn three_of(first: u8, second: u8, third: u8) -> Three
     ensures { λ r. ⌜ r ≡ threeOf first second third ⌝ }
 {
     if is_three(first, second, third) {
-        Three::Value(0x1000 + (second as u16 - 0x80) * 64 + (third as u16 - 0x80))
+        Three::Value(0x1000 + (second as u16 - 0x80) * 0x40 + (third as u16 - 0x80))
     } else {
         Three::Faulty
     }
