@@ -89,13 +89,17 @@ module _ {chunk kept out kept-now out-now : List ℕ} {current : OpenLine} {reac
     answered = λ bytes text f. rw (take-all (reached .at) chunk over) at (p .answered bytes text f);
   }
 
+-- the bytes of a large buffer of `io`
+abbrev bufferSize : ℕ
+bufferSize = 65536
+
 -- between two reads: each of the calls that are left brings no more lines than a chunk has bytes, and what was printed follows the bytes so far
 pub record Going (chunk : List ℕ) (kept : List ℕ) (out : List ℕ) (current : OpenLine) (calls : ℕ) : Type 0 where
-  pub chunk-size : 65536 ≡ length chunk
-  pub kept-size : 193 ≡ length kept
-  pub out-size : 65536 ≡ length out
+  pub chunk-size : bufferSize ≡ length chunk
+  pub kept-size : keptLimit ≡ length kept
+  pub out-size : bufferSize ≡ length out
   pub held : current .kept ≤ keptLimit
-  pub numbers : current .number + 65536 * calls < 2 ^ 63
+  pub numbers : current .number + bufferSize * calls < 2 ^ 63
   pub bytes : List ℕ
   pub text : List ℕ
   pub follows : Follows bytes kept (current .kept) (current .number) text

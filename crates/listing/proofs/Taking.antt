@@ -11,7 +11,7 @@ use lib.Seq.{sets-eq, slice, slice-empty, take-all, take-take, take-add, length-
 use borrow.Rule.Slice.PartMut.{midOf, putMid, post-is}
 use Rattle.collation.specs.declared.key.Key.{Key}
 use Rattle.key_text.specs.Put.{Put, Written}
-use Rattle.printing.specs.Output.{LineRight, LinePut, printed}
+use Rattle.printing.specs.Output.{LineRight, LinePut, printed, printedLimit}
 use Rattle.listing.specs.Taken.{keptLimit, Held, Keeps, EndFound, Prints, none, more, Ready, Printed, Taken}
 use Rattle.listing.specs.declared.splitting.Progress.{Progress}
 use Rattle.key_text.proofs.Putting.{put-nothing, put-after}
@@ -164,7 +164,7 @@ along-none chunk kept out start ready = record {
 }
 
 module _ {chunk kept out kept-after out-after : List ℕ} {start reached : Progress} (ready : Ready chunk kept out start) (a : Along chunk kept out start kept-after out-after reached) where
-  pub along-ready : reached .used + 1024 ≤ length out-after → Ready chunk kept-after out-after reached
+  pub along-ready : reached .used + printedLimit ≤ length out-after → Ready chunk kept-after out-after reached
   along-ready room = record {
     place = a .within;
     fits = omega (arith, a .same-kept, ready .fits);
@@ -191,7 +191,7 @@ module _ {chunk kept out kept-after out-after : List ℕ} {start reached : Progr
             printed-more (a .forward) (taken .forward) (taken .within) before (taken .printed (before .cut .open-line) (before .held));
       }
 
-  pub along-taken : (reached .at < length chunk → length out-after < reached .used + 1024) → Taken chunk kept out start kept-after out-after reached
+  pub along-taken : (reached .at < length chunk → length out-after < reached .used + printedLimit) → Taken chunk kept out start kept-after out-after reached
   along-taken full = record {
     forward = a .forward;
     further = λ h. go (decLt (start .at) (reached .at)) h;

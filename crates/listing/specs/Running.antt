@@ -10,6 +10,7 @@ use lib.IntN.{ℤ, pos, negsuc}
 use Rattle.letters.specs.Choice.{pick}
 use Rattle.io.specs.Counts.{clamped}
 use Rattle.libc.specs.Io.{Moved}
+use Rattle.printing.specs.Output.{printedLimit}
 use Rattle.listing.specs.Taken.{keptLimit}
 use Rattle.listing.specs.Following.{Follows, Comes}
 use Rattle.listing.specs.declared.splitting.OpenLine.{OpenLine}
@@ -41,7 +42,7 @@ pub record Reads (size : ℕ) (input : Transfer) : Type 0 where
 pub record ChunkReady (chunk : List ℕ) (kept : List ℕ) (out : List ℕ) (current : OpenLine) : Type 0 where
   pub fits : keptLimit ≤ length kept
   pub held : current .kept ≤ keptLimit
-  pub room : 1024 ≤ length out
+  pub room : printedLimit ≤ length out
   pub numbers : current .number + length chunk < 2 ^ 64
 
 -- one more piece of the input: what is printed for the lines that ended in it goes on with the text
@@ -64,7 +65,7 @@ Answers chunk kept current kept-after Stopped = Unit {0}
 -- what the end of an input needs
 pub record EndReady (kept : List ℕ) (out : List ℕ) (current : OpenLine) : Type 0 where
   pub fits : current .kept ≤ length kept
-  pub room : 1024 ≤ length out
+  pub room : printedLimit ≤ length out
   pub numbers : current .number + 1 < 2 ^ 64
 
 -- nothing is ready, and the output is as it was

@@ -8,7 +8,7 @@ use lib.Seq.{slice}
 use Rattle.formula.specs.Limits.{lineLimit}
 use Rattle.collation.specs.declared.key.Key.{Key}
 use Rattle.key_text.specs.Put.{Put}
-use Rattle.printing.specs.Output.{LineRight, printed}
+use Rattle.printing.specs.Output.{LineRight, printed, printedLimit}
 use Rattle.listing.specs.Lines.{Cut, cutFrom}
 use Rattle.listing.specs.declared.splitting.Progress.{Progress}
 
@@ -44,7 +44,7 @@ pub record Ready (chunk : List ℕ) (kept : List ℕ) (out : List ℕ) (progress
   pub place : progress .at ≤ length chunk
   pub fits : keptLimit ≤ length kept
   pub held : progress .kept ≤ keptLimit
-  pub room : progress .used + 1024 ≤ length out
+  pub room : progress .used + printedLimit ≤ length out
   pub numbers : progress .number + length chunk < 2 ^ 64 + progress .at
 
 -- the lines that ended between two places of a chunk are printed, and what is kept is that of the line that is open then

@@ -1,5 +1,5 @@
 // The running of a list: standard input to standard output, each by 64 KiB.
-use crate::splitting::KEPT;
+use crate::splitting::KEPT_LIMIT;
 use crate::splitting::OpenLine;
 use crate::splitting::Progress;
 use crate::splitting::pass_chunk;
@@ -133,7 +133,7 @@ fn finish(input: Transfer, line: &[u8], out: &mut [u8], current: OpenLine) -> us
 // `read_chunk` and in `write_whole`.
 pub fn run() {
     let mut chunk = io::large_buffer();
-    let mut line = [0; KEPT];
+    let mut line = [0; KEPT_LIMIT];
     let mut out = io::large_buffer();
     let mut current = OpenLine { kept: 0, number: 0 };
     let mut calls = CALLS;

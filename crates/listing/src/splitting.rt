@@ -1,5 +1,6 @@
 // A chunk of input to lines. A line may begin in one chunk and end in another, so its first bytes are kept beside the chunk.
-use printing::ROOM;
+use formula::Word;
+use printing::PRINTED_LIMIT;
 use printing::put_line;
 ghost use Prim.Native.Nat.{_≤_};
 ghost use lib.ListN.{length};
@@ -7,7 +8,7 @@ ghost use Rattle.listing.specs.Taken.{keptLimit, EndFound, Keeps, Ready,
 ghost use Rattle.listing.specs.Following.{Passes};
 
 // The most bytes of a line that are kept: one more than the most of a line that is not refused for its length.
-pub const KEPT: usize = 193;
+pub const KEPT_LIMIT: usize = Word::LINE_LIMIT + 1;
 
 // The line that is open between two reads: how many of its bytes are kept, and the number of the last line that ended. All that was
 // printed is written by then, so nothing here counts it.
@@ -47,7 +48,7 @@ fn keep(line: &mut [u8], kept: usize, part: &[u8]) -> usize
 {
     let mut count = kept;
     let mut at = 0;
-    while at < part.len() && count < KEPT {
+    while at < part.len() && count < KEPT_LIMIT {
         line[count] = part[at];
         count += 1;
         at += 1;
@@ -93,7 +94,7 @@ pub(crate) fn pass_chunk(
     ensures { λ r. ⌜ Passes (now (chunk .entry)) (now (line .entry)) (now (out .entry)) progress (now (line .exit)) (now (out .exit)) r ⌝ }
 {
     let mut reached = progress;
-    while reached.at < chunk.len() && reached.used + ROOM <= out.len() {
+    while reached.at < chunk.len() && reached.used + PRINTED_LIMIT <= out.len() {
         reached = take_line(chunk, line, out, reached);
     }
     reached

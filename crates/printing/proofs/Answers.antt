@@ -23,17 +23,17 @@ use Rattle.collation.specs.Keyed.{KeyRight}
 use Rattle.collation.specs.declared.key.Key.{Key}
 use Rattle.key_text.specs.Text.{decimalOf}
 use Rattle.key_text.specs.Put.{Put, PutWithin, Written}
-use Rattle.printing.specs.Output.{answerText, printed, Printable, KeyOfLine, of-values, line-refused, LineRight}
+use Rattle.printing.specs.Output.{answerText, printed, answerTextLimit, printedLimit, Printable, KeyOfLine, of-values, line-refused, LineRight}
 use Rattle.key_text.proofs.Putting.{put-after, put-front}
 use Rattle.key_text.proofs.Decimal.{decimal-short}
 
 -- the bytes behind the number of a refused line
 pub refused-short : (number place : ℕ) → number < 2 ^ 64 → place < 2 ^ 64
-    → length ((0x4E ∷ 0x4F ∷ 0x20 ∷ decimalOf number) ++ (0x20 ∷ decimalOf place)) ≤ 800
+    → length ((0x4E ∷ 0x4F ∷ 0x20 ∷ decimalOf number) ++ (0x20 ∷ decimalOf place)) ≤ answerTextLimit
 refused-short number place h k = simp length-append (omega (arith, decimal-short number h, decimal-short place k))
 
 pub answer-written : {a b c d e text : List ℕ} {i j k l : ℕ} (number : ℕ) (answer : Counted) (key : List ℕ) → text ≡ answerText answer key → number < 2 ^ 64
-    → 1024 ≤ length a → Put a 0 (decimalOf number) b i → Put b i (0x20 ∷ []) c j → PutWithin 800 c j text d k → Put d k (0x0A ∷ []) e l
+    → printedLimit ≤ length a → Put a 0 (decimalOf number) b i → Put b i (0x20 ∷ []) c j → PutWithin answerTextLimit c j text d k → Put d k (0x0A ∷ []) e l
     → Written a (printed number answer key) e l
 unfolding printed
 answer-written {a} {b} {c} {d} {e} {text} {i} {j} {k} {l} number answer key is fits room p q r s =

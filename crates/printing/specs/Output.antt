@@ -2,7 +2,7 @@
 -- Assumes nothing.
 use mathlib.Core.Path.{_≡_}
 use mathlib.Core.List.{List, [], _∷_, _++_}
-use Prim.Native.Nat.{ℕ, _≤_}
+use Prim.Native.Nat.{ℕ, _+_, _≤_}
 use Rattle.formula.specs.Limits.{limit}
 use Rattle.weighing.specs.Keys.{keyLimit, zeros}
 use Rattle.lines.specs.Line.{Decodes, LineRefused}
@@ -14,7 +14,7 @@ use Rattle.refusals.specs.declared.Counted.{Counted}
 use Rattle.refusals.specs.declared.Counted.the-variants.{Count, Refused}
 use Rattle.collation.specs.Keyed.{KeyRight}
 use Rattle.collation.specs.declared.key.Key.{Key}
-use Rattle.key_text.specs.Text.{decimalOf, keyText}
+use Rattle.key_text.specs.Text.{decimalOf, keyText, decimalLimit, keyTextLimit}
 use Rattle.key_text.specs.Put.{Written}
 
 -- the refusal of an answer; one that is none is never asked for it
@@ -37,6 +37,14 @@ answerText (Refused refusal) key = refusedText refusal
 -- "with one space between fields and 0A at the end: line number from 1", and then the answer
 unfoldable pub printed : ℕ → Counted → List ℕ → List ℕ
 printed number answer key = decimalOf number ++ (0x20 ∷ answerText answer key) ++ (0x0A ∷ [])
+
+-- the most bytes behind the number of a line: OK or NO with a space, a number with a space, and a key or one more number
+abbrev pub answerTextLimit : ℕ
+answerTextLimit = 3 + decimalLimit + 1 + keyTextLimit
+
+-- the most bytes that are printed for a line: its number with a space, the answer, and 0A
+abbrev pub printedLimit : ℕ
+printedLimit = decimalLimit + 1 + answerTextLimit + 1
 
 -- the answers that a line has: no word has more syllables than values
 abbrev pub Printable : Counted → Type 0

@@ -1,6 +1,9 @@
 // What is printed for a line: its number, and the key of its word or why it is refused.
 use collation::key::Key;
 use collation::key::key_of;
+use formula::Word;
+use key_text::DECIMAL_LIMIT;
+use key_text::KEY_TEXT_LIMIT;
 use key_text::put;
 use key_text::put_decimal;
 use key_text::put_key;
@@ -12,11 +15,14 @@ ghost use mathlib.Core.Path.{_≡_};
 ghost use lib.ListN.{length};
 ghost use Rattle.formula.specs.Limits.{limit};
 ghost use Rattle.printing.specs.Output.{refusalIn, acceptedText, refusedText, Printable, printed};
-ghost use Rattle.printing.specs.Output.{LineRight, LinePut};
+ghost use Rattle.printing.specs.Output.{answerTextLimit, printedLimit, LineRight, LinePut};
 ghost use Rattle.key_text.specs.Put.{PutWithin, Written};
 
-// The most bytes that are printed for a line, rounded up.
-pub const ROOM: usize = 1024;
+// The most bytes behind the number of a line: OK with a space, a number with a space, and a key.
+const ANSWER_TEXT_LIMIT: usize = 3 + DECIMAL_LIMIT + 1 + KEY_TEXT_LIMIT;
+
+// The most bytes that are printed for a line: its number with a space, the answer, and 0A.
+pub const PRINTED_LIMIT: usize = DECIMAL_LIMIT + 1 + ANSWER_TEXT_LIMIT + 1;
 
 // The key of the word of a line, or why the line or the word is refused.
 pub fn answer_line(line: &[u8]) -> Key
@@ -27,7 +33,7 @@ pub fn answer_line(line: &[u8]) -> Key
     if let Counted::Refused(refusal) = answer {
         return Key {
             answer: Counted::Refused(refusal),
-            bytes: [0; 320],
+            bytes: [0; Word::KEY],
         };
     }
     let word = decoded.word;
@@ -47,9 +53,9 @@ fn refusal_in(answer: Counted) -> Refusal
 }
 
 // What follows the number of an accepted line.
-fn put_accepted(out: &mut [u8], at: usize, count: usize, key: &[u8; 320]) -> usize
-    requires { ⌜ (at + 800 ≤ length (now out)) × (count ≤ limit) ⌝ }
-    ensures { λ r. ⌜ PutWithin 800 (now (out .entry)) at (acceptedText count (now (key .entry))) (now (out .exit)) r ⌝ }
+fn put_accepted(out: &mut [u8], at: usize, count: usize, key: &[u8; Word::KEY]) -> usize
+    requires { ⌜ (at + answerTextLimit ≤ length (now out)) × (count ≤ limit) ⌝ }
+    ensures { λ r. ⌜ PutWithin answerTextLimit (now (out .entry)) at (acceptedText count (now (key .entry))) (now (out .exit)) r ⌝ }
 {
     let first = put(out, at, b'O');
     let second = put(out, first, b'K');
@@ -61,8 +67,8 @@ fn put_accepted(out: &mut [u8], at: usize, count: usize, key: &[u8; 320]) -> usi
 
 // What follows the number of a refused line.
 fn put_refused(out: &mut [u8], at: usize, refusal: Refusal) -> usize
-    requires { ⌜ at + 800 ≤ length (now out) ⌝ }
-    ensures { λ r. ⌜ PutWithin 800 (now (out .entry)) at (refusedText refusal) (now (out .exit)) r ⌝ }
+    requires { ⌜ at + answerTextLimit ≤ length (now out) ⌝ }
+    ensures { λ r. ⌜ PutWithin answerTextLimit (now (out .entry)) at (refusedText refusal) (now (out .exit)) r ⌝ }
 {
     let number = refusal.number() as u64;
     let place = refusal.place() as u64;
@@ -75,8 +81,8 @@ fn put_refused(out: &mut [u8], at: usize, refusal: Refusal) -> usize
 }
 
 // Writes what is printed for a line of this number and this answer to the front of the output, and answers how many bytes that is.
-fn put_answer(out: &mut [u8], number: u64, answer: Counted, key: &[u8; 320]) -> usize
-    requires { ⌜ (1024 ≤ length (now out)) × Printable answer ⌝ }
+fn put_answer(out: &mut [u8], number: u64, answer: Counted, key: &[u8; Word::KEY]) -> usize
+    requires { ⌜ (printedLimit ≤ length (now out)) × Printable answer ⌝ }
     ensures { λ r. ⌜ Written (now (out .entry)) (printed number answer (now (key .entry))) (now (out .exit)) r ⌝ }
 {
     let numbered = put_decimal(out, 0, number);
@@ -91,7 +97,7 @@ fn put_answer(out: &mut [u8], number: u64, answer: Counted, key: &[u8; 320]) -> 
 
 // The same for the line itself.
 pub fn put_line(out: &mut [u8], number: u64, line: &[u8]) -> usize
-    requires { ⌜ 1024 ≤ length (now out) ⌝ }
+    requires { ⌜ printedLimit ≤ length (now out) ⌝ }
     ensures { λ r. ⌜ LinePut (now (out .entry)) number (now (line .entry)) (now (out .exit)) r ⌝ }
 {
     let key = answer_line(line);

@@ -1,4 +1,4 @@
--- `printing::put_accepted` meets its contract: its fields are written one behind the other, a number of at most twenty digits and a key of at most 704 bytes.
+-- `printing::put_accepted` meets its contract: its fields are written one behind the other, a number of at most `decimalLimit` digits and a key of at most `keyTextLimit` bytes.
 -- Assumes nothing.
 use native.Mathlib.Omega.{arith}
 use denote.Ref.{now}

@@ -1,9 +1,9 @@
--- `printing::put_refused` meets its contract: its fields are written one behind the other, and each number has at most twenty digits.
+-- `printing::put_refused` meets its contract: its fields are written one behind the other, and each number has at most `decimalLimit` digits.
 -- Assumes nothing.
 use Prim.Native.Nat.{_≤_}
 use native.Mathlib.Omega.{arith}
 use lib.ListN.{length}
-use Rattle.key_text.specs.Text.{decimalOf}
+use Rattle.key_text.specs.Text.{decimalOf, decimalLimit}
 use Rattle.key_text.proofs.Putting.{put-after}
 use Rattle.key_text.proofs.Decimal.{decimal-short}
 use Rattle.printing.specs.Output.{refusedText}
@@ -21,8 +21,8 @@ cast-number c = search needs
 place-requires : tie.Need-place-requires
 place-requires c κs = search needs
 
--- both numbers have at most twenty digits
-short : (c : tie.After-place) → (length (decimalOf (c .before .number .result)) ≤ 20) × (length (decimalOf (c .place .result)) ≤ 20)
+-- neither number has more than `decimalLimit` digits
+short : (c : tie.After-place) → (length (decimalOf (c .before .number .result)) ≤ decimalLimit) × (length (decimalOf (c .place .result)) ≤ decimalLimit)
 short c = (decimal-short (c .before .number .result) (omega arith), decimal-short (c .place .result) (omega arith))
 
 put-requires : tie.Need-put-requires
