@@ -1,5 +1,6 @@
 // The record at a place of a buffer: its mark, its count, and whether its word is readable.
 use formula::Word;
+use memory::casts::wide;
 use recogniser::walk::is_row;
 ghost use mathlib.Core.Path.{_≡_};
 ghost use mathlib.Core.Bool.{_&&_};
@@ -11,13 +12,6 @@ ghost use Rattle.formula.specs.Limits.{limit};
 ghost use Rattle.entries.specs.Limits.{bookLimit};
 ghost use Rattle.entries.specs.Readable.{isReadable};
 ghost use Rattle.entries.specs.Entries.{valueOf, wordAt, isFramed};
-
-// A byte as a count.
-pub fn wide(byte: u8) -> usize
-    ensures { λ r. ⌜ (r ≡ byte) × (r < 256) ⌝ }
-{
-    byte as usize
-}
 
 // The value that a byte of a record stands for.
 pub fn value_of(byte: u8) -> u16

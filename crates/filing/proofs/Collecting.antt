@@ -9,6 +9,7 @@ use borrow.Author.Tests.{eq-eqb, ne-eqb}
 use lib.Dec.{eqb}
 use lib.ListN.{length, getD, take, drop, set, length-map, length-append}
 use lib.Seq.{sets, length-sets}
+use Rattle.memory.proofs.Stores.{sets-append, sets-there, sets-behind}
 use Rattle.letters.specs.Choice.{pick}
 use Rattle.recogniser.specs.Answer.{Readable}
 use Rattle.entries.specs.Entries.{Entry, wordAt}
@@ -17,7 +18,6 @@ use Rattle.entries.specs.Book.{endOf, IsBook, Opened}
 use Rattle.entries.proofs.Agree.{only}
 use Rattle.entries.proofs.Walk.{Walk, walk-start, Turn, turn, walk-end, walk-seen, free-within}
 use Rattle.filing.specs.Filing.{rowOf, keptKey, keyRoom, mostLive, AllKeyed, liveOnes, startOf, withKeys, FiledRight}
-use Rattle.filing.proofs.Stores.{sets-append, sets-there, sets-behind}
 use Rattle.filing.proofs.Live.{liveStarts, live-count, here-readable, Spaced, spaced-of-book, keys-length, all-keyed}
 
 -- at a place: the live records among those that are passed are filed

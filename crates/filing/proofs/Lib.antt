@@ -1,6 +1,4 @@
-pub mod Stores
 pub mod Rows
-pub mod Putting
 pub mod Words
 pub mod Live
 pub mod Collecting

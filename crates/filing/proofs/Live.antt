@@ -8,7 +8,8 @@ use native.Mathlib.Nat.{le-of-suc-le-suc}
 use native.Mathlib.Omega.{arith}
 use lib.Dec.{T}
 use lib.ListN.{length, getD, take, drop}
-use lib.Seq.{sets, length-sets}
+use lib.Seq.{sets, length-sets, take-take}
+use Rattle.memory.proofs.Stores.{sets-before, sets-there}
 use Rattle.letters.specs.Choice.{pick}
 use Rattle.recogniser.specs.Answer.{Readable}
 use Rattle.entries.specs.Limits.{bookLimit}
@@ -21,7 +22,6 @@ use Rattle.entries.proofs.Ranked.{AllLive}
 use Rattle.entries.proofs.Records.{framed-true, framed-is}
 use Rattle.entries.proofs.Walk.{Walk, walk-start, Here, here}
 use Rattle.filing.specs.Filing.{rowOf, keptKey, keyRoom, HasKey, AllKeyed, liveOnes, startOf, withKeys}
-use Rattle.filing.proofs.Stores.{sets-before, sets-there, part-of-front}
 use Rattle.filing.proofs.Rows.{key-within}
 
 abbrev pub liveStarts : List Entry → List ℕ
@@ -126,6 +126,13 @@ keys-before b keys at q (x ∷ starts) h s =
     let l = s .0 in
     keys-before b (sets keys (5 * x) (keptKey (rowOf (wordAt b x)))) (x + 7 + getD b (x + 2) 0) q starts (omega arith) (s .3)
     ∙ sets-before (keptKey (rowOf (wordAt b x))) keys (5 * x) q (omega arith)
+
+-- a part of the front
+part-of-front : (l : List ℕ) (p n q : ℕ) → p + n ≤ q → take n (drop p (take q l)) ≡ take n (drop p l)
+part-of-front l zero n q h = take-take n q l (omega arith)
+part-of-front l (suc p) n zero h = let z : ⊥ = omega arith in absurd z
+part-of-front [] (suc p) n (suc q) h = refl
+part-of-front (x ∷ l) (suc p) n (suc q) h = part-of-front l p n q (omega arith)
 
 -- a key that ends before a place is kept when keys of records from there on are put
 kept-on : (b keys : List ℕ) (at next : ℕ) (starts key : List ℕ) → 5 * at + length key ≤ 5 * next → Spaced b next starts

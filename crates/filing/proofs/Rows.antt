@@ -1,12 +1,12 @@
 -- The row of a readable word is the only one that gives it, with at most as many syllables as the word has values; and what its kept key tells.
 -- Assumes nothing.
-use mathlib.Core.Path.{_≡_, sym, ap, subst, _∙_}
-use mathlib.Core.List.{List}
+use mathlib.Core.Path.{_≡_, refl, sym, ap, subst, _∙_}
+use mathlib.Core.List.{List, [], _∷_}
 use Prim.Native.Nat.{ℕ, suc, _+_, _*_, _≤_}
 use native.Mathlib.Nat.{add-zero}
 use native.Mathlib.Omega.{arith}
 use lib.ListN.{length, getD, take, drop}
-use lib.Seq.{getD-take, getD-drop, drop-drop}
+use lib.Seq.{getD-take, getD-drop, take-nil, drop-drop}
 use Rattle.formula.specs.Syllable.{no-final}
 use Rattle.formula.specs.Row.{Row, Gives}
 use Rattle.recogniser.specs.Answer.{Readable}
@@ -18,7 +18,6 @@ use Rattle.recogniser.proofs.Decided.{decide}
 use Rattle.entries.specs.Entries.{wordAt}
 use Rattle.entries.proofs.Records.{Framed, framed-true, length-word}
 use Rattle.filing.specs.Filing.{decidedRow, rowOf, keptKey, keyRoom, HasKey}
-use Rattle.filing.proofs.Stores.{part-behind}
 
 pub row-is : (word : List ℕ) → Readable word → (row : Row) → Gives row word → rowOf word ≡ row
 unfolding rowOf
@@ -48,6 +47,11 @@ key-within b at s f r =
     let m = row-fits (wordAt b at) r in
     let o = f .room in
     (omega arith, omega arith)
+
+-- behind the first of a part
+part-behind : (l : List ℕ) (n : ℕ) → drop 1 (take (suc n) l) ≡ take n (drop 1 l)
+part-behind [] n = sym (take-nil n)
+part-behind (x ∷ l) n = refl
 
 -- what a kept key tells: the number of syllables, and behind it the weights
 module _ (b keys : List ℕ) (at : ℕ) (h : HasKey b keys at) where

@@ -1,8 +1,10 @@
 // The live records of a book, each with its key: the number of its syllables and their weights.
 use book_frame::has_mark;
 use book_frame::values_of;
-use book_frame::wide;
 use keying::fill::fill;
+use memory::casts::count_byte;
+use memory::casts::wide;
+use memory::copies::put_bytes;
 use refusals::Counted;
 ghost use mathlib.Core.Path.{_≡_};
 ghost use mathlib.Core.List.{_∷_};
@@ -24,14 +26,6 @@ pub const KEY_ROOM: usize = 81920;
 // The most live records of a book.
 pub const MOST_LIVE: usize = 2048;
 
-// A number of syllables as a byte.
-fn count_byte(count: usize) -> u8
-    requires { ⌜ count ≤ limit ⌝ }
-    ensures { λ r. ⌜ r ≡ count ⌝ }
-{
-    count as u8
-}
-
 // A start as it is kept.
 fn start_of(at: usize) -> u16
     requires { ⌜ at < bookLimit ⌝ }
@@ -47,11 +41,7 @@ fn put_key(keys: &mut [u8], from: usize, key: &[u8], count: usize)
 {
     keys[from] = count_byte(count);
     let used = 5 * count;
-    let mut next = 0;
-    while next < used {
-        keys[from + 1 + next] = key[next];
-        next += 1;
-    }
+    put_bytes(&key[..used], keys, from + 1);
 }
 
 // Keeps the key of the record at a place, whose word is readable.

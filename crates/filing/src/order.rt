@@ -1,6 +1,6 @@
 // Two records of a book in word order.
 use crate::keys::KEY_ROOM;
-use book_frame::wide;
+use memory::casts::wide;
 use weighing::order::Order;
 use weighing::order::order_bytes;
 ghost use mathlib.Core.Path.{_≡_};

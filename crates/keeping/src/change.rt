@@ -1,6 +1,7 @@
 // Adding and removing records: the decision first, then the bytes.
 use lookup::plan::plan_add;
 use lookup::plan::plan_remove;
+use memory::casts::count_byte;
 use refusals::Counted;
 ghost use mathlib.Core.Path.{_≡_};
 ghost use mathlib.Core.List.{map};
@@ -13,14 +14,6 @@ ghost use Rattle.entries.specs.Limits.{bookLimit};
 ghost use Rattle.entries.specs.Book.{byteOf};
 ghost use Rattle.entries.specs.Change.{Storable};
 ghost use Rattle.keeping.specs.Written.{withHead, AddRight, RemoveRight};
-
-// A count as a byte.
-fn count_byte(count: usize) -> u8
-    requires { ⌜ count < 256 ⌝ }
-    ensures { λ r. ⌜ r ≡ count ⌝ }
-{
-    count as u8
-}
 
 // A part of a stock number as a byte.
 fn stock_byte(part: u32) -> u8

@@ -1,5 +1,6 @@
 // A chunk of input to lines. A line may begin in one chunk and end in another, so its first bytes are kept beside the chunk.
 use formula::Word;
+use memory::copies::put_bytes;
 use printing::PRINTED_LIMIT;
 use printing::put_line;
 ghost use Prim.Native.Nat.{_≤_};
@@ -46,14 +47,10 @@ fn keep(line: &mut [u8], kept: usize, part: &[u8]) -> usize
     requires { ⌜ (kept ≤ keptLimit) × (keptLimit ≤ length (now line)) ⌝ }
     ensures { λ r. ⌜ Keeps (now (line .entry)) kept (now (part .entry)) (now (line .exit)) r ⌝ }
 {
-    let mut count = kept;
-    let mut at = 0;
-    while at < part.len() && count < KEPT_LIMIT {
-        line[count] = part[at];
-        count += 1;
-        at += 1;
-    }
-    count
+    let room = KEPT_LIMIT - kept;
+    let count = if part.len() < room { part.len() } else { room };
+    put_bytes(&part[..count], line, kept);
+    kept + count
 }
 
 // Takes the open line to its end or to the chunk's, and prints it where it ended.

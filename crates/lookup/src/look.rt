@@ -1,7 +1,7 @@
 // Where a word stands in a book: a pass over the records of a buffer that is opened.
 use book_frame::has_mark;
 use book_frame::value_of;
-use book_frame::wide;
+use memory::casts::wide;
 use opening::open::Opening;
 use opening::open::open_book;
 ghost use mathlib.Core.Path.{_≡_};

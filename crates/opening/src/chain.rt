@@ -1,6 +1,7 @@
 // Chains of live records by a hash of their words, so that a repeated word is found without a comparison of every pair.
 use crate::open::BOOK_LIMIT;
-use book_frame::wide;
+use memory::casts::place_of;
+use memory::casts::wide;
 ghost use mathlib.Core.Path.{_≡_};
 ghost use mathlib.Core.List.{List};
 ghost use Prim.Native.Nat.{_+_, _≤_, _<_};
@@ -41,14 +42,7 @@ fn is_same_part(book: &[u8], first: usize, second: usize, count: usize) -> bool
     true
 }
 
-// A link as a place: 0 ends a chain, and any other is one more than a start.
-fn place_of(link: u16) -> usize
-    ensures { λ r. ⌜ r ≡ link ⌝ }
-{
-    link as usize
-}
-
-// The link to a start.
+// The link to a start: one more than it, since 0 ends a chain.
 pub(crate) fn link_to(start: usize) -> u16
     requires { ⌜ start < 16384 ⌝ }
     ensures { λ r. ⌜ r ≡ start + 1 ⌝ }

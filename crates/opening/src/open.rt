@@ -5,7 +5,7 @@ use crate::chain::is_repeated;
 use crate::chain::link_to;
 use book_frame::has_mark;
 use book_frame::is_record;
-use book_frame::wide;
+use memory::casts::wide;
 ghost use mathlib.Core.Path.{_≡_};
 ghost use Prim.Native.Nat.{_≤_};
 ghost use lib.Dec.{eqb};

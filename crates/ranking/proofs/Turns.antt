@@ -7,7 +7,7 @@ use Prim.Native.Nat.{ℕ, suc, _+_, _≤_, _<_}
 use native.Mathlib.Numerals.{add-one}
 use native.Mathlib.Omega.{arith}
 use lib.ListN.{length, getD, take, drop, set, take-append-drop, length-drop, length-set}
-use lib.Seq.{append-snoc, drop-cons, drop-length, drop-set-lt, length-take-le, set-at, take-suc, take-suc-set}
+use lib.Seq.{append-snoc, drop-cons, drop-length, drop-set-lt, take-suc-set}
 use lib.Seq.{slice, slice-empty, slice-cons, length-slice}
 use Rattle.ranking.specs.Sorting.{merged, takesSecond}
 use Rattle.ranking.proofs.Ordered.{true-not-false}
@@ -162,12 +162,3 @@ module _ {less : ℕ → ℕ → Bool} {starts : List ℕ} {middle : ℕ} {room�
                 (ap (λ (l : List ℕ). takesSecond less l (drop second starts)) (sym cut) ∙ e));
             behind = drop-set-lt (length starts) room next (getD starts first 0) h ∙ a .behind;
           }
-
--- one more is copied to the front of a list
-pub copy-one : (d r : List ℕ) (n : ℕ) → n < length d → n < length r → set (take n r ++ drop n d) n (getD r n 0) ≡ take (n + 1) r ++ drop (n + 1) d
-copy-one d r n h k =
-    ap (λ (l : List ℕ). set (take n r ++ l) n (getD r n 0)) (drop-cons d n 0 h)
-    ∙ set-at (take n r) (getD d n 0) (drop (suc n) d) (getD r n 0) n (length-take-le n r (omega arith))
-    ∙ sym (append-snoc (take n r) (getD r n 0) (drop (suc n) d))
-    ∙ ap (λ (l : List ℕ). l ++ drop (suc n) d) (sym (take-suc r n 0 k))
-    ∙ ap (λ (m : ℕ). take m r ++ drop m d) (sym (add-one n))

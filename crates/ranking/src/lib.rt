@@ -4,6 +4,7 @@ use filing::keys::MOST_LIVE;
 use filing::keys::file_records;
 use lookup::look::stock_at;
 use lookup::plan::Found;
+use memory::casts::place_of;
 use opening::open::Opening;
 use opening::open::open_book;
 use refusals::Refusal;
@@ -17,7 +18,6 @@ ghost use Rattle.ranking.specs.Rank.{rankOf, SortedRight};
 
 mod merging; // merging.rt: a merge sort of starts
 
-use crate::merging::place_of;
 use crate::merging::sort_front;
 
 // Puts the starts of the live records of a book, in word order, at the front of `starts`. Gives how many there are.

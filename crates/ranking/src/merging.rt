@@ -1,18 +1,13 @@
 // A merge sort of the starts of records, by their words.
 use filing::keys::KEY_ROOM;
 use filing::order::is_before;
+use memory::casts::place_of;
+use memory::copies::put_values;
 ghost use mathlib.Core.Path.{_≡_};
 ghost use Prim.Native.Nat.{_≤_};
 ghost use lib.ListN.{length, take};
 ghost use Rattle.ranking.specs.Sorting.{inOrder, goesBefore, takesNext, partsMerged, mergedFront, frontInOrder};
 ghost use Rattle.ranking.specs.Sorting.{Sortable, Mergeable, MergeReady};
-
-// A start as an index.
-pub(crate) fn place_of(start: u16) -> usize
-    ensures { λ r. ⌜ r ≡ start ⌝ }
-{
-    start as usize
-}
 
 // Whether the next start to take is the one at `second`: where the first part is at its end, or the record at `second` goes before.
 fn is_second_next(
@@ -62,11 +57,8 @@ fn copy_back(starts: &mut [u16], room: &[u16])
     requires { ⌜ length (now starts) ≤ length (now room) ⌝ }
     ensures { λ _. ⌜ now (starts .exit) ≡ take (length (now (starts .entry))) (now (room .entry)) ⌝ }
 {
-    let mut at = 0;
-    while at < starts.len() {
-        starts[at] = room[at];
-        at += 1;
-    }
+    let count = starts.len();
+    put_values(&room[..count], starts, 0);
 }
 
 // Merges the parts before and from `middle`; `room` is written over.

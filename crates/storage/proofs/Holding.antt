@@ -77,34 +77,6 @@ pub inserted-before : (before values : List ℕ) (first place mark : ℕ) → is
 inserted-before before values first place mark m i more h =
     put-here values place mark (omega (arith, i .long, i .within)) (stays-before values place mark m (omega (arith, i .long)) h) ∙ i .same
 
--- a part of the array, copied so far to the front of another
-pub record Copied (values held : List ℕ) (front end count : ℕ) : Type 0 where
-  pub within : count ≤ end - front
-  pub shown : held ≡ take count (drop front values) ++ replicate (limit - count) 0
-
-pub copied-more : (values held : List ℕ) (front end count : ℕ) → PartRoom values front end → Copied values held front end count → count < end - front
-    → Copied values (set held count (getD values (front + count) 0)) front end (count + 1)
-copied-more values held front end count p c more =
-    let left : List ℕ = drop front values in
-    let long : length left ≡ limit - front = length-drop front values ∙ ap (λ (n : ℕ). n - front) (p .long) in
-    let in-left : count < length left = omega (arith, p .within) in
-    let zeros : limit - count ≡ suc (limit - (count + 1)) = omega (arith, p .within) in
-    let next : getD values (front + count) 0 ≡ getD left count 0 = sym (getD-drop front values count 0) in
-    record {
-      within = omega arith;
-      shown =
-          rw (c .shown, zeros, next, add-one, take-suc left count 0 in-left, append-snoc)
-          (set-at (take count left) 0 (replicate (limit - suc count) 0) (getD left count 0) count (length-take-le count left (omega arith)));
-    }
-
-pub copied-all : (values held : List ℕ) (front end count : ℕ) → PartRoom values front end → Copied values held front end count → end - front ≤ count
-    → _≡_ {A = Word} (record { values = held; count = count }) (wordOf (take (end - front) (drop front values)))
-copied-all values held front end count p c done =
-    let whole : count ≡ end - front = omega (arith, c .within) in
-    let long : length (take (end - front) (drop front values)) ≡ end - front =
-    length-take-le (end - front) (drop front values) (omega (arith, length-drop front values, p .long, p .within)) in
-    rw (c .shown, whole, long)
-
 -- one value put at the front, by the three cases of the code
 drop-set : (values : List ℕ) (place x : ℕ) → place < length values → drop place (set values place x) ≡ x ∷ drop (suc place) values
 drop-set values place x h =

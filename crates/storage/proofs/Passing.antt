@@ -6,13 +6,14 @@ use mathlib.Core.List.{List, [], _∷_, _++_, append-nil}
 use Prim.Native.Nat.{ℕ, zero, suc, _+_, _-_, _≤_, _<_}
 use native.Mathlib.Omega.{arith}
 use lib.ListN.{length, take, drop, getD, replicate, length-append, length-drop, length-replicate, replicate-append-replicate, drop-of-length-le}
-use lib.Seq.{drop-cons, take-at, drop-at}
+use lib.Seq.{sets, drop-cons, length-take-le, take-at, drop-at}
+use Rattle.memory.proofs.Stores.{sets-front}
 use Rattle.letters.specs.Choice.{pick}
 use Rattle.formula.specs.Limits.{limit}
 use Rattle.formula.specs.Held.{wordOf}
 use Rattle.formula.specs.declared.Word.{Word}
 use Rattle.storage.specs.Stored.{isRunMark, rank, insert, makesLongVowel, makesLetter, storedForm}
-use Rattle.storage.specs.Putting.{joinFront, putFront, firstRank, FrontPut}
+use Rattle.storage.specs.Putting.{joinFront, putFront, firstRank, FrontPut, PartRoom}
 use Rattle.storage.specs.declared.Front.{Front}
 use Rattle.storage.proofs.Runs.{insert-run}
 use Rattle.storage.proofs.Composing.{same-before, join-same, stored-front}
@@ -59,6 +60,17 @@ drop-zeros : (m n : ℕ) → m ≤ n → drop m (zeros n) ≡ zeros (n - m)
 drop-zeros m n h =
     let whole : m + (n - m) ≡ n = omega arith in
     ap (drop m) (sym (replicate-append-replicate m (n - m) 0 ∙ ap zeros whole)) ∙ drop-at (zeros m) (zeros (n - m)) m (length-replicate m 0)
+
+-- a part of the array, copied to the front of zeros, is held as a word
+pub part-held : (values held : List ℕ) (front end : ℕ) → PartRoom values front end
+    → held ≡ sets (zeros limit) 0 (take (end - front) (drop front values))
+    → _≡_ {A = Word} (record { values = held; count = end - front }) (wordOf (take (end - front) (drop front values)))
+part-held values held front end r put =
+    let part : List ℕ = take (end - front) (drop front values) in
+    let long : length part ≡ end - front =
+    length-take-le (end - front) (drop front values) (omega (arith, length-drop front values, r .long, r .within)) in
+    let fits : length part ≤ limit = omega (arith, r .within) in
+    rw (put, sets-front part (zeros limit) fits, drop-zeros (length part) limit fits, long)
 
 -- zeros have the rank of what is no mark
 zeros-rank : (n : ℕ) → 16 ≡ firstRank (zeros n)

@@ -1,5 +1,6 @@
 // Storage order: the form in which a word is stored, whatever values it has.
 use formula::Word;
+use memory::copies::put_values;
 ghost use mathlib.Core.Path.{_≡_};
 ghost use mathlib.Core.List.{_++_};
 ghost use Prim.Native.Nat.{_+_, _-_, _≤_};
@@ -60,19 +61,15 @@ pub fn stored(word: &[u16]) -> Word
 }
 
 // The values from one place to another as a word.
-fn part(values: &[u16; Word::LIMIT], front: usize, end: usize) -> Word
+fn part(values: &[u16], front: usize, end: usize) -> Word
     requires { ⌜ PartRoom (now values) front end ⌝ }
     ensures { λ r. ⌜ r ≡ wordOf (take (end - front) (drop front (now (values .entry)))) ⌝ }
 {
     let mut held = [0; Word::LIMIT];
-    let mut count = 0;
-    while count < end - front {
-        held[count] = values[front + count];
-        count += 1;
-    }
+    put_values(&values[front..end], &mut held, 0);
     Word {
         values: held,
-        count,
+        count: end - front,
     }
 }
 

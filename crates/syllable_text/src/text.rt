@@ -1,4 +1,5 @@
 // The values that the numbers of a record stand for: of each part of a syllable at most three.
+use memory::copies::put_values;
 ghost use mathlib.Core.Path.{_≡_};
 ghost use mathlib.Core.List.{[], _∷_};
 ghost use Prim.Native.Nat.{_+_};
@@ -181,10 +182,6 @@ pub(crate) fn put(output: &mut [u16], at: usize, text: Text) -> usize
 {
     let values = text.values;
     let count = text.count;
-    let mut done = 0;
-    while done < count {
-        output[at + done] = values[done];
-        done += 1;
-    }
+    put_values(&values[..count], output, at);
     at + count
 }

@@ -1,68 +1,43 @@
--- `storage::part` meets its contract. The loop's invariant is `Copied`: the values of the part so far, and zeros behind them. The measure is what is left of the part.
+-- `storage::part` meets its contract: the part is copied to the front of zeros.
 -- Assumes nothing.
-use mathlib.Core.Path.{refl}
-use Prim.Native.Nat.{_-_}
-use native.Mathlib.Omega.{arith}
 use borrow.Author.Needs.{needs}
-use Rattle.storage.proofs.Holding.{Copied, copied-more, copied-all}
+use Rattle.storage.proofs.Passing.{part-held}
 use Rattle.storage.proofs.part.Statement.{statement}
 use Rattle.storage.proofs.part.Tie as tie
 
-abbrev Inv-loop : tie.InvT-loop
-Inv-loop values front end held₀ count₀ held count = Copied values held front end count
+mul-put-values : tie.Need-mul-put-values
+mul-put-values c = search needs
 
-abbrev μ-loop : tie.MeasureT-loop
-μ-loop values front end held₀ count₀ held count = end - front - count
+sub-put-values : tie.Need-sub-put-values
+sub-put-values c = search needs
 
-loop-holds : tie.Need-loop-holds Inv-loop μ-loop
-loop-holds c = record { within = omega arith; shown = refl }
+part-put-values-start : tie.Need-part-put-values-start
+part-put-values-start c = search needs
 
-sub-loop : tie.Need-sub-loop Inv-loop μ-loop
-sub-loop c = search needs
+part-put-values-end : tie.Need-part-put-values-end
+part-put-values-end c = search needs
 
-add-held : tie.Need-add-held Inv-loop μ-loop
-add-held c = search needs
+slice-aggregate-put-values : tie.Need-slice-aggregate-put-values
+slice-aggregate-put-values c = search needs
 
-mul-held : tie.Need-mul-held Inv-loop μ-loop
-mul-held c = search needs
+put-values-requires : tie.Need-put-values-requires
+put-values-requires c κs = search needs
 
-element-copy-out-held : tie.Need-element-copy-out-held Inv-loop μ-loop
-element-copy-out-held c = search needs
+sub-t6 : tie.Need-sub-t6
+sub-t6 c = search needs
 
-mul-held-2 : tie.Need-mul-held-2 Inv-loop μ-loop
-mul-held-2 c = search needs
-
-array-write-held : tie.Need-array-write-held Inv-loop μ-loop
-array-write-held c = search needs
-
-add-count : tie.Need-add-count Inv-loop μ-loop
-add-count c = search needs
-
-loop-less : tie.Need-loop-less Inv-loop μ-loop
-loop-less c = search needs
-
-loop-again : tie.Need-loop-again Inv-loop μ-loop
-loop-again c =
-    let at-loop = c .before .before in
-    copied-more _ _ _ _ _ (at-loop .before .pre) (at-loop .loop .inv) (c .before .loop-test .taken)
-
-returns : tie.Need-returns Inv-loop μ-loop
-returns c = copied-all _ _ _ _ _ (c .before .before .pre) (c .before .loop .inv) (c .loop-test .left)
+returns : tie.Need-returns
+returns c = part-held _ _ _ _ (c .before .before .before .before .before .pre) (c .before .put-values .ensures)
 
 pub part-spec : {M : Type 1} → statement M
 part-spec =
     tie.close
     (tie.spec
-    Inv-loop
-    μ-loop
-    loop-holds
-    sub-loop
-    add-held
-    mul-held
-    element-copy-out-held
-    mul-held-2
-    array-write-held
-    add-count
-    loop-less
-    loop-again
+    mul-put-values
+    sub-put-values
+    part-put-values-start
+    part-put-values-end
+    slice-aggregate-put-values
+    put-values-requires
+    sub-t6
     returns)

@@ -1,6 +1,6 @@
 -- `storage::stored` meets its contract. The loop's invariant is `StoredFrom`: from the front on the array holds the stored form of what is passed. The measure is what is left of the word.
 -- Assumes nothing.
-use mathlib.Core.Path.{_∙_}
+use mathlib.Core.Path.{sym, _∙_}
 use native.Mathlib.Omega.{arith}
 use denote.Ref.{now}
 use borrow.Author.Needs.{needs}
@@ -52,6 +52,9 @@ returns c =
     let at-loop = c .before .before in
     stored-whole _ _ _ _ (at-loop .loop .inv) (at-loop .before .before .before .pre) (c .before .loop-test .left) (c .if1 .taken)
 
+slice-aggregate-part : tie.Need-slice-aggregate-part Inv-loop μ-loop
+slice-aggregate-part c = sym (c .before .before .before .loop .inv .long)
+
 part-requires : tie.Need-part-requires Inv-loop μ-loop
 part-requires c κs =
     let at-loop = c .before .before .before in
@@ -78,5 +81,6 @@ stored-spec =
     loop-less
     loop-again
     returns
+    slice-aggregate-part
     part-requires
     returns-2)

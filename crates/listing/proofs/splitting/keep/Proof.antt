@@ -1,66 +1,44 @@
--- `listing::splitting::keep` meets its contract. The loop's invariant is `Keeping`: the bytes passed are kept behind the line. The measure is what is left of the part.
+-- `listing::splitting::keep` meets its contract: what there is room for is copied behind the bytes that are kept.
 -- Assumes nothing.
-use Prim.Native.Nat.{_-_}
+use borrow.Author.Needs.{needs}
+use mathlib.Core.Path.{sym}
+use mathlib.Core.Logic.{⊎-elim}
 use native.Mathlib.Omega.{arith}
-use lib.ListN.{length}
-use borrow.Author.Tests.{ltb-true, ltb-false}
-use Rattle.listing.proofs.Keeping.{Keeping, keeping-none, keeping-more, keeping-all, keeping-full}
+use lib.Seq.{length-take-le}
+use denote.Ref.{now}
+use Rattle.listing.proofs.Keeping.{Fills, fills-all, fills-room, kept-more}
 use Rattle.listing.proofs.splitting.keep.Statement.{statement}
 use Rattle.listing.proofs.splitting.keep.Tie as tie
 
-abbrev Inv-loop : tie.InvT-loop
-Inv-loop line₀ kept part count₀ at₀ line count at = Keeping line₀ kept part line count at
+-- what is copied fills the room
+filled : (c : tie.Joined1) → Fills (now (c .before .before .before .args .part)) (c .before .before .before .args .kept) (c .if1 .count)
+filled c =
+    let s = c .before .before .before in
+    ⊎-elim (λ w. rw (w .1) (fills-all _ _ (s .pre .0) (w .0 .taken))) (λ w. rw (w .1) (fills-room _ _ (s .pre .0) (w .0 .left))) (c .if1 .came)
 
-abbrev μ-loop : tie.MeasureT-loop
-μ-loop line₀ kept part count₀ at₀ line count at = length part - at
+sub-room : tie.Need-sub-room
+sub-room c = search needs
 
-loop-holds : tie.Need-loop-holds Inv-loop μ-loop
-loop-holds c = keeping-none _ _ _ (c .pre .0)
+slice-aggregate-put-bytes : tie.Need-slice-aggregate-put-bytes
+slice-aggregate-put-bytes c = sym (length-take-le _ _ (filled (c .before) .within))
 
-shared-slice-read-line : tie.Need-shared-slice-read-line Inv-loop μ-loop
-shared-slice-read-line c = omega arith
+put-bytes-requires : tie.Need-put-bytes-requires
+put-bytes-requires c κs =
+    let f = filled (c .before .before) in
+    let s = c .before .before .before .before .before in
+    omega (arith, s .pre .1, f .fits, length-take-le (c .before .before .if1 .count) (now (s .args .part)) (f .within))
 
-slice-write-line : tie.Need-slice-write-line Inv-loop μ-loop
-slice-write-line c = omega (arith, c .before .before .before .loop .inv .same, ltb-true)
+add-result : tie.Need-add-result
+add-result c = omega (arith, filled (c .before .before .before .before .before .before) .fits)
 
-add-count : tie.Need-add-count Inv-loop μ-loop
-add-count c = omega arith
+same-length : tie.Need-same-length
+same-length c = search needs
 
-add-at : tie.Need-add-at Inv-loop μ-loop
-add-at c = omega arith
-
-loop-less : tie.Need-loop-less Inv-loop μ-loop
-loop-less c = omega arith
-
-loop-again : tie.Need-loop-again Inv-loop μ-loop
-loop-again c = keeping-more _ _ _ _ _ _ (c .before .before .before .loop .inv) (c .before .before .loop-test .taken) (omega (arith, ltb-true)) (c .before .before .before .before .pre .1)
-
-same-length : tie.Need-same-length Inv-loop μ-loop
-same-length c = c .before .before .loop .inv .same
-
-returns : tie.Need-returns Inv-loop μ-loop
-returns c = keeping-full _ _ _ _ _ _ (c .before .before .loop .inv) (omega (arith, ltb-false))
-
-same-length-2 : tie.Need-same-length-2 Inv-loop μ-loop
-same-length-2 c = c .before .loop .inv .same
-
-returns-2 : tie.Need-returns-2 Inv-loop μ-loop
-returns-2 c = keeping-all _ _ _ _ _ _ (c .before .loop .inv) (c .loop-test .left)
+returns : tie.Need-returns
+returns c =
+    kept-more _ _ _ _ _ (c .before .before .before .before .before .before .before .before .before .pre .1) (filled (c .before .before .before .before .before .before)) (c .before .before .before .put-bytes .ensures)
 
 pub keep-spec : {M : Type 1} → statement M
 keep-spec =
     tie.close
-    (tie.spec
-    Inv-loop
-    μ-loop
-    loop-holds
-    shared-slice-read-line
-    slice-write-line
-    add-count
-    add-at
-    loop-less
-    loop-again
-    same-length
-    returns
-    same-length-2
-    returns-2)
+    (tie.spec sub-room slice-aggregate-put-bytes put-bytes-requires add-result same-length returns)

@@ -1,84 +1,43 @@
--- `syllable_text::text::put` meets its contract. The loop's invariant: the first values of the text are put, and the output is as long as before. The measure is how many are left.
+-- `syllable_text::text::put` meets its contract: the values of the text are copied.
 -- Assumes nothing.
-use mathlib.Core.Path.{_≡_, refl}
-use Prim.Native.Nat.{_+_, _-_, _≤_, _<_}
+use mathlib.Core.Path.{refl, sym, _∙_}
 use native.Mathlib.Omega.{arith}
-use native.Mathlib.Numerals.{add-one}
 use borrow.Author.Needs.{needs}
-use lib.ListN.{length, length-set}
-use lib.Seq.{paste, paste-zero, paste-suc}
-use denote.Ref.{now}
+use lib.Seq.{length-take-le}
+use Rattle.memory.proofs.Stores.{sets-paste}
 use Rattle.syllable_text.proofs.text.put.Statement.{statement}
 use Rattle.syllable_text.proofs.text.put.Tie as tie
 
-abbrev Inv-loop : tie.InvT-loop
-Inv-loop output₀ at values count done₀ output done = (done ≤ count) × (output ≡ paste output₀ at values done) × (length output ≡ length output₀)
+array-share-prefix-values : tie.Need-array-share-prefix-values
+array-share-prefix-values c = search needs
 
-abbrev μ-loop : tie.MeasureT-loop
-μ-loop output₀ at values count done₀ output done = count - done
+slice-aggregate-put-values : tie.Need-slice-aggregate-put-values
+slice-aggregate-put-values c = sym (length-take-le _ _ (c .before .before .before .pre .held))
 
-loop-holds : tie.Need-loop-holds Inv-loop μ-loop
-loop-holds c = (omega arith, paste-zero _ (c .before .args .at) (c .before .args .text .values), refl)
+put-values-requires : tie.Need-put-values-requires
+put-values-requires c κs =
+    let s = c .before .before .before .before in
+    let room = s .pre in
+    omega (arith, length-take-le (s .args .text .count) (s .args .text .values) (room .held))
 
-mul-output : tie.Need-mul-output Inv-loop μ-loop
-mul-output c = search needs
+add-result : tie.Need-add-result
+add-result c = search needs
 
-array-read-output : tie.Need-array-read-output Inv-loop μ-loop
-array-read-output c = omega (arith, c .before .before .before .pre .short)
+same-length : tie.Need-same-length
+same-length c = search needs
 
-add-output : tie.Need-add-output Inv-loop μ-loop
-add-output c = omega (arith, c .before .before .before .pre .fits)
-
-mul-output-2 : tie.Need-mul-output-2 Inv-loop μ-loop
-mul-output-2 c = search needs
-
-slice-write-output : tie.Need-slice-write-output Inv-loop μ-loop
-slice-write-output c = omega (arith, c .before .before .before .pre .fits)
-
-add-done : tie.Need-add-done Inv-loop μ-loop
-add-done c = omega arith
-
-loop-less : tie.Need-loop-less Inv-loop μ-loop
-loop-less c = omega arith
-
-loop-again : tie.Need-loop-again Inv-loop μ-loop
-loop-again c =
-    let at-start = c .before .before .before in
-    let now-in = c .before .loop in
-    let all : at-start .args .at + at-start .args .text .count ≤ length (now (at-start .args .output)) = at-start .pre .fits in
-    let inside : now-in .done < length (at-start .args .text .values) = omega (arith, at-start .pre .held) in (
-      omega arith,
-      rw (now-in .inv .1, add-one) (paste-suc (now (at-start .args .output)) (at-start .args .at) (at-start .args .text .values) (now-in .done) 0 (omega arith) inside),
-      simp length-set (now-in .inv .2),
-    )
-
-add-result : tie.Need-add-result Inv-loop μ-loop
-add-result c = omega (arith, c .before .before .before .pre .fits)
-
-same-length : tie.Need-same-length Inv-loop μ-loop
-same-length c = c .before .loop .inv .2
-
-returns : tie.Need-returns Inv-loop μ-loop
+returns : tie.Need-returns
 returns c =
-    let at-start = c .before .before .before in
-    let all : c .before .loop .done ≡ at-start .args .text .count = omega arith in
-    record { put = rw (← all) (c .before .loop .inv .1); behind-it = refl }
+    let s = c .before .before .before .before .before .before .before in
+    record { put = c .before .before .put-values .ensures ∙ sets-paste _ _ _ _ (s .pre .held) (s .pre .fits); behind-it = refl }
 
 pub put-spec : {M : Type 1} → statement M
 put-spec =
     tie.close
     (tie.spec
-    Inv-loop
-    μ-loop
-    loop-holds
-    mul-output
-    array-read-output
-    add-output
-    mul-output-2
-    slice-write-output
-    add-done
-    loop-less
-    loop-again
+    array-share-prefix-values
+    slice-aggregate-put-values
+    put-values-requires
     add-result
     same-length
     returns)

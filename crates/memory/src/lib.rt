@@ -1,0 +1,3 @@
+// Copies from slice to slice, and numbers at another width.
+pub mod casts;
+pub mod copies;
