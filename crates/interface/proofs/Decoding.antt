@@ -40,9 +40,6 @@ module _ (line : List ℕ) (decoded : Decoded) (right : DecodeRight line decoded
     pub held-count : decoded .word .count ≡ length (take (decoded .word .count) (decoded .word .values))
     held-count = held-length (decoded .word) (holds .word) (holds .is)
 
-    pub held-limit : length (take (decoded .word .count) (decoded .word .values)) ≤ 64
-    held-limit = omega (arith, word-short line (holds .word) (holds .decodes), ap length (held-front (decoded .word) (holds .word) (holds .is)))
-
     pub written-right : (before after : List ℕ) (answer : Outcome) → Puts (take (decoded .word .count) (decoded .word .values)) before after answer
         → DecodeWritten line before after answer
     written-right before after =

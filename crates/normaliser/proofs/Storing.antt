@@ -1,19 +1,18 @@
 -- A word and its stored form have foreign values together, so a refusal of the stored form is one of the word.
 -- Assumes nothing.
-use mathlib.Core.Path.{_≡_, refl, ap, sym, subst}
+use mathlib.Core.Path.{_≡_, refl, sym, subst}
 use mathlib.Core.Bool.{Bool, true, false, _&&_}
 use mathlib.Core.List.{List, [], _∷_}
 use Prim.Native.Nat.{ℕ, _-_, _≤_, _<_}
 use native.Mathlib.Decide.{decLt, ℕ-discrete}
 use native.Mathlib.Omega.{arith}
 use lib.Dec.{T, eqb, eqb→eq}
-use lib.ListN.{length, take, replicate, length-append}
+use lib.ListN.{length, take}
 use Rattle.letters.specs.Choice.{pick}
 use Rattle.letters.specs.Letters.{isAdmitted}
 use Rattle.formula.specs.Limits.{limit}
 use Rattle.formula.specs.Held.{wordOf}
-use Rattle.formula.specs.declared.Word.{Word}
-use Rattle.formula.proofs.Held.{held-front}
+use Rattle.formula.proofs.Held.{held-front, held-fits}
 use Rattle.formula.proofs.Lists.{both, both-left, both-right, every, every-at, at-every}
 use Rattle.refusals.specs.Refusal.{numberOf, placeOf}
 use Rattle.refusals.specs.Outcome.{outcomeOf}
@@ -124,16 +123,8 @@ module _ (word : List ℕ) (r : Normalised) (right : NormalRight word r) (n : �
   pub held-form : r .word ≡ wordOf (storedForm word)
   held-form = subst (λ (a : Counted). WordFor word (outcomeOf a) (r .word)) e (right .held)
 
-  held-count : r .word .count ≡ length (storedForm word)
-  held-count = ap (λ (w : Word). w .count) held-form
-
-  pub held-limit : r .word .count ≤ limit
-  held-limit = let s = stores .admissible .short in let t = stored-shorter word in omega (arith, held-count)
-
   pub held-room : r .word .count ≤ length (r .word .values)
-  held-room =
-      let s = held-limit in
-      omega (arith, ap (λ (w : Word). length (w .values)) held-form, length-append (storedForm word) (replicate (limit - length (storedForm word)) 0), held-count)
+  held-room = held-fits (r .word) (storedForm word) held-form
 
   -- the values at the front of the held word's array are the stored form
   pub held-values : take (r .word .count) (r .word .values) ≡ storedForm word

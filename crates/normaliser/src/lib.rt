@@ -54,7 +54,7 @@ fn normal_form(word: &[u16]) -> Normalised
 
 // Writes values to the front of a slice.
 fn copy_out(values: &[u16], output: &mut [u16])
-    requires { ⌜ (length (now values) ≤ length (now output)) × (length (now values) ≤ 64) ⌝ }
+    requires { ⌜ length (now values) ≤ length (now output) ⌝ }
     ensures { λ _. ⌜ now (output .exit) ≡ now (values .entry) ++ drop (length (now (values .entry))) (now (output .entry)) ⌝ }
 {
     let mut at = 0;
@@ -66,7 +66,6 @@ fn copy_out(values: &[u16], output: &mut [u16])
 
 // Writes values to the front of `output`, where there is room for them, and tells how many.
 pub fn put_out(values: &[u16], output: &mut [u16]) -> Counted
-    requires { ⌜ length (now values) ≤ 64 ⌝ }
     ensures { λ r. ⌜ Puts (now (values .entry)) (now (output .entry)) (now (output .exit)) (outcomeOf r) ⌝ }
 {
     if output.len() < values.len() {

@@ -32,8 +32,7 @@ slice-write-output : tie.Need-slice-write-output Inv-loop μ-loop
 slice-write-output c =
     let a = c .before .before .before in
     let l = c .before .before .loop in
-    let i = a .pre .0 in
-    let h = a .pre .1 in
+    let i = a .pre in
     omega (arith, ap length (l .inv .1), copied-length (a .args .values .now) (a .args .output .now) (l .at) (omega arith) (omega arith))
 
 add-at : tie.Need-add-at Inv-loop μ-loop
@@ -46,16 +45,14 @@ loop-again : tie.Need-loop-again Inv-loop μ-loop
 loop-again c =
     let a = c .before .before .before in
     let l = c .before .before .loop in
-    let i = a .pre .0 in
-    let h = a .pre .1 in
+    let i = a .pre in
     (omega arith, rw (l .inv .1) (copied-more (a .args .values .now) (a .args .output .now) (l .at) (omega arith) (omega arith)))
 
 same-length : tie.Need-same-length Inv-loop μ-loop
 same-length c =
     let a = c .before .before in
     let l = c .before .loop in
-    let i = a .pre .0 in
-    let h = a .pre .1 in
+    let i = a .pre in
     ap length (l .inv .1) ∙ copied-length (a .args .values .now) (a .args .output .now) (l .at) (omega arith) (omega arith)
 
 returns : tie.Need-returns Inv-loop μ-loop

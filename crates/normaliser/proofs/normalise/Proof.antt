@@ -2,7 +2,6 @@
 -- Assumes nothing.
 use mathlib.Core.Path.{refl, sym, subst}
 use Prim.Native.Nat.{ℕ}
-use native.Mathlib.Omega.{arith}
 use lib.ListN.{length}
 use lib.Seq.{length-take-le}
 use borrow.Author.Needs.{needs}
@@ -14,7 +13,7 @@ use Rattle.recogniser.specs.Answer.{Readable, RowTest}
 use Rattle.storage.specs.Stored.{storedForm}
 use Rattle.storage.proofs.Rows.{gives-stored}
 use Rattle.normaliser.specs.Normal.{StoreRefusedWith, Stores, StoreAnswers}
-use Rattle.normaliser.proofs.Storing.{stores, held-limit, held-room, held-values, readable-stores}
+use Rattle.normaliser.proofs.Storing.{stores, held-room, held-values, readable-stores}
 use Rattle.normaliser.proofs.normalise.Statement.{statement}
 use Rattle.normaliser.proofs.normalise.Tie as tie
 
@@ -22,11 +21,7 @@ is-row-requires : tie.Need-is-row-requires
 is-row-requires c κs = search needs
 
 put-out-requires : tie.Need-put-out-requires
-put-out-requires c κs =
-    let a = c .before .before in
-    let word = a .before .before .before .args .word .now in
-    let readable : Readable word = subst (RowTest word) (c .before .if1 .taken) (a .is-row .ensures) in
-    readable .admissible .short
+put-out-requires c κs = search needs
 
 same-length : tie.Need-same-length
 same-length c = search needs
@@ -70,12 +65,7 @@ slice-aggregate-put-out c =
     sym (length-take-le (a .normal-form .result .word .count) (a .normal-form .result .word .values) (held-room word (a .normal-form .result) (a .normal-form .ensures) (e .enum-told .given .0 .0) (e .enum-told .given .1)))
 
 put-out-requires-2 : tie.Need-put-out-requires-2
-put-out-requires-2 c κs =
-    let e = c .before .before .before .before in
-    let a = e .before .before in
-    let word = a .before .before .before .before .before .args .word .now in
-    let h = held-limit word (a .normal-form .result) (a .normal-form .ensures) (e .enum-told .given .0 .0) (e .enum-told .given .1) in
-    omega (arith, length-take-le (a .normal-form .result .word .count) (a .normal-form .result .word .values) (held-room word (a .normal-form .result) (a .normal-form .ensures) (e .enum-told .given .0 .0) (e .enum-told .given .1)))
+put-out-requires-2 c κs = search needs
 
 same-length-2 : tie.Need-same-length-2
 same-length-2 c = search needs

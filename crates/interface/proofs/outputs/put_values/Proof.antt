@@ -3,7 +3,7 @@
 use borrow.Author.Needs.{needs}
 use mathlib.Core.Path.{refl}
 use Rattle.refusals.specs.Outcome.{outcomeOf}
-use Rattle.interface.proofs.Decoding.{refused-right, held-room, held-count, held-limit, written-right}
+use Rattle.interface.proofs.Decoding.{refused-right, held-room, held-count, written-right}
 use Rattle.interface.proofs.outputs.put_values.Statement.{statement}
 use Rattle.interface.proofs.outputs.put_values.Tie as tie
 
@@ -34,10 +34,7 @@ slice-aggregate-put-out c =
     held-count _ (d .decode .result) (d .decode .ensures) _ (e .enum-told .given .1)
 
 put-out-requires : tie.Need-put-out-requires
-put-out-requires c κs =
-    let e = c .before .before .before .before in
-    let d = e .before .before in
-    held-limit _ (d .decode .result) (d .decode .ensures) _ (e .enum-told .given .1)
+put-out-requires c κs = search needs
 
 same-length : tie.Need-same-length
 same-length c = search needs
