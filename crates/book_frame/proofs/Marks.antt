@@ -5,8 +5,8 @@ use mathlib.Core.Bool.{Bool, true, false, _&&_}
 use Prim.Native.Nat.{ℕ}
 use borrow.Author.Tests.{eq-eqb}
 use lib.Dec.{T, eqb, eqb→eq}
+use Rattle.letters.proofs.Tests.{of-true}
 use Rattle.formula.proofs.Lists.{both, both-left, both-right}
-use Rattle.entries.proofs.Tests.{of-true}
 
 -- the two bytes are those of the mark
 pub mark-met : (first second x y : ℕ) (r : Bool) → r ≡ (eqb first x && eqb second y) → r ≡ true → (first ≡ x) × (second ≡ y)

@@ -11,12 +11,13 @@ use lib.Dec.{T, eqb, leb}
 use lib.ListN.{length, getD, drop, length-append}
 use lib.Seq.{getD-drop, append-snoc}
 use Rattle.letters.specs.Choice.{pick}
+use Rattle.letters.proofs.Tests.{is-true, pick-true, pick-false, on-pick}
 use Rattle.formula.proofs.Lists.{both, both-left, both-right}
 use Rattle.entries.specs.Limits.{bookLimit}
 use Rattle.entries.specs.Readable.{isReadable}
 use Rattle.entries.specs.Entries.{Entry, wordAt, entryAt, isFramed, isFresh, mayFollow, Entries, book, wrong, zeroTail, entriesFrom, entries}
 use Rattle.entries.specs.Book.{zeros, recordBytes, records, size, endOf, GoodEntry, GoodAfter, IsBook, Opened}
-use Rattle.entries.proofs.Tests.{is-true, of-true, of-readable, to-readable}
+use Rattle.entries.proofs.Tests.{of-readable, to-readable}
 use Rattle.entries.proofs.Bytes.{readable-within}
 use Rattle.entries.proofs.Records.{Framed, framed-true, framed-is, length-word, cut, Read, read-back, records-append, end-append, length-record}
 
@@ -77,9 +78,7 @@ Sound b (book es p) = IsBook b es × (p ≡ endOf 0 es)
 Sound b (wrong p) = Unit {0}
 
 sound-pick : (b : List ℕ) (t : Bool) (x y : Entries) → (T t → Sound b x) → Sound b y → Sound b (pick t x y)
-unfolding pick
-sound-pick b true x y f g = f tt
-sound-pick b false x y f g = g
+sound-pick b t x y f g = on-pick (Sound b) t x y f (λ _. g)
 
 zeros-cons : (x : ℕ) (l : List ℕ) → x ≡ 0 → (b : List ℕ) (pre : List ℕ) → b ≡ pre ++ (x ∷ l) → b ≡ (pre ++ (0 ∷ [])) ++ l
 zeros-cons x l e b pre q = q ∙ ap (λ (y : ℕ). pre ++ (y ∷ l)) e ∙ sym (append-snoc pre 0 l)
@@ -122,25 +121,14 @@ unfolding zeroTail pick
 tail-zeros zero p e = refl
 tail-zeros (suc n) p e = tail-zeros n (suc p) e
 
-pick-true : (t : Bool) (x y : Entries) → T t → pick t x y ≡ x
-unfolding pick
-pick-true true x y h = refl
-pick-true false x y h = absurd h
-
-pick-false : (t : Bool) (x y : Entries) → (T t → ⊥) → pick t x y ≡ y
-unfolding pick
-pick-false true x y h = absurd (h tt)
-pick-false false x y h = refl
-
 -- where the record of a good entry stands, it is read
 pub read-good : (b : List ℕ) (at : ℕ) (e : Entry) (rest : List ℕ) → drop at b ≡ recordBytes e ++ rest → e .start ≡ at → GoodEntry e → Read b at e rest
 read-good b at e rest q s g =
     read-back b at e rest q s (g .some) (g .readable .admissible .short) (g .stock) (λ k h. readable-within (e .word) (g .readable) k h .0)
 
-zeros-first : (b : List ℕ) (at n : ℕ) → drop at b ≡ zeros n → T (eqb (getD b at 0) 0)
+zeros-first : (b : List ℕ) (at n : ℕ) → drop at b ≡ zeros n → eqb (getD b at 0) 0 ≡ true
 zeros-first b at n q =
-    of-true (eqb (getD b at 0) 0)
-    (eq-eqb (getD b at 0) 0 (ap (λ (k : ℕ). getD b k 0) (sym (add-zero at)) ∙ sym (getD-drop at b 0 0) ∙ ap (λ (l : List ℕ). getD l 0 0) q ∙ first n))
+    eq-eqb (getD b at 0) 0 (ap (λ (k : ℕ). getD b k 0) (sym (add-zero at)) ∙ sym (getD-drop at b 0 0) ∙ ap (λ (l : List ℕ). getD l 0 0) q ∙ first n)
   where
     first : (n : ℕ) → getD (zeros n) 0 0 ≡ 0
     first zero = refl
@@ -156,9 +144,10 @@ complete-from (suc k) b at seen [] n q g h =
 complete-from (suc k) b at seen (e ∷ rest) n q g h =
     let r : Read b at e (records rest ++ zeros n) = read-good b at e (records rest ++ zeros n) (q ∙ append-assoc (recordBytes e) (records rest) (zeros n)) (g .0) (g .1) in
     let next : at + 7 + getD b (at + 2) 0 ≡ at + size e = omega (arith, r .count) in
-    pick-false (eqb (getD b at 0) 0) _ _ (λ t. let z : ⊥ = omega (arith, eqb-true (getD b at 0) 0 (is-true (eqb (getD b at 0) 0) t), r .frame .first) in z)
+    pick-false (eqb (getD b at 0) 0) _ _ (ne-eqb (getD b at 0) 0 (λ e. let z : ⊥ = omega (arith, r .frame .first) in z))
     ∙ pick-true (isFramed b at && mayFollow seen (entryAt b at)) _ _
-    (both (isFramed b at) _ (framed-is b at (r .frame)) (subst (λ (x : Entry). T (mayFollow seen x)) (sym (r .entry)) (may-follow seen e (g .1) (g .2))))
+    (is-true _
+    (both (isFramed b at) _ (framed-is b at (r .frame)) (subst (λ (x : Entry). T (mayFollow seen x)) (sym (r .entry)) (may-follow seen e (g .1) (g .2)))))
     ∙ ap (λ (x : Entry). entriesFrom k b (at + 7 + getD b (at + 2) 0) (seen ++ (x ∷ []))) (r .entry)
     ∙ ap (λ (p : ℕ). entriesFrom k b p (seen ++ (e ∷ []))) next
     ∙ complete-from k b (at + size e) (seen ++ (e ∷ [])) rest n (subst (λ (p : ℕ). drop p b ≡ records rest ++ zeros n) next (r .left)) (g .3) (le-of-suc-le-suc h)
@@ -173,7 +162,7 @@ pub complete : (b : List ℕ) (es : List Entry) → IsBook b es → entries b �
 unfolding entries
 complete b es k =
     let l : length es ≤ length b = omega (arith, count-records es, ap length (k .written), length-append (records es) (zeros (k .pad))) in
-    pick-true (leb (length b) bookLimit) _ _ (of-true (leb (length b) bookLimit) (le-leb (length b) bookLimit (k .short)))
+    pick-true (leb (length b) bookLimit) _ _ (le-leb (length b) bookLimit (k .short))
     ∙ complete-from (suc (length b)) b 0 [] es (k .pad) (k .written) (k .good) (omega arith)
 
 -- a buffer is a book of at most one list of entries

@@ -6,13 +6,11 @@ use mathlib.Core.List.{List, [], _∷_, _++_}
 use mathlib.Core.Option.{Option, none, some, Option·none-ne-some}
 use Prim.Native.Nat.{ℕ}
 use Rattle.letters.specs.Choice.{pick}
+use Rattle.letters.proofs.Tests.{is-true, is-false, of-true, pick-true, pick-false}
 use Rattle.formula.proofs.Lists.{both-right, sameList, sameList-equal}
 use Rattle.entries.specs.Entries.{Entry, holds}
 use Rattle.entries.specs.Map.{lookup, removed, without, newEntry}
-use Rattle.entries.proofs.Tests.{is-true, is-false, of-true, sameList-refl}
-
-pick-is : (t : Bool) (x y : Option Entry) (u : Bool) → t ≡ u → pick t x y ≡ pick u x y
-pick-is t x y u e = ap (λ (s : Bool). pick s x y) e
+use Rattle.entries.proofs.Tests.{sameList-refl}
 
 -- the first that there is
 abbrev orElse : Option Entry → Option Entry → Option Entry
@@ -33,7 +31,7 @@ pub lookup-added : (es : List Entry) (w : List ℕ) (p s : ℕ) → lookup es w 
 unfolding lookup pick
 lookup-added es w p s e =
     lookup-append es (newEntry p w s ∷ []) w ∙ ap (λ (o : Option Entry). orElse o (lookup (newEntry p w s ∷ []) w)) e
-    ∙ pick-is (sameList w w) (some (newEntry p w s)) none true (is-true (sameList w w) (sameList-refl w))
+    ∙ pick-true (sameList w w) (some (newEntry p w s)) none (is-true (sameList w w) (sameList-refl w))
 
 orElse-none : (o : Option Entry) → orElse o none ≡ o
 orElse-none none = refl
@@ -44,7 +42,7 @@ pub lookup-others : (es : List Entry) (w v : List ℕ) (p s : ℕ) → (v ≡ w 
 unfolding lookup pick
 lookup-others es w v p s n =
     lookup-append es (newEntry p w s ∷ []) v
-    ∙ ap (orElse (lookup es v)) (pick-is (sameList w v) (some (newEntry p w s)) none false (is-false (sameList w v) (λ t. n (sym (sameList-equal w v t)))))
+    ∙ ap (orElse (lookup es v)) (pick-false (sameList w v) (some (newEntry p w s)) none (is-false (sameList w v) (λ t. n (sym (sameList-equal w v t)))))
     ∙ orElse-none (lookup es v)
 
 -- what is removed is not found
@@ -55,7 +53,7 @@ lookup-removed (e ∷ es) w = go (e .live && sameList (e .word) w) refl (lookup-
   where
     go : (t : Bool) → e .live && sameList (e .word) w ≡ t → lookup (without es w) w ≡ none → lookup (pick t (removed e) e ∷ without es w) w ≡ none
     go true q h = h
-    go false q h = pick-is (e .live && sameList (e .word) w) (some e) (lookup (without es w) w) false q ∙ h
+    go false q h = pick-false (e .live && sameList (e .word) w) (some e) (lookup (without es w) w) q ∙ h
 
 -- and every other word as before
 pub lookup-kept : (es : List Entry) (w v : List ℕ) → (v ≡ w → ⊥) → lookup (without es w) v ≡ lookup es v
@@ -66,7 +64,7 @@ lookup-kept (e ∷ es) w v n = go (e .live && sameList (e .word) w) refl (lookup
     go : (t : Bool) → e .live && sameList (e .word) w ≡ t → lookup (without es w) v ≡ lookup es v
         → lookup (pick t (removed e) e ∷ without es w) v ≡ pick (e .live && sameList (e .word) v) (some e) (lookup es v)
     go true q h =
-        h ∙ sym (pick-is (e .live && sameList (e .word) v) (some e) (lookup es v) false
+        h ∙ sym (pick-false (e .live && sameList (e .word) v) (some e) (lookup es v)
         (is-false (e .live && sameList (e .word) v)
         (λ t. n (sym (sameList-equal (e .word) v (both-right (e .live) _ t)) ∙ sameList-equal (e .word) w (both-right (e .live) _ (of-true (e .live && sameList (e .word) w) q))))))
     go false q h = ap (pick (e .live && sameList (e .word) v) (some e)) h

@@ -11,12 +11,13 @@ use native.Mathlib.Omega.{arith}
 use lib.Dec.{T}
 use lib.ListN.{length, getD}
 use Rattle.letters.specs.Choice.{pick}
+use Rattle.letters.proofs.Tests.{is-true, is-false, of-true, or-left, or-right, clash}
 use Rattle.formula.proofs.Lists.{both, sameList}
 use Rattle.entries.specs.Entries.{Entry, holds, isFresh}
 use Rattle.entries.specs.Book.{size, GoodAfter, IsBook}
 use Rattle.entries.specs.Map.{counted, liveCount}
 use Rattle.entries.specs.Rank.{insert, sortedOnto, sorted, liveBefore, AllBehind, Rising}
-use Rattle.entries.proofs.Tests.{is-true, is-false, of-true, or-left, or-right, clash, sameList-refl}
+use Rattle.entries.proofs.Tests.{sameList-refl}
 
 counted-swap : (s t : Bool) (n : ℕ) → counted s (counted t n) ≡ counted t (counted s n)
 counted-swap true true n = refl

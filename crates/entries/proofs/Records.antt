@@ -10,11 +10,11 @@ use native.Mathlib.Omega.{arith}
 use lib.Dec.{T, eqb, leb, eqb→eq, leb→le, le→leb}
 use lib.ListN.{length, getD, take, drop, length-map, length-append, length-drop, take-append-drop}
 use lib.Seq.{getD-drop, drop-drop, length-take-le, take-at, drop-at}
+use Rattle.letters.proofs.Tests.{or-cases}
 use Rattle.formula.specs.Limits.{limit}
 use Rattle.formula.proofs.Lists.{both, both-left, both-right}
 use Rattle.entries.specs.Entries.{Entry, valueOf, number, wordAt, entryAt, isFramed}
 use Rattle.entries.specs.Book.{byteOf, markOf, numberBytes, recordBytes, records, size, endOf}
-use Rattle.entries.proofs.Tests.{or-cases}
 use Rattle.entries.proofs.Bytes.{byte-value, value-byte}
 
 -- what a frame says

@@ -10,12 +10,12 @@ use lib.Dec.{T}
 use lib.ListN.{length, set, length-append, length-set}
 use lib.Seq.{set-at}
 use Rattle.letters.specs.Choice.{pick}
+use Rattle.letters.proofs.Tests.{is-false, of-true, or-left, or-right, clash}
 use Rattle.formula.proofs.Lists.{both-left, both-right, sameList, sameList-equal}
 use Rattle.entries.specs.Entries.{Entry, book, holds, isFresh, entries}
 use Rattle.entries.specs.Book.{zeros, byteOf, markOf, numberBytes, recordBytes, records, size, endOf, GoodAfter, IsBook, Opened}
 use Rattle.entries.specs.Map.{lookup, removed, without}
 use Rattle.entries.specs.Change.{withRemoved}
-use Rattle.entries.proofs.Tests.{is-false, of-true, or-left, or-right, clash}
 use Rattle.entries.proofs.Records.{length-record}
 use Rattle.entries.proofs.Agree.{complete}
 

@@ -11,13 +11,13 @@ use lib.ListN.{length, getD, take, drop}
 use lib.Seq.{sets, length-sets, take-take}
 use Rattle.memory.proofs.Stores.{sets-before, sets-there}
 use Rattle.letters.specs.Choice.{pick}
+use Rattle.letters.proofs.Tests.{of-true}
 use Rattle.recogniser.specs.Answer.{Readable}
 use Rattle.entries.specs.Limits.{bookLimit}
 use Rattle.entries.specs.Entries.{Entry, wordAt, entryAt, isFramed}
 use Rattle.entries.specs.Book.{endOf, IsBook}
 use Rattle.entries.specs.Map.{counted, liveCount}
 use Rattle.entries.specs.Rank.{insert, sortedOnto}
-use Rattle.entries.proofs.Tests.{of-true}
 use Rattle.entries.proofs.Ranked.{AllLive}
 use Rattle.entries.proofs.Records.{framed-true, framed-is}
 use Rattle.entries.proofs.Walk.{Walk, walk-start, Here, here}

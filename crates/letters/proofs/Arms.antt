@@ -2,7 +2,7 @@
 -- Assumes nothing.
 use mathlib.Core.Path.{_≡_, refl}
 use mathlib.Core.Logic.{inl, inr}
-use mathlib.Core.Bool.{Bool, true, false, _||_}
+use mathlib.Core.Bool.{Bool, false, _||_}
 use mathlib.Core.List.{List, [], _∷_, map}
 use Prim.Native.Nat.{ℕ}
 use lib.Dec.{T}
@@ -10,6 +10,7 @@ use lib.ListN.{length, replicate}
 use mir.Val.{hasKey}
 use types.Run.{OneOf, hit}
 use Rattle.letters.proofs.Picks.{or-no}
+use Rattle.letters.proofs.Tests.{is-false}
 
 -- f is r at each of the arm's keys, so it is at x
 pub same-at : {A : Type 0} (f : ℕ → A) (r : A) (ks : List ℕ) → replicate (length ks) r ≡ map f ks → (x : ℕ) → OneOf ks x → r ≡ f x
@@ -28,10 +29,6 @@ abbrev pub InNone : List (List ℕ) → ℕ → Type 0
 InNone [] x = Unit {0}
 InNone (ks ∷ arms) x = InNone arms x × (OneOf ks x → ⊥)
 
-untrue : (b : Bool) → (T b → ⊥) → b ≡ false
-untrue true h = absurd (h tt)
-untrue false h = refl
-
 pub in-none : (arms : List (List ℕ)) (x : ℕ) → InNone arms x → inArms arms x ≡ false
 in-none [] x n = refl
-in-none (ks ∷ arms) x n = or-no (hasKey ks x) (inArms arms x) (untrue (hasKey ks x) (λ (t : T (hasKey ks x)). n .1 (hit ks x t))) (in-none arms x (n .0))
+in-none (ks ∷ arms) x n = or-no (hasKey ks x) (inArms arms x) (is-false (hasKey ks x) (λ (t : T (hasKey ks x)). n .1 (hit ks x t))) (in-none arms x (n .0))

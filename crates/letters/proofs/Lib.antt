@@ -2,5 +2,6 @@ pub mod Arms
 pub mod Counted
 pub mod Picks
 pub mod Table
+pub mod Tests
 pub mod Written
 pub mod Branches

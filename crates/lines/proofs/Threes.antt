@@ -10,6 +10,7 @@ use lib.ListN.{length, getD, drop, length-drop}
 use lib.Seq.{getD-drop, drop-drop}
 use borrow.Author.Tests.{eq-eqb, eqb-true, leb-true, le-leb, lt-leb}
 use Rattle.letters.specs.Choice.{pick}
+use Rattle.letters.proofs.Picks.{and-left, and-right}
 use Rattle.lines.specs.Line.{isThree, valueOf, Decoding, faulty, after, decodeFrom}
 use Rattle.lines.specs.Three.{threeOf, threeAt}
 use Rattle.lines.specs.declared.Three.{Three}
@@ -25,8 +26,7 @@ pub record Bounds (a b c : ℕ) : Type 0 where
 
 -- both tests of two that pass together
 both : (a b : Bool) → (a && b) ≡ true → (a ≡ true) × (b ≡ true)
-both true b e = (refl, e)
-both false b e = (e, cc)
+both a b e = (and-left a b e, and-right a b e)
 
 -- bytes that pass the test are within the bounds
 pub three-bounds : (a b c : ℕ) → isThree a b c ≡ true → Bounds a b c

@@ -1,13 +1,14 @@
 -- A pass over the records of a book: the word is not among those passed, so it looks up what it does in those ahead.
 -- Assumes nothing.
 use mathlib.Core.Path.{_≡_, refl, sym, ap, _∙_}
-use mathlib.Core.Bool.{Bool, true, false, _&&_}
+use mathlib.Core.Bool.{true, false, _&&_}
 use mathlib.Core.List.{List, []}
 use mathlib.Core.Option.{Option, some}
 use Prim.Native.Nat.{ℕ, _+_, _≤_, _<_}
 use lib.Dec.{eqb}
 use lib.ListN.{getD}
 use Rattle.letters.specs.Choice.{pick}
+use Rattle.letters.proofs.Tests.{pick-true, pick-false}
 use Rattle.formula.proofs.Lists.{sameList}
 use Rattle.entries.specs.Entries.{Entry, wordAt, entryAt, Entries, book, entries}
 use Rattle.entries.specs.Book.{Opened}
@@ -36,14 +37,6 @@ ahead-start b free w o =
       is = opened-is b free o;
       looks = refl;
     }
-
-pick-true : (t : Bool) (x y : Option Entry) → t ≡ true → pick t x y ≡ x
-unfolding pick
-pick-true t x y e = ap (λ (s : Bool). pick s x y) e
-
-pick-false : (t : Bool) (x y : Option Entry) → t ≡ false → pick t x y ≡ y
-unfolding pick
-pick-false t x y e = ap (λ (s : Bool). pick s x y) e
 
 module _ (b : List ℕ) (at free : ℕ) (w : List ℕ) (a : Ahead b at free w) where
   pub at-record : at < free → Turn b at free (a .list) (a .seen) (a .rest)

@@ -9,9 +9,10 @@ use native.Mathlib.Nat.{le-of-suc-le-suc}
 use lib.Dec.{T}
 use lib.ListN.{length, getD, length-map}
 use lib.Seq.{ext-getD}
+use Rattle.letters.proofs.Tests.{is-true, is-false}
 use Rattle.formula.proofs.Lists.{sameList, sameList-equal}
 use Rattle.entries.specs.Entries.{valueOf}
-use Rattle.entries.proofs.Tests.{is-true, is-false, sameList-refl}
+use Rattle.entries.proofs.Tests.{sameList-refl}
 use Rattle.book_frame.proofs.Parts.{part, part-length, part-at}
 
 map-at : (l : List ℕ) (k : ℕ) → k < length l → getD (map valueOf l) k 0 ≡ valueOf (getD l k 0)

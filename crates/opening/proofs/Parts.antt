@@ -11,9 +11,10 @@ use lib.Dec.{T, eqb}
 use lib.ListN.{length, getD, drop, drop-of-length-le}
 use lib.Seq.{drop-cons, ext-getD}
 use Rattle.letters.specs.Choice.{pick}
+use Rattle.letters.proofs.Tests.{is-true, is-false}
 use Rattle.formula.proofs.Lists.{sameList, sameList-equal}
 use Rattle.entries.specs.Entries.{Entries, wrong, zeroTail}
-use Rattle.entries.proofs.Tests.{is-true, is-false, sameList-refl}
+use Rattle.entries.proofs.Tests.{sameList-refl}
 use Rattle.book_frame.proofs.Parts.{part, part-length, part-at}
 use Rattle.opening.specs.Chain.{buckets, hashOf}
 

@@ -10,13 +10,13 @@ use borrow.Author.Tests.{eq-eqb, ne-eqb, le-leb, lt-leb}
 use lib.Dec.{T, eqb}
 use lib.ListN.{length, getD, drop, set, length-set, length-replicate, drop-of-length-le, List·getD-eq-default}
 use Rattle.letters.specs.Choice.{pick}
+use Rattle.letters.proofs.Tests.{is-true, is-false, of-true, clash}
 use Rattle.formula.proofs.Lists.{both, both-left, both-right}
 use Rattle.entries.specs.Limits.{bookLimit}
 use Rattle.entries.specs.Readable.{isReadable}
 use Rattle.entries.specs.Entries.{Entry, wordAt, entryAt, isFramed, holds, isFresh, mayFollow, Entries, book, wrong, zeroTail, entriesFrom, entries}
 use Rattle.entries.specs.Book.{zeros}
 use Rattle.entries.specs.Map.{counted, liveCount}
-use Rattle.entries.proofs.Tests.{is-true, is-false, of-true, clash}
 use Rattle.entries.proofs.Records.{Framed, framed-true}
 use Rattle.entries.proofs.Agree.{Sound, sound}
 use Rattle.opening.specs.Chain.{buckets, bucketAt, Chained}

@@ -12,6 +12,7 @@ use borrow.Author.Tests.{leb-true}
 use lib.Dec.{T, eqb, leb}
 use lib.ListN.{length, getD, drop, length-append, length-drop}
 use Rattle.letters.specs.Choice.{pick}
+use Rattle.letters.proofs.Tests.{is-true}
 use Rattle.formula.proofs.Lists.{sameList, both-left}
 use Rattle.refusals.specs.Outcome.{Outcome, accepts, refuses}
 use Rattle.storage.specs.Stored.{storedForm}
@@ -19,7 +20,6 @@ use Rattle.entries.specs.Limits.{bookLimit}
 use Rattle.entries.specs.Entries.{Entry, entryAt, isFramed, mayFollow, Entries, book, wrong, zeroTail, entriesFrom, entries}
 use Rattle.entries.specs.Book.{zeros, recordBytes, records, size, endOf, GoodAfter, IsBook}
 use Rattle.entries.specs.Map.{lookup, counted, liveCount}
-use Rattle.entries.proofs.Tests.{is-true}
 use Rattle.entries.proofs.Records.{framed-true, length-record, end-length}
 use Rattle.entries.proofs.Agree.{Sound, sound}
 use Rattle.lookup.specs.Outcome.{checkOf, findOfEntry, findOf, removeOfEntry, removeOf, addOfEntry, addOf}

@@ -14,6 +14,7 @@ use Rattle.letters.specs.Marks.{neither, ya, ra, MedialGroup, group, ToneMark, 
 use Rattle.letters.specs.Marks.{Vowel, no-vowel, vowel-aa, vowel-i, vowel-ii, vowel-u, vowel-uu, vowel-e, vowel-ai}
 use Rattle.letters.specs.Marks.{vowel-e-aa, vowel-e-aa-killer, vowel-am, vowel-i-u, vowel-u-am}
 use Rattle.letters.specs.Weights.{isHead, isFinalLetter, bitIf, medialWeight, vowelWeight, vowelTall, toneWeight}
+use Rattle.letters.proofs.Tests.{is-true}
 use Rattle.formula.specs.Limits.{limit}
 use Rattle.formula.proofs.Lists.{both-left, both-right}
 use Rattle.formula.specs.Syllable.{Final, no-final, plain, stacked, kinzi, great-sa, Syllable, syllable, bare, finalOf, isFinal, isSyllable}
@@ -36,7 +37,6 @@ use Rattle.spelling.specs.Spell as spelling
 use Rattle.spelling.proofs.Longest.{spelled-within}
 use Rattle.weighing.specs.declared.order.Order.the-variants.{Less, Equal, Greater}
 use Rattle.collation.specs.Comparison.{CompareOutcome, ordered, first-refuses, second-refuses, CompareAnswers}
-use Rattle.entries.proofs.Tests.{is-true}
 use Rattle.packing.specs.Packing.{answer, Fits}
 use Rattle.packing.specs.Answers.{outcomeNumbers, bytesNumbers, RecordGiven, RecordGivenRight, givenNumbers, recordNumbers, compareNumbers}
 

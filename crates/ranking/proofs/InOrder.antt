@@ -10,11 +10,11 @@ use native.Mathlib.Omega.{arith}
 use lib.ListN.{length, getD, take, getElem?, length-map, List·getD-map}
 use lib.Seq.{getD-take, length-take-le}
 use Rattle.letters.specs.Choice.{pick}
+use Rattle.letters.proofs.Tests.{is-true}
 use Rattle.entries.specs.Entries.{Entry, entryAt}
 use Rattle.entries.specs.Book.{IsBook}
 use Rattle.entries.specs.Map.{liveCount}
 use Rattle.entries.specs.Rank.{insert, sortedOnto, sorted}
-use Rattle.entries.proofs.Tests.{is-true}
 use Rattle.entries.proofs.Ranked.{AllLive}
 use Rattle.filing.specs.Filing.{before, liveOnes, startOf}
 use Rattle.filing.proofs.Live.{live-count, entries-back, live-all, sorted-live}

@@ -12,12 +12,12 @@ use native.Mathlib.Omega.{arith}
 use lib.Dec.{T}
 use lib.ListN.{length, getD, getElem?}
 use Rattle.letters.specs.Choice.{pick}
+use Rattle.letters.proofs.Tests.{of-true}
 use Rattle.refusals.specs.Outcome.{refuses}
 use Rattle.entries.specs.Entries.{Entry, entryAt, Entries, wrong, entries}
 use Rattle.entries.specs.Book.{IsBook}
 use Rattle.entries.specs.Map.{liveCount}
 use Rattle.entries.specs.Rank.{insert, sortedOnto, sorted, liveBefore, AllBehind, Rising}
-use Rattle.entries.proofs.Tests.{of-true}
 use Rattle.entries.proofs.Agree.{complete}
 use Rattle.entries.proofs.Ranked.{rank-of-book, rising-of-book}
 use Rattle.lookup.specs.Outcome.{finds}

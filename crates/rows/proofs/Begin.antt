@@ -8,11 +8,12 @@ use lib.Dec.{T, eqb→eq}
 use Rattle.letters.specs.Letters.{isConsonant, isKiller, isStacker, isGreatSa}
 use Rattle.letters.specs.Marks.{neither, ya, ra, MedialGroup, group, medialText, Vowel, no-vowel, vowel-aa, vowel-i, vowel-ii, vowel-u, vowel-uu, vowel-e, vowel-ai, vowel-e-aa, vowel-e-aa-killer, vowel-am, vowel-i-u, vowel-u-am, vowelText, ToneMark, no-tone, dot, visarga, toneText}
 use Rattle.letters.specs.Weights.{isHead, isFinalLetter}
+use Rattle.letters.proofs.Tests.{or-left}
 use Rattle.formula.proofs.Lists.{both-left}
 use Rattle.formula.specs.Syllable.{Final, no-final, plain, stacked, kinzi, great-sa, syllable, isFinal, finalText, headText}
 use Rattle.formula.specs.Row.{Row, isRowAfter, IsRow, partsAfter, parts, joinAfter, join, Gives}
 use Rattle.rows.specs.Begin.{noBeginnings, beginnings, makesFinal, begins, firstValue, localBeginnings}
-use Rattle.rows.proofs.Sound.{or-left, apart}
+use Rattle.rows.proofs.Sound.{apart}
 use Rattle.rows.proofs.Complete.{final-consonant, first}
 
 -- x is neither 103A nor 1039, so that it makes no final of the value before it

@@ -13,6 +13,8 @@ use Rattle.letters.specs.Marks.{neither, ya, ra, MedialGroup, group, medialText
 use Rattle.letters.specs.Weights.{isHead, isFinalLetter}
 use Rattle.letters.specs.declared.kind.Kind.{Kind}
 use Rattle.letters.specs.declared.kind.Kind.the-variants.{Consonant, IndependentVowel, Medial, VowelMark, Tone, Killer, Stacker, GreatSa, Digit, Stop, Sign, Foreign}
+pub use Rattle.letters.proofs.Tests.{is-true, either}
+use Rattle.letters.proofs.Tests.{or-false, pick-true, on-pick}
 use Rattle.formula.proofs.Lists.{both, both-left, both-right}
 use Rattle.formula.specs.Syllable.{Final, no-final, plain, stacked, kinzi, great-sa, Syllable, syllable, bare, headOf, finalOf, carriesMarks, carriesFinal, isNoMedial, isNoVowel, isNoFinal, isNoTone, isClosed, isFinal, takesTone, isSyllable, follows, finalText, headText, part}
 use Rattle.formula.specs.Row.{Row, isRowAfter, IsRow, joinAfter, join}
@@ -38,15 +40,6 @@ when-true : (b : Bool) (o : Option Row) → T b → when b o ≡ o
 when-true true o t = refl
 when-true false o t = absurd t
 
-pub is-true : (b : Bool) → T b → b ≡ true
-is-true true t = refl
-is-true false t = absurd t
-
--- a test or one that fails
-or-false : (b : Bool) → T (b || false) → T b
-or-false true t = tt
-or-false false t = t
-
 -- `within`, as two orders, and back
 pub low : (a b x : ℕ) → T (within a b x) → a ≤ x
 low a b x t = leb→le a x (both-left (leb a x) (leb x b) t)
@@ -58,13 +51,8 @@ pub inside : (a b x : ℕ) → a ≤ x → x ≤ b → T (within a b x)
 inside a b x l h = both (leb a x) (leb x b) (le→leb a x l) (le→leb x b h)
 
 -- the kinds of heads
-pick-true : (b : Bool) (k l : Kind) → T b → pick b k l ≡ k
-unfolding pick
-pick-true true k l t = refl
-pick-true false k l t = absurd t
-
 pub consonant-kind : (x : ℕ) → T (isConsonant x) → kindOf x ≡ Consonant
-consonant-kind x t = pick-true (isConsonant x) Consonant _ t
+consonant-kind x t = pick-true (isConsonant x) Consonant _ (is-true (isConsonant x) t)
 
 pub final-consonant : (x : ℕ) → T (isFinalLetter x) → T (isConsonant x)
 final-consonant x t =
@@ -101,10 +89,6 @@ head-acts Stop x a t = refl
 head-acts Sign x a t = refl
 head-acts Foreign x a t = absurd t
 
-pub either : (P : Type 0) (a b : Bool) → (T a → P) → (T b → P) → T (a || b) → P
-either P true b f g t = f tt
-either P false b f g t = g t
-
 -- x is none of the marks, which stand from 102B to 103F
 abbrev NoMark : ℕ → Type 0
 NoMark x = 0x102B ≤ x → x ≤ 0x103F → ⊥
@@ -139,29 +123,24 @@ no-head-at a x p q n t =
     let e : x ≡ a = eqb→eq x a t in
     n (omega arith) (omega arith)
 
-on-kind : (P : Kind → Type 0) (b : Bool) (k l : Kind) → (T b → P k) → ((T b → ⊥) → P l) → P (pick b k l)
-unfolding pick
-on-kind P true k l f g = f tt
-on-kind P false k l f g = g (λ t. t)
-
 abbrev HeadKind : Kind → Type 0
 HeadKind k = T (isHeadKind k)
 
 pub head-kind : (x : ℕ) → T (isHead x) → T (isHeadKind (kindOf x))
 head-kind x i =
     let n : NoMark x = head-no-mark x i in
-    on-kind HeadKind (isConsonant x) Consonant _ (λ t. tt)
-    (λ c. on-kind HeadKind (isIndependentVowel x) IndependentVowel _ (λ t. tt)
-    (λ v. on-kind HeadKind (isMedial x) Medial _ (no-head-within 0x103B 0x103E x (omega arith) (omega arith) n)
-    (λ _. on-kind HeadKind (isVowelMark x) VowelMark _
+    on-pick HeadKind (isConsonant x) Consonant _ (λ t. tt)
+    (λ c. on-pick HeadKind (isIndependentVowel x) IndependentVowel _ (λ t. tt)
+    (λ v. on-pick HeadKind (isMedial x) Medial _ (no-head-within 0x103B 0x103E x (omega arith) (omega arith) n)
+    (λ _. on-pick HeadKind (isVowelMark x) VowelMark _
     (either ⊥ (within 0x102B 0x1032 x) _ (no-head-within 0x102B 0x1032 x (omega arith) (omega arith) n) (no-head-at 0x1036 x (omega arith) (omega arith) n))
-    (λ _. on-kind HeadKind (isTone x) Tone _ (no-head-within 0x1037 0x1038 x (omega arith) (omega arith) n)
-    (λ _. on-kind HeadKind (isKiller x) Killer _ (no-head-at 0x103A x (omega arith) (omega arith) n)
-    (λ _. on-kind HeadKind (isStacker x) Stacker _ (no-head-at 0x1039 x (omega arith) (omega arith) n)
-    (λ _. on-kind HeadKind (isGreatSa x) GreatSa _ (no-head-at 0x103F x (omega arith) (omega arith) n)
-    (λ _. on-kind HeadKind (isDigit x) Digit _ (λ t. tt)
-    (λ d. on-kind HeadKind (isStop x) Stop _ (λ t. tt)
-    (λ p. on-kind HeadKind (isSign x) Sign Foreign (λ t. tt)
+    (λ _. on-pick HeadKind (isTone x) Tone _ (no-head-within 0x1037 0x1038 x (omega arith) (omega arith) n)
+    (λ _. on-pick HeadKind (isKiller x) Killer _ (no-head-at 0x103A x (omega arith) (omega arith) n)
+    (λ _. on-pick HeadKind (isStacker x) Stacker _ (no-head-at 0x1039 x (omega arith) (omega arith) n)
+    (λ _. on-pick HeadKind (isGreatSa x) GreatSa _ (no-head-at 0x103F x (omega arith) (omega arith) n)
+    (λ _. on-pick HeadKind (isDigit x) Digit _ (λ t. tt)
+    (λ d. on-pick HeadKind (isStop x) Stop _ (λ t. tt)
+    (λ p. on-pick HeadKind (isSign x) Sign Foreign (λ t. tt)
     (λ s. either ⊥ (isConsonant x) _ c (either ⊥ (isIndependentVowel x) _ v (either ⊥ (isDigit x) _ d (either ⊥ (isStop x) (isSign x) p s))) i)))))))))))
 
 -- a head is read by `stepHead`

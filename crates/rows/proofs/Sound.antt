@@ -13,19 +13,12 @@ use Rattle.letters.specs.Weights.{isHead, isFinalLetter}
 use Rattle.letters.specs.declared.kind.Kind.{Kind}
 use Rattle.letters.specs.declared.kind.Kind.the-variants.{Consonant, IndependentVowel, Medial, VowelMark, Tone, Killer, Stacker, GreatSa, Digit, Stop, Sign, Foreign}
 use Rattle.formula.proofs.Classes.{inClass, kind-class, head-of}
+pub use Rattle.letters.proofs.Tests.{or-left}
+use Rattle.letters.proofs.Tests.{or-right, or-false}
 use Rattle.formula.proofs.Lists.{both, both-left, both-right, sameList, sameList-equal}
 use Rattle.formula.specs.Syllable.{Final, no-final, plain, stacked, kinzi, great-sa, Syllable, syllable, bare, headOf, finalOf, carriesMarks, carriesFinal, isNoMedial, isNoVowel, isNoFinal, isNoTone, isClosed, isFinal, takesTone, isSyllable, follows, finalText, headText, part}
 use Rattle.formula.specs.Row.{Row, isRowAfter, IsRow, joinAfter, join, Gives}
 use Rattle.rows.specs.Kept.{firstOf, writtenAs, medialAnd, vowelAnd, toneOf, when, onto, endOf, KeptOk, keptJoin, isNotGreatSa, isOpen, isBare, admits, stepHead, stepMedial, stepVowel, stepTone, stepGreatSa, close, killed, stepKiller, stacks, stepStacker, act, step, andThen, run}
-
--- an alternative that holds by its first part, by its second, and what follows from it
-pub or-left : (a b : Bool) → T a → T (a || b)
-or-left true b t = tt
-or-left false b t = absurd t
-
-pub or-right : (a b : Bool) → T b → T (a || b)
-or-right true b t = tt
-or-right false b t = t
 
 -- absent pieces are written with nothing
 pub no-medial-text : (m : MedialGroup) → T (isNoMedial m) → medialText m ≡ []
@@ -197,11 +190,7 @@ vowel-changed x h m v f t a k q n d =
 
 -- a syllable that has a final carries one; kinzi in the place of a plain 1004
 carries-final : (h : ℕ) (c : ℕ) (t : ToneMark) → T (carriesFinal h || (isNoFinal (plain c) && isNoTone t)) → T (carriesFinal h)
-carries-final h c t q = go (carriesFinal h) q
-  where
-    go : (b : Bool) → T (b || false) → T b
-    go true q = tt
-    go false q = q
+carries-final h c t q = or-false (carriesFinal h) q
 
 kinzi-ok : (h : ℕ) (m : MedialGroup) (v : Vowel) (c : ℕ) (t : ToneMark) → T (isNoTone t) → T (isSyllable (syllable h m v (plain c) t))
     → T (isSyllable (syllable h m v kinzi t))

@@ -14,8 +14,9 @@ use Rattle.letters.specs.Letters.{within, isMedial, isVowelMark, isTone, isKill
 use Rattle.letters.proofs.Counted.{on-chart}
 use Rattle.letters.proofs.Picks.{and-no-right}
 use Rattle.letters.proofs.Table.{at}
+use Rattle.letters.proofs.Tests.{either, is-true, implies, implied}
 use Rattle.formula.proofs.Lists.{every, both-left, both-right}
-use Rattle.rows.proofs.Complete.{low, high, either, is-true}
+use Rattle.rows.proofs.Complete.{low, high}
 use Rattle.storage.specs.Stored.{isRunMark, storageOrder, placeIn, rank, goesBehind}
 use Rattle.storage.specs.Putting.{rankTable}
 
@@ -81,17 +82,13 @@ mark-on-chart x t =
 
 -- a mark of the chart has a place in the order
 ranked : ℕ → Bool
-ranked x = not (isRunMark x) || ltb (rank x) 16
-
-ranked-mark : (a b : Bool) → T (not a || b) → T a → T b
-ranked-mark true b t u = t
-ranked-mark false b t u = absurd u
+ranked x = implies (isRunMark x) (ltb (rank x) 16)
 
 pub mark-rank : (x : ℕ) → T (isRunMark x) → rank x < 16
 unfolding ranked rank isRunMark pick
 mark-rank x t =
     let on = mark-on-chart x t in
-    ltb→lt (rank x) 16 (ranked-mark (isRunMark x) (ltb (rank x) 16) (on-chart ranked tt x (on .0) (on .1)) t)
+    ltb→lt (rank x) 16 (implied (isRunMark x) (ltb (rank x) 16) (on-chart ranked tt x (on .0) (on .1)) t)
 
 -- a test that the values of the order pass, each mark passes
 pub mark-test : (f : ℕ → Bool) → T (every f storageOrder) → (x : ℕ) → T (isRunMark x) → T (f x)

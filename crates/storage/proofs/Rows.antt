@@ -11,11 +11,12 @@ use Rattle.letters.specs.Letters.{isConsonant}
 use Rattle.letters.specs.Marks.{neither, ya, ra, MedialGroup, group, medialText, Vowel, no-vowel, vowel-aa, vowel-i, vowel-ii, vowel-u, vowel-uu, vowel-e, vowel-ai, vowel-e-aa, vowel-e-aa-killer, vowel-am, vowel-i-u, vowel-u-am, vowelText, ToneMark, no-tone, dot, visarga, toneText}
 use Rattle.letters.specs.Weights.{isHead, isFinalLetter}
 use Rattle.letters.proofs.Picks.{or-no}
+use Rattle.letters.proofs.Tests.{or-left, or-second, is-true}
 use Rattle.formula.proofs.Lists.{both-left, both-right}
 use Rattle.formula.specs.Syllable.{Final, no-final, plain, stacked, kinzi, great-sa, syllable, carriesMarks, carriesFinal, isNoMedial, isNoVowel, isNoFinal, isNoTone, isFinal, finalText, headText}
 use Rattle.formula.specs.Row.{Row, isRowAfter, IsRow, joinAfter, join, Gives}
-use Rattle.rows.proofs.Sound.{or-left, Parts, apart, no-medial-text, no-vowel-text, no-final-text, no-tone-text}
-use Rattle.rows.proofs.Complete.{is-true, final-consonant, first}
+use Rattle.rows.proofs.Sound.{Parts, apart, no-medial-text, no-vowel-text, no-final-text, no-tone-text}
+use Rattle.rows.proofs.Complete.{final-consonant, first}
 use Rattle.storage.specs.Stored.{isRunMark, rank, storedForm}
 use Rattle.storage.specs.Putting.{firstRank}
 use Rattle.storage.proofs.Ranks.{is-false, no-mark, no-mark-rank, behind-apart}
@@ -153,10 +154,6 @@ marks-above m v f t rest i a =
     simp append-assoc (piece-above 0 (medialText m) 4 _ (medial-climbs m) vowel)
 
 -- a head that is no C has nothing after it
-or-second : (a b : Bool) → a ≡ false → T (a || b) → T b
-or-second true b e t = absurd (subst T e tt)
-or-second false b e t = t
-
 bare-head : (h : ℕ) (m : MedialGroup) (v : Vowel) (f : Final) (t : ToneMark) → Parts h m v f t → isConsonant h ≡ false
     → medialText m ++ (vowelText v ++ (finalText f ++ toneText t)) ≡ []
 unfolding carriesMarks carriesFinal

@@ -12,8 +12,8 @@ use borrow.Author.Tests.{eqb-true, ltb-true, ltb-false, eq-eqb}
 use Rattle.letters.specs.Choice.{pick}
 use Rattle.letters.specs.Weights.{bitIf}
 use Rattle.letters.proofs.Counted.{count}
+use Rattle.letters.proofs.Tests.{is-true}
 use Rattle.formula.proofs.Lists.{every, both, both-left, both-right}
-use Rattle.rows.proofs.Complete.{is-true}
 use Rattle.storage.specs.Stored.{isRunMark, rank, goesBehind, insert, sortRuns}
 use Rattle.storage.specs.Sorted.{risesTo, isRising, SortedRun, SortedRuns, last-run, run-before}
 use Rattle.storage.proofs.Ranks.{is-false, rank-injective, behind-none, behind-apart, behind-mark, behind-marks}

@@ -12,13 +12,14 @@ use Rattle.letters.proofs.Table.{below}
 use Rattle.letters.specs.Letters.{isConsonant, isIndependentVowel, isDigit, isStop, isSign, within}
 use Rattle.letters.specs.Marks.{neither, ya, ra, MedialGroup, group, Vowel, no-vowel, vowel-aa, vowel-i, vowel-ii, vowel-u, vowel-uu, vowel-e, vowel-ai, vowel-e-aa, vowel-e-aa-killer, vowel-am, vowel-i-u, vowel-u-am, ToneMark, no-tone, dot, visarga}
 use Rattle.letters.specs.Weights.{isHead, isFinalLetter, medialWeight, vowelWeight, vowelTall, toneWeight}
+use Rattle.letters.proofs.Tests.{either, implies, implied}
 use Rattle.formula.proofs.Lists.{both, both-left, both-right}
 use Rattle.formula.specs.Syllable.{Final, no-final, plain, stacked, kinzi, great-sa, carriesMarks, carriesFinal, isNoMedial, isNoVowel, isNoFinal, isNoTone, isClosed, isFinal}
 use Rattle.formula.specs.Record.{finalNumberOf, linkOf}
-use Rattle.rows.proofs.Complete.{either, low, high}
+use Rattle.rows.proofs.Complete.{low, high}
 use Rattle.syllable_text.specs.Decode.{medialOfWeight, vowelOfWeight, finalOfNumbers, toneOfWeight}
 use Rattle.syllable_text.specs.Record.{isVowelNumbers, isFinalNumbers, isToneNumber, isRecord}
-use Rattle.syllable_text.proofs.Bytes.{on-pairs, implies, implied}
+use Rattle.syllable_text.proofs.Bytes.{on-pairs}
 
 -- the parts of `isRecord`
 pub record Tested (head medial vowel tall letter link tone : ℕ) : Type 0 where

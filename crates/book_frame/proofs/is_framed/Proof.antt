@@ -8,7 +8,7 @@ use native.Mathlib.Omega.{arith}
 use borrow.Author.Tests.{not-true, not-false}
 use lib.ListN.{getD}
 use denote.Ref.{now}
-use Rattle.entries.proofs.Tests.{is-true, is-false}
+use Rattle.letters.proofs.Tests.{is-true, is-false}
 use Rattle.entries.proofs.Records.{framed-true, framed-is}
 use Rattle.book_frame.proofs.Marks.{mark-met, mark-missed}
 use Rattle.book_frame.proofs.is_framed.Statement.{statement}

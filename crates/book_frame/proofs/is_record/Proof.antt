@@ -10,10 +10,11 @@ use borrow.Author.Tests.{not-true, not-false}
 use lib.ListN.{take, drop}
 use lib.Seq.{length-take-le}
 use denote.Ref.{now}
+use Rattle.letters.proofs.Tests.{of-true}
 use Rattle.recogniser.specs.Answer.{RowTest}
 use Rattle.entries.specs.Readable.{isReadable}
 use Rattle.entries.specs.Entries.{valueOf, wordAt, isFramed}
-use Rattle.entries.proofs.Tests.{of-true, readable-test, tests-agree}
+use Rattle.entries.proofs.Tests.{readable-test, tests-agree}
 use Rattle.entries.proofs.Records.{Framed, framed-true}
 use Rattle.book_frame.proofs.is_record.Statement.{statement}
 use Rattle.book_frame.proofs.is_record.Tie as tie

@@ -10,9 +10,9 @@ use borrow.Author.Tests.{eq-eqb, ne-eqb, not-true, not-false}
 use lib.Dec.{eqb}
 use lib.ListN.{length, getD, take, drop}
 use denote.Ref.{now}
+use Rattle.letters.proofs.Tests.{is-false}
 use Rattle.formula.proofs.Lists.{sameList, sameList-equal}
 use Rattle.entries.specs.Entries.{valueOf, wordAt}
-use Rattle.entries.proofs.Tests.{is-false}
 use Rattle.entries.proofs.Records.{Framed, framed-true, length-word}
 use Rattle.book_frame.proofs.Marks.{mark-met, mark-missed}
 use Rattle.lookup.proofs.look.has_word.Statement.{statement}
