@@ -21,7 +21,8 @@ use Rattle.transitions.specs.Transition.{finalBy, Makes, begins, begins-great-s
 use Rattle.syllables.proofs.Moved.{closed-final}
 use Rattle.weighing.specs.Keys.{keyLimit, usedBytes, zeros, keyOf}
 use Rattle.keying.specs.Weights.{weightsBy}
-use Rattle.keying.specs.Filling.{putLast, bytesAfter, belowLast, keptKey, KeyOf}
+use Rattle.syllables.specs.Window.{belowLast}
+use Rattle.keying.specs.Filling.{putLast, bytesAfter, keptKey, KeyOf}
 use Rattle.keying.proofs.Weighted.{weights-packed}
 
 five-long : (s : Syllable) → length (weightsOf s) ≡ 5

@@ -11,7 +11,7 @@ use lib.Seq.{sets}
 use Rattle.letters.specs.Choice.{pick}
 use Rattle.letters.specs.Letters.{within, isConsonant}
 use Rattle.letters.specs.Marks.{Vowel, no-vowel}
-use Rattle.letters.specs.Weights.{isHead, headWeight, headWeighed, independentVowelWeight, independentVowelWeighed, medialSetWeight, vowelWeight}
+use Rattle.letters.specs.Weights.{isHead, headWeight, headWeighed, independentVowelWeight, independentVowelWeighed, medialSetWeight, vowelWeight, weightOr}
 use Rattle.letters.specs.declared.weight.Weighed.{Weighed}
 use Rattle.letters.specs.declared.weight.Weighed.the-variants.{Weight, Nothing}
 use Rattle.letters.proofs.Written.{medial-written}
@@ -21,11 +21,12 @@ use Rattle.formula.specs.Syllable.{Final, no-final, plain, stacked, kinzi, grea
 use Rattle.formula.specs.Record.{finalNumberOf}
 use Rattle.formula.specs.Packed.{packed}
 use Rattle.formula.specs.Weighing.{finalWeightOf, weightsOf}
-use Rattle.rows.proofs.Sound.{apart, or-left, or-right}
+use Rattle.letters.proofs.Tests.{or-left, or-right}
+use Rattle.rows.proofs.Sound.{apart}
 use Rattle.rows.proofs.Complete.{is-true, low, high, either}
 use Rattle.syllables.specs.Parts.{headPart, medialPart, finalPart, vowelPart, tonePart}
 use Rattle.syllables.proofs.Parted.{parted}
-use Rattle.keying.specs.Weights.{weightOr, weightsBy}
+use Rattle.keying.specs.Weights.{weightsBy}
 
 head-back : (h : ℕ) → T (isHead h) → 0x1000 + (h - 0x1000) ≡ h
 head-back h t = let l = head-bounds h t .0 in omega arith

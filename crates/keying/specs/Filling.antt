@@ -12,7 +12,7 @@ use Rattle.formula.specs.Row.{Row}
 use Rattle.formula.specs.Weighing.{weightsOf}
 use Rattle.formula.specs.declared.Window.{Window}
 use Rattle.rows.specs.Kept.{endOf}
-use Rattle.syllables.specs.Window.{windowAfter, WindowOf}
+use Rattle.syllables.specs.Window.{windowAfter, WindowOf, belowLast}
 use Rattle.recogniser.specs.Walked.{Walked}
 use Rattle.weighing.specs.Keys.{keyLimit, zeros}
 use Rattle.keying.specs.Weights.{weightsBy}
@@ -29,11 +29,6 @@ bytesAfter d count packed bytes = pick (eqb d 2) (putLast count packed bytes) by
 pub record Advanced (d g x : ℕ) (window : Window) (bytes : List ℕ) (after : Window) (new : List ℕ) : Type 0 where
   pub moved : after ≡ windowAfter d g x window
   pub put : new ≡ bytesAfter d (window .count) (after .before) bytes
-
--- the syllables below the last
-abbrev pub belowLast : Row → Row
-belowLast [] = []
-belowLast (s ∷ kept) = kept
 
 -- the weights of what is kept, in the word's order
 abbrev pub keptKey : Row → List ℕ

@@ -2,15 +2,8 @@
 -- Inner contracts cite it; no public promise does. Assumes nothing.
 use mathlib.Core.List.{List, [], _∷_}
 use Prim.Native.Nat.{ℕ, _+_}
-use Rattle.letters.specs.Weights.{headWeighed, independentVowelWeighed, medialSetWeight}
-use Rattle.letters.specs.declared.weight.Weighed.{Weighed}
-use Rattle.letters.specs.declared.weight.Weighed.the-variants.{Weight, Nothing}
+use Rattle.letters.specs.Weights.{headWeighed, independentVowelWeighed, medialSetWeight, weightOr}
 use Rattle.syllables.specs.Parts.{headPart, medialPart, finalPart, vowelPart, tonePart}
-
--- the weight, or what stands for it where there is none
-abbrev pub weightOr : Weighed → ℕ → ℕ
-weightOr (Weight n) d = n
-weightOr Nothing d = d
 
 -- head, medial, final, vowel, tone; a head that is an I has a vowel weight in the place of the vowel that it can't carry
 unfoldable pub weightsBy : ℕ → List ℕ

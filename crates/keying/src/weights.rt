@@ -1,24 +1,14 @@
 // The weights of document 01, "Weights", of a packed syllable.
-use letters::weight::Weighed;
 use letters::weight::head_weight;
 use letters::weight::independent_vowel_weight;
 use letters::weight::medial_weight;
+use letters::weight::weight_or;
 use syllables::parts;
 ghost use mathlib.Core.Path.{_≡_};
 ghost use Prim.Native.Nat.{_+_, _≤_};
 ghost use lib.Seq.{sets};
 ghost use Rattle.weighing.specs.Keys.{keyLimit};
-ghost use Rattle.keying.specs.Weights.{weightOr, weightsBy};
-
-// The weight, or what stands for it where there is none.
-fn weight_or(weighed: Weighed, other: u8) -> u8
-    ensures { λ r. ⌜ r ≡ weightOr weighed other ⌝ }
-{
-    let Weighed::Weight(weight) = weighed else {
-        return other;
-    };
-    weight
-}
+ghost use Rattle.keying.specs.Weights.{weightsBy};
 
 // Puts the five weights of a packed syllable at a place of a key, in the order in which they are compared. A head that is an I has a vowel weight,
 // and a final weighs its number, whichever form it has.

@@ -139,3 +139,8 @@ finalWeighed x = pick (isFinalLetter x) (Weight (finalWeight x)) Nothing
 
 abbrev pub toneWeighed : ℕ → Weighed
 toneWeighed x = pick (eqb x 0x1037) (Weight 1) (pick (eqb x 0x1038) (Weight 2) Nothing)
+
+-- the weight, or what stands for it where there is none
+abbrev pub weightOr : Weighed → ℕ → ℕ
+weightOr (Weight n) other = n
+weightOr Nothing other = other

@@ -2,7 +2,7 @@
 ghost use mathlib.Core.Path.{_≡_};
 ghost use Rattle.letters.specs.Choice.{pick};
 ghost use Rattle.letters.specs.Letters.{within};
-ghost use Rattle.letters.specs.Weights.{headWeighed, independentVowelWeighed, medialSetWeight, finalNumbered, finalWeighed, vowelOfMark, vowelWith, toneWeighed};
+ghost use Rattle.letters.specs.Weights.{headWeighed, independentVowelWeighed, medialSetWeight, finalNumbered, finalWeighed, vowelOfMark, vowelWith, toneWeighed, weightOr};
 
 const FIRST_CONSONANT: u16 = 0x1000;
 
@@ -48,6 +48,16 @@ const MEDIAL_WEIGHTS: u64 = 0xFBA9_F874_F653_F210;
 pub enum Weighed {
     Weight(u8),
     Nothing,
+}
+
+// The weight, or what stands for it where there is none.
+pub fn weight_or(weighed: Weighed, other: u8) -> u8
+    ensures { λ r. ⌜ r ≡ weightOr weighed other ⌝ }
+{
+    let Weighed::Weight(weight) = weighed else {
+        return other;
+    };
+    weight
 }
 
 // Whether x is one of the values from first to last.

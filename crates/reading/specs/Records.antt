@@ -4,9 +4,7 @@ use mathlib.Core.Path.{_≡_}
 use mathlib.Core.List.{List, [], _∷_}
 use Prim.Native.Nat.{ℕ, _≤_, _<_}
 use lib.ListN.{length, getD, replicate}
-use Rattle.letters.specs.Weights.{medialSetWeight}
-use Rattle.letters.specs.declared.weight.Weighed.{Weighed}
-use Rattle.letters.specs.declared.weight.Weighed.the-variants.{Weight, Nothing}
+use Rattle.letters.specs.Weights.{medialSetWeight, weightOr}
 use Rattle.formula.specs.Syllable.{bare}
 use Rattle.formula.specs.Row.{Row, Gives}
 use Rattle.formula.specs.Record.{recordOf}
@@ -59,12 +57,8 @@ abbrev pub RecordRight : List ℕ → ℕ → SyllableRecord → Type 0
 RecordRight word number r = RecordAnswers word number (recordOutcomeOf (r .answer)) (r .bytes)
 
 -- the weight of a set of medials; inner contracts cite what follows
-abbrev pub weightOr : Weighed → ℕ
-weightOr (Weight n) = n
-weightOr Nothing = 0
-
 unfoldable pub medialWeightBy : ℕ → ℕ
-medialWeightBy set = weightOr (medialSetWeight set)
+medialWeightBy set = weightOr (medialSetWeight set) 0
 
 -- the bytes of a packed syllable
 unfoldable pub bytesBy : ℕ → List ℕ

@@ -11,14 +11,9 @@ use Rattle.formula.specs.Row.{Row}
 use Rattle.formula.specs.Packed.{packed}
 use Rattle.formula.specs.declared.Window.{Window}
 use Rattle.rows.specs.Kept.{endOf, keptJoin}
-use Rattle.syllables.specs.Window.{WindowOf}
+use Rattle.syllables.specs.Window.{WindowOf, belowLast}
 use Rattle.recogniser.specs.Walked.{Walked, WalkStopped}
 use Rattle.reading.specs.declared.scan.Scan.{Scan}
-
--- the syllables below the last
-abbrev pub belowLast : Row → Row
-belowLast [] = []
-belowLast (s ∷ kept) = kept
 
 -- what is kept, in the word's order: the syllables packed, and the places where they begin
 abbrev pub keptPacked : Row → List ℕ

@@ -1,6 +1,6 @@
 // The record of a syllable by number.
 use crate::read::read;
-use letters::weight::Weighed;
+use letters::weight::weight_or;
 use refusals::Counted;
 use refusals::Refusal;
 use syllables::parts;
@@ -23,11 +23,7 @@ pub struct SyllableRecord {
 fn medial_weight(set: u8) -> u8
     ensures { λ r. ⌜ r ≡ medialWeightBy set ⌝ }
 {
-    let weighed = letters::weight::medial_weight(set);
-    let Weighed::Weight(weight) = weighed else {
-        return 0;
-    };
-    weight
+    weight_or(letters::weight::medial_weight(set), 0)
 }
 
 // The record of a packed syllable.

@@ -1,6 +1,7 @@
 -- The window of a reading: the last two syllables, packed, and what a value makes of them. Inner contracts cite it; no public promise does.
 -- Assumes nothing.
 use mathlib.Core.Path.{_≡_}
+use mathlib.Core.List.{[], _∷_}
 use Prim.Native.Nat.{ℕ, _+_, _-_, _*_, _≤_, _<_}
 use lib.Dec.{T, eqb}
 use lib.ListN.{length}
@@ -51,3 +52,8 @@ pub record WindowOf (kept : Row) (w : Window) : Type 0 where
   pub count : w .count ≡ length kept
   pub last : w .last ≡ packedTop kept
   pub before : T (isNoFinal (endOf kept)) → w .before ≡ packedBelow kept
+
+-- the syllables below the last
+abbrev pub belowLast : Row → Row
+belowLast [] = []
+belowLast (s ∷ kept) = kept
