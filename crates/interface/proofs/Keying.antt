@@ -1,11 +1,12 @@
 -- What the weights of a word tell, written to lent output: the bytes are those of the row, all 320 of them.
 -- Assumes nothing.
 use mathlib.Core.Path.{_≡_, ap, sym, subst, _∙_}
-use mathlib.Core.List.{List, _++_}
+use mathlib.Core.List.{List}
 use Prim.Native.Nat.{ℕ, _≤_, _<_}
 use native.Mathlib.Omega.{arith}
-use lib.ListN.{length, take, drop}
-use lib.Seq.{take-all}
+use lib.ListN.{length}
+use lib.Seq.{sets}
+use Rattle.memory.proofs.Stores.{sets-front}
 use Rattle.formula.specs.Row.{Row}
 use Rattle.refusals.specs.Refusal.{numberOf, placeOf}
 use Rattle.refusals.specs.Outcome.{accepts, refuses, outcomeOf}
@@ -43,10 +44,9 @@ module _ (w : Weighed) where
   short-right before after less same =
       subst (λ (n : ℕ). KeyWritten (w .word) before after (refuses 5 n)) key-size (too-short stored-row (omega (arith, key-size)) same)
 
-  pub written-right : (before after : List ℕ) → keyLimit ≤ length before → after ≡ take keyLimit (w .bytes) ++ drop keyLimit before
+  pub written-right : (before after : List ℕ) → keyLimit ≤ length before → after ≡ sets before 0 (w .bytes)
       → KeyWritten (w .word) before after (accepts (w .count))
   written-right before after fits is =
+      let room : length (keyBytes row) ≤ length before = omega (arith, key-size) in
       subst (λ (n : ℕ). KeyWritten (w .word) before after (accepts n)) counted
-      (put stored-row (omega (arith, key-size))
-      (is ∙ ap (λ (l : List ℕ). l ++ drop keyLimit before) (take-all keyLimit (w .bytes) (omega (arith, w .right .room)) ∙ bytes-are)
-      ∙ ap (λ (n : ℕ). keyBytes row ++ drop n before) (sym key-size)))
+      (put stored-row room (is ∙ ap (sets before 0) bytes-are ∙ sets-front (keyBytes row) before room))

@@ -1,31 +1,15 @@
 // A key and a decoded line, written to lent output.
 use collation::weigh::weigh;
 use lines::decode;
+use memory::copies::put_bytes;
 use normaliser::put_out;
 use refusals::Counted;
 use refusals::Refusal;
-ghost use mathlib.Core.Path.{_≡_};
-ghost use mathlib.Core.List.{_++_};
-ghost use Prim.Native.Nat.{_≤_};
-ghost use lib.ListN.{length, take, drop};
 ghost use Rattle.refusals.specs.Outcome.{outcomeOf};
-ghost use Rattle.weighing.specs.Keys.{keyLimit};
 ghost use Rattle.interface.specs.Outputs.{KeyWritten, DecodeWritten};
 
 // How many bytes a key is held in.
 const KEY_SIZE: usize = 320;
-
-// Writes a key to the front of the output.
-fn copy_key(bytes: &[u8; KEY_SIZE], output: &mut [u8])
-    requires { ⌜ (keyLimit ≤ length (now bytes)) × (keyLimit ≤ length (now output)) ⌝ }
-    ensures { λ _. ⌜ now (output .exit) ≡ take keyLimit (now (bytes .entry)) ++ drop keyLimit (now (output .entry)) ⌝ }
-{
-    let mut at = 0;
-    while at < KEY_SIZE {
-        output[at] = bytes[at];
-        at += 1;
-    }
-}
 
 // Writes the key of a word to the front of the output.
 pub(crate) fn put_key(word: &[u16], output: &mut [u8]) -> Counted
@@ -39,7 +23,7 @@ pub(crate) fn put_key(word: &[u16], output: &mut [u8]) -> Counted
             if output.len() < KEY_SIZE {
                 return Counted::Refused(Refusal::OutputTooShort(KEY_SIZE));
             }
-            copy_key(&bytes, output);
+            put_bytes(&bytes, output, 0);
             Counted::Count(count)
         }
     }

@@ -1,11 +1,9 @@
 // The normaliser: a word of any values to its stored form, which is then read.
 use formula::Word;
+use memory::copies::put_values;
 use refusals::Counted;
 use refusals::Refusal;
 ghost use mathlib.Core.Path.{_≡_};
-ghost use mathlib.Core.List.{_++_};
-ghost use Prim.Native.Nat.{_≤_};
-ghost use lib.ListN.{length, drop};
 ghost use Rattle.refusals.specs.Outcome.{outcomeOf};
 ghost use Rattle.refusals.specs.Output.{Puts};
 ghost use Rattle.normaliser.specs.Normal.{refusedWord, HandedIn, NormalRight, NormaliseRight};
@@ -52,18 +50,6 @@ fn normal_form(word: &[u16]) -> Normalised
     Normalised { answer, word: form }
 }
 
-// Writes values to the front of a slice.
-fn copy_out(values: &[u16], output: &mut [u16])
-    requires { ⌜ length (now values) ≤ length (now output) ⌝ }
-    ensures { λ _. ⌜ now (output .exit) ≡ now (values .entry) ++ drop (length (now (values .entry))) (now (output .entry)) ⌝ }
-{
-    let mut at = 0;
-    while at < values.len() {
-        output[at] = values[at];
-        at += 1;
-    }
-}
-
 // Writes values to the front of `output`, where there is room for them, and tells how many.
 pub fn put_out(values: &[u16], output: &mut [u16]) -> Counted
     ensures { λ r. ⌜ Puts (now (values .entry)) (now (output .entry)) (now (output .exit)) (outcomeOf r) ⌝ }
@@ -71,7 +57,7 @@ pub fn put_out(values: &[u16], output: &mut [u16]) -> Counted
     if output.len() < values.len() {
         return Counted::Refused(Refusal::OutputTooShort(values.len()));
     }
-    copy_out(values, output);
+    put_values(values, output, 0);
     Counted::Count(values.len())
 }
 

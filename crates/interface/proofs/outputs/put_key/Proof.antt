@@ -1,7 +1,7 @@
 -- `interface::outputs::put_key` meets its contract: the weights are written out where there is room for them.
 -- Assumes nothing.
 use borrow.Author.Needs.{needs}
-use mathlib.Core.Path.{refl}
+use mathlib.Core.Path.{refl, sym}
 use native.Mathlib.Omega.{arith}
 use Rattle.collation.proofs.Weighing.{Weighed}
 use Rattle.interface.proofs.Keying.{refused-right, short-right, written-right}
@@ -33,10 +33,11 @@ enum-known-answer-2 c = search needs
 returns : tie.Need-returns
 returns c = short-right (weighed (c .before .before)) _ _ (c .if1 .taken) refl
 
-copy-key-requires : tie.Need-copy-key-requires
-copy-key-requires c κs =
-    let room = weighed (c .before .before .before .before) .right .room in
-    (omega (arith, room), c .before .before .if1 .left)
+slice-aggregate-put-bytes : tie.Need-slice-aggregate-put-bytes
+slice-aggregate-put-bytes c = sym (weighed (c .before .before .before) .right .room)
+
+put-bytes-requires : tie.Need-put-bytes-requires
+put-bytes-requires c κs = omega (arith, weighed (c .before .before .before .before) .right .room)
 
 returns-2 : tie.Need-returns-2
 returns-2 c =
@@ -49,7 +50,7 @@ same-length c = search needs
 returns-3 : tie.Need-returns-3
 returns-3 c =
     let e = c .before .before .before .before .before in
-    written-right (weighed (e .before .before)) _ _ (e .if1 .left) (c .before .before .copy-key .ensures)
+    written-right (weighed (e .before .before)) _ _ (e .if1 .left) (c .before .before .put-bytes .ensures)
 
 pub put-key-spec : {M : Type 1} → statement M
 put-key-spec =
@@ -59,7 +60,8 @@ put-key-spec =
     enum-known-answer
     enum-known-answer-2
     returns
-    copy-key-requires
+    slice-aggregate-put-bytes
+    put-bytes-requires
     returns-2
     same-length
     returns-3)
