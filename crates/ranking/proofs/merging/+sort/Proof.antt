@@ -32,30 +32,19 @@ sort-at t = and 4 sort-kinds.ps (is 4 sort-kinds.ps μ-sort t) sort.Pre
 abbrev sort-below : ℕ → In 4 sort-kinds.ps
 sort-below t = and 4 sort-kinds.ps (falls 4 sort-kinds.ps _<_ μ-sort t) sort.Pre
 
-sort-slice-relend-prefix-sort : (t : ℕ) → sort-lts.Need-slice-relend-prefix-sort (
-  sort-below t,
-  sort.Post,
-  join-reads.Asked,
-  join-reads.Learnt,
-) (sort-at t) sort.Post
+-- what is asked and learnt at each call
+abbrev claims : ℕ → sort-lts.Claims
+claims t = (sort-below t, sort.Post, join-reads.Asked, join-reads.Learnt)
+
+sort-slice-relend-prefix-sort : (t : ℕ) → sort-lts.Need-slice-relend-prefix-sort (claims t) (sort-at t) sort.Post
 sort-slice-relend-prefix-sort t c = omega arith
 
-sort-slice-aggregate-sort : (t : ℕ) → sort-lts.Need-slice-aggregate-sort (
-  sort-below t,
-  sort.Post,
-  join-reads.Asked,
-  join-reads.Learnt,
-) (sort-at t) sort.Post
+sort-slice-aggregate-sort : (t : ℕ) → sort-lts.Need-slice-aggregate-sort (claims t) (sort-at t) sort.Post
 sort-slice-aggregate-sort t c =
     let l = now (c .before .before .before .before .before .args .starts) in
     sym (length-take-le (length l / 2) l (omega arith))
 
-sort-sort-requires : (t : ℕ) → sort-lts.Need-sort-requires (
-  sort-below t,
-  sort.Post,
-  join-reads.Asked,
-  join-reads.Learnt,
-) (sort-at t) sort.Post
+sort-sort-requires : (t : ℕ) → sort-lts.Need-sort-requires (claims t) (sort-at t) sort.Post
 sort-sort-requires t c κs =
     let s = c .before .before .before .before .before .before in
     let l = now (s .args .starts) in
@@ -64,20 +53,10 @@ sort-sort-requires t c κs =
       (part-sortable (s .pre .1 .0) (keyed-take _ _ (length l / 2) l (s .pre .1 .0 .keyed)), omega (arith, long, s .pre .1 .1)),
     )
 
-sort-mul-sort : (t : ℕ) → sort-lts.Need-mul-sort (
-  sort-below t,
-  sort.Post,
-  join-reads.Asked,
-  join-reads.Learnt,
-) (sort-at t) sort.Post
+sort-mul-sort : (t : ℕ) → sort-lts.Need-mul-sort (claims t) (sort-at t) sort.Post
 sort-mul-sort t c = search needs
 
-sort-sub-sort : (t : ℕ) → sort-lts.Need-sub-sort (
-  sort-below t,
-  sort.Post,
-  join-reads.Asked,
-  join-reads.Learnt,
-) (sort-at t) sort.Post
+sort-sub-sort : (t : ℕ) → sort-lts.Need-sub-sort (claims t) (sort-at t) sort.Post
 sort-sub-sort t c =
     let p = c .before .before .before .before in
     let s = p .before .before .before .before .before .before .before in
@@ -86,28 +65,13 @@ sort-sub-sort t c =
     let first = p .sort in
     omega (arith, once-long less l (length l / 2) (omega arith) (first .ensures))
 
-sort-part-sort-start : (t : ℕ) → sort-lts.Need-part-sort-start (
-  sort-below t,
-  sort.Post,
-  join-reads.Asked,
-  join-reads.Learnt,
-) (sort-at t) sort.Post
+sort-part-sort-start : (t : ℕ) → sort-lts.Need-part-sort-start (claims t) (sort-at t) sort.Post
 sort-part-sort-start t c = sort-sub-sort t c
 
-sort-part-sort-end : (t : ℕ) → sort-lts.Need-part-sort-end (
-  sort-below t,
-  sort.Post,
-  join-reads.Asked,
-  join-reads.Learnt,
-) (sort-at t) sort.Post
+sort-part-sort-end : (t : ℕ) → sort-lts.Need-part-sort-end (claims t) (sort-at t) sort.Post
 sort-part-sort-end t c = omega arith
 
-sort-sort-requires-2 : (t : ℕ) → sort-lts.Need-sort-requires-2 (
-  sort-below t,
-  sort.Post,
-  join-reads.Asked,
-  join-reads.Learnt,
-) (sort-at t) sort.Post
+sort-sort-requires-2 : (t : ℕ) → sort-lts.Need-sort-requires-2 (claims t) (sort-at t) sort.Post
 sort-sort-requires-2 t c κs =
     let p = c .before .before .before .before .before .before in
     let s = p .before .before .before .before .before .before .before in
@@ -124,12 +88,7 @@ sort-sort-requires-2 t c κs =
       ),
     )
 
-sort-join-requires : (t : ℕ) → sort-lts.Need-join-requires (
-  sort-below t,
-  sort.Post,
-  join-reads.Asked,
-  join-reads.Learnt,
-) (sort-at t) sort.Post
+sort-join-requires : (t : ℕ) → sort-lts.Need-join-requires (claims t) (sort-at t) sort.Post
 sort-join-requires t c κs =
     let q = c .before .before .before .before .before .before in
     let p = q .before .before .before .before .before .before .before in
@@ -148,12 +107,7 @@ sort-join-requires t c κs =
       omega (arith, long, s .pre .1 .1, first .kept .1 .1 .1 .0, second .kept .1 .1 .1 .0),
     )
 
-sort-same-length : (t : ℕ) → sort-lts.Need-same-length (
-  sort-below t,
-  sort.Post,
-  join-reads.Asked,
-  join-reads.Learnt,
-) (sort-at t) sort.Post
+sort-same-length : (t : ℕ) → sort-lts.Need-same-length (claims t) (sort-at t) sort.Post
 sort-same-length t c =
     let q = c .before .before .before .before .before .before .before .before .before .before .before in
     let p = q .before .before .before .before .before .before .before in
@@ -165,23 +119,13 @@ sort-same-length t c =
     let back = put-back less l (length l / 2) (omega arith) (first .ensures) (second .ensures) in
     c .before .before .before .before .join .kept .1 .1 .0 ∙ ap length back ∙ halves-long less l (length l / 2) (omega arith)
 
-sort-same-length-2 : (t : ℕ) → sort-lts.Need-same-length-2 (
-  sort-below t,
-  sort.Post,
-  join-reads.Asked,
-  join-reads.Learnt,
-) (sort-at t) sort.Post
+sort-same-length-2 : (t : ℕ) → sort-lts.Need-same-length-2 (claims t) (sort-at t) sort.Post
 sort-same-length-2 t c =
     let q = c .before .before .before .before .before .before .before .before .before .before .before in
     let p = q .before .before .before .before .before .before .before in
     c .before .before .before .before .join .kept .1 .1 .1 .1 .0 ∙ q .sort2 .kept .1 .1 .1 .0 ∙ p .sort .kept .1 .1 .1 .0
 
-sort-returns : (t : ℕ) → sort-lts.Need-returns (
-  sort-below t,
-  sort.Post,
-  join-reads.Asked,
-  join-reads.Learnt,
-) (sort-at t) sort.Post
+sort-returns : (t : ℕ) → sort-lts.Need-returns (claims t) (sort-at t) sort.Post
 sort-returns t c =
     let q = c .before .before .before .before .before .before .before .before .before .before .before in
     let p = q .before .before .before .before .before .before .before in
@@ -194,23 +138,13 @@ sort-returns t c =
     c .before .before .before .before .join .ensures ∙ ap (λ (x : List ℕ). partsMerged (now (s .args .book)) x (length l / 2)) back
     ∙ halves-merged less l (length l / 2) (omega arith) (goes-transitive (now (s .args .book))) (goes-level (now (s .args .book)))
 
-sort-returns-2 : (t : ℕ) → sort-lts.Need-returns-2 (
-  sort-below t,
-  sort.Post,
-  join-reads.Asked,
-  join-reads.Learnt,
-) (sort-at t) sort.Post
+sort-returns-2 : (t : ℕ) → sort-lts.Need-returns-2 (claims t) (sort-at t) sort.Post
 sort-returns-2 t c =
     let s = c .before .before .before .before .args in
     few-in-order (goesBefore (now (s .book))) (now (s .starts)) (omega arith)
 
 pub +sort-spec : {M : Type 1} → statement M
-+sort-spec = close μ-sort λ t. sort-lts.spec (
-  sort-below t,
-  sort.Post,
-  join-reads.Asked,
-  join-reads.Learnt,
-)
++sort-spec = close μ-sort λ t. sort-lts.spec (claims t)
     (sort-at t)
     sort.Post
     (sort-slice-relend-prefix-sort t)
