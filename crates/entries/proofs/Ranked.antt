@@ -30,6 +30,16 @@ abbrev pub AllLive : List Entry → Type 0
 AllLive [] = Unit {0}
 AllLive (e ∷ l) = T (e .live) × AllLive l
 
+module _ {A : Type 0} (before : A → A → Bool) where
+  pub length-insert : (x : A) (l : List A) → length (insert before x l) ≡ suc (length l)
+  unfolding insert pick
+  length-insert x [] = refl
+  length-insert x (y ∷ l) = go (before x y) (length-insert x l)
+    where
+      go : (b : Bool) → length (insert before x l) ≡ suc (length l) → length (pick b (x ∷ y ∷ l) (y ∷ insert before x l)) ≡ suc (suc (length l))
+      go true h = refl
+      go false h = ap suc h
+
 module _ (before : Entry → Entry → Bool) where
   live-insert : (x : Entry) (l : List Entry) → T (x .live) → AllLive l → AllLive (insert before x l)
   unfolding insert pick
@@ -39,15 +49,6 @@ module _ (before : Entry → Entry → Bool) where
       go : (b : Bool) → AllLive (insert before x l) → AllLive (pick b (x ∷ y ∷ l) (y ∷ insert before x l))
       go true h = (t, a)
       go false h = (a .0, h)
-
-  length-insert : (x : Entry) (l : List Entry) → length (insert before x l) ≡ suc (length l)
-  unfolding insert pick
-  length-insert x [] = refl
-  length-insert x (y ∷ l) = go (before x y) (length-insert x l)
-    where
-      go : (b : Bool) → length (insert before x l) ≡ suc (length l) → length (pick b (x ∷ y ∷ l) (y ∷ insert before x l)) ≡ suc (suc (length l))
-      go true h = refl
-      go false h = ap suc h
 
   -- sorting in one live entry counts it once
   before-insert : (x : Entry) (l : List Entry) (e : Entry) → T (x .live) → AllLive l → liveBefore before (insert before x l) e ≡ counted (before x e) (liveBefore before l e)
@@ -82,7 +83,7 @@ module _ (before : Entry → Entry → Bool) where
     where
       go : (t : Bool) → length (sortedOnto before (insert before e d) es) ≡ liveCount es + length (insert before e d) → length (sortedOnto before d es) ≡ liveCount es + length d
           → length (sortedOnto before (pick t (insert before e d) d) es) ≡ counted t (liveCount es) + length d
-      go true h i = h ∙ omega (arith, length-insert e d)
+      go true h i = h ∙ omega (arith, length-insert before e d)
       go false h i = i
 
   -- sorting changes no count

@@ -8,16 +8,17 @@ use Rattle.letters.specs.Choice.{pick}
 use Rattle.entries.specs.Entries.{Entry}
 use Rattle.entries.specs.Map.{counted}
 
-module _ (before : Entry → Entry → Bool) where
-  -- an entry among others that are in order
-  unfoldable pub insert : Entry → List Entry → List Entry
-  insert entry [] = entry ∷ []
-  insert entry (first ∷ rest) = pick (before entry first) (entry ∷ first ∷ rest) (first ∷ insert entry rest)
+module _ {A : Type 0} (before : A → A → Bool) where
+  -- one among others that are in order, behind those that it does not stand before
+  unfoldable pub insert : A → List A → List A
+  insert one [] = one ∷ []
+  insert one (first ∷ rest) = pick (before one first) (one ∷ first ∷ rest) (first ∷ insert one rest)
 
+module _ (before : Entry → Entry → Bool) where
   -- the live entries of a list, put among those that are in order already
   unfoldable pub sortedOnto : List Entry → List Entry → List Entry
   sortedOnto done [] = done
-  sortedOnto done (entry ∷ entries) = sortedOnto (pick (entry .live) (insert entry done) done) entries
+  sortedOnto done (entry ∷ entries) = sortedOnto (pick (entry .live) (insert before entry done) done) entries
 
   -- the live entries in order
   abbrev pub sorted : List Entry → List Entry

@@ -8,7 +8,8 @@ use native.Mathlib.Omega.{arith}
 use lib.ListN.{length, take, drop, length-append, length-drop, take-append-drop, drop-of-length-le}
 use lib.Seq.{length-take-le, take-all, take-at, drop-at}
 use borrow.Rule.Slice.PartMut.{putMid, postOf}
-use Rattle.ranking.specs.Sorting.{insertStart, inOrderOnto, inOrder, merged}
+use Rattle.entries.specs.Rank.{insert}
+use Rattle.ranking.specs.Sorting.{inOrderOnto, inOrder, merged}
 use Rattle.ranking.proofs.Merges.{length-in-order, length-merged, merged-parts}
 
 module _ (less : ℕ → ℕ → Bool) (starts : List ℕ) (middle : ℕ) (parted : middle ≤ length starts) where
@@ -72,7 +73,7 @@ module _ (less : ℕ → ℕ → Bool) (starts : List ℕ) (middle : ℕ) (parte
 
 -- a list of one start or none is in order
 pub few-in-order : (less : ℕ → ℕ → Bool) (l : List ℕ) → length l ≤ 1 → l ≡ inOrder less l
-unfolding inOrderOnto insertStart
+unfolding inOrderOnto insert
 few-in-order less [] h = refl
 few-in-order less (x ∷ []) h = refl
 few-in-order less (x ∷ y ∷ l) h = let z : ⊥ = omega arith in absurd z

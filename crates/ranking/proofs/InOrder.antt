@@ -18,17 +18,17 @@ use Rattle.entries.specs.Rank.{insert, sortedOnto, sorted}
 use Rattle.entries.proofs.Ranked.{AllLive}
 use Rattle.filing.specs.Filing.{before, liveOnes, startOf}
 use Rattle.filing.proofs.Live.{live-count, entries-back, live-all, sorted-live}
-use Rattle.ranking.specs.Sorting.{insertStart, inOrderOnto, inOrder, goesBefore}
+use Rattle.ranking.specs.Sorting.{inOrderOnto, inOrder, goesBefore}
 use Rattle.ranking.proofs.Merges.{length-in-order}
 
 map-insert : (bytes : List ℕ) (s : ℕ) (l : List ℕ)
-    → map (entryAt bytes) (insertStart (goesBefore bytes) s l) ≡ insert before (entryAt bytes s) (map (entryAt bytes) l)
-unfolding insertStart insert goesBefore pick
+    → map (entryAt bytes) (insert (goesBefore bytes) s l) ≡ insert before (entryAt bytes s) (map (entryAt bytes) l)
+unfolding insert goesBefore pick
 map-insert bytes s [] = refl
 map-insert bytes s (x ∷ l) = go (before (entryAt bytes s) (entryAt bytes x)) (map-insert bytes s l)
   where
-    go : (t : Bool) → map (entryAt bytes) (insertStart (goesBefore bytes) s l) ≡ insert before (entryAt bytes s) (map (entryAt bytes) l)
-        → map (entryAt bytes) (pick t (s ∷ x ∷ l) (x ∷ insertStart (goesBefore bytes) s l))
+    go : (t : Bool) → map (entryAt bytes) (insert (goesBefore bytes) s l) ≡ insert before (entryAt bytes s) (map (entryAt bytes) l)
+        → map (entryAt bytes) (pick t (s ∷ x ∷ l) (x ∷ insert (goesBefore bytes) s l))
         ≡ pick t (entryAt bytes s ∷ entryAt bytes x ∷ map (entryAt bytes) l)
         (entryAt bytes x ∷ insert before (entryAt bytes s) (map (entryAt bytes) l))
     go true h = refl
@@ -41,7 +41,7 @@ map-onto bytes d [] a = refl
 map-onto bytes d (x ∷ l) a =
     let e : Entry = entryAt bytes x in
     let m : List Entry = map (entryAt bytes) d in
-    map-onto bytes (insertStart (goesBefore bytes) x d) l (a .1)
+    map-onto bytes (insert (goesBefore bytes) x d) l (a .1)
     ∙ ap (λ (r : List Entry). sortedOnto before r (map (entryAt bytes) l)) (map-insert bytes x d)
     ∙ ap (λ (t : Bool). sortedOnto before (pick t (insert before e m) m) (map (entryAt bytes) l)) (sym (is-true (e .live) (a .0)))
 

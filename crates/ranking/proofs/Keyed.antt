@@ -5,8 +5,9 @@ use mathlib.Core.List.{List, [], _∷_, _++_}
 use Prim.Native.Nat.{ℕ, zero, suc}
 use lib.ListN.{take, drop}
 use Rattle.letters.specs.Choice.{pick}
+use Rattle.entries.specs.Rank.{insert}
 use Rattle.filing.specs.Filing.{HasKey, AllKeyed}
-use Rattle.ranking.specs.Sorting.{insertStart, inOrderOnto, inOrder, Sortable}
+use Rattle.ranking.specs.Sorting.{inOrderOnto, inOrder, Sortable}
 
 module _ (bytes keys : List ℕ) where
   pub keyed-take : (n : ℕ) (l : List ℕ) → AllKeyed bytes keys l → AllKeyed bytes keys (take n l)
@@ -24,19 +25,19 @@ module _ (bytes keys : List ℕ) where
   keyed-append (x ∷ l) m a b = (a .0, keyed-append l m (a .1) b)
 
   module _ (less : ℕ → ℕ → Bool) where
-    keyed-insert : (e : ℕ) (l : List ℕ) → HasKey bytes keys e → AllKeyed bytes keys l → AllKeyed bytes keys (insertStart less e l)
-    unfolding insertStart pick
+    keyed-insert : (e : ℕ) (l : List ℕ) → HasKey bytes keys e → AllKeyed bytes keys l → AllKeyed bytes keys (insert less e l)
+    unfolding insert pick
     keyed-insert e [] k a = (k, tt)
     keyed-insert e (x ∷ l) k a = go (less e x) (keyed-insert e l k (a .1))
       where
-        go : (t : Bool) → AllKeyed bytes keys (insertStart less e l) → AllKeyed bytes keys (pick t (e ∷ x ∷ l) (x ∷ insertStart less e l))
+        go : (t : Bool) → AllKeyed bytes keys (insert less e l) → AllKeyed bytes keys (pick t (e ∷ x ∷ l) (x ∷ insert less e l))
         go true h = (k, a)
         go false h = (a .0, h)
 
     keyed-onto : (d l : List ℕ) → AllKeyed bytes keys d → AllKeyed bytes keys l → AllKeyed bytes keys (inOrderOnto less d l)
     unfolding inOrderOnto
     keyed-onto d [] a b = a
-    keyed-onto d (x ∷ l) a b = keyed-onto (insertStart less x d) l (keyed-insert x d (b .0) a) (b .1)
+    keyed-onto d (x ∷ l) a b = keyed-onto (insert less x d) l (keyed-insert x d (b .0) a) (b .1)
 
     pub keyed-in-order : (l : List ℕ) → AllKeyed bytes keys l → AllKeyed bytes keys (inOrder less l)
     keyed-in-order l a = keyed-onto [] l tt a

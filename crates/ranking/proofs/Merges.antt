@@ -8,17 +8,19 @@ use Prim.Native.Nat.{ℕ, suc, _+_}
 use native.Mathlib.Omega.{arith}
 use lib.ListN.{length}
 use Rattle.letters.specs.Choice.{pick}
-use Rattle.ranking.specs.Sorting.{insertStart, inOrderOnto, inOrder, merged}
+use Rattle.entries.specs.Rank.{insert}
+use Rattle.entries.proofs.Ranked.{length-insert}
+use Rattle.ranking.specs.Sorting.{inOrderOnto, inOrder, merged}
 use Rattle.ranking.proofs.Ordered.{true-not-false}
 
 module _ (less : ℕ → ℕ → Bool) where
-  insert-first : (e x : ℕ) (l : List ℕ) → less e x ≡ true → insertStart less e (x ∷ l) ≡ e ∷ x ∷ l
-  unfolding insertStart pick
-  insert-first e x l q = ap (λ (t : Bool). pick t (e ∷ x ∷ l) (x ∷ insertStart less e l)) q
+  insert-first : (e x : ℕ) (l : List ℕ) → less e x ≡ true → insert less e (x ∷ l) ≡ e ∷ x ∷ l
+  unfolding insert pick
+  insert-first e x l q = ap (λ (t : Bool). pick t (e ∷ x ∷ l) (x ∷ insert less e l)) q
 
-  insert-later : (e x : ℕ) (l : List ℕ) → less e x ≡ false → insertStart less e (x ∷ l) ≡ x ∷ insertStart less e l
-  unfolding insertStart pick
-  insert-later e x l q = ap (λ (t : Bool). pick t (e ∷ x ∷ l) (x ∷ insertStart less e l)) q
+  insert-later : (e x : ℕ) (l : List ℕ) → less e x ≡ false → insert less e (x ∷ l) ≡ x ∷ insert less e l
+  unfolding insert pick
+  insert-later e x l q = ap (λ (t : Bool). pick t (e ∷ x ∷ l) (x ∷ insert less e l)) q
 
   pub merged-second : (x : ℕ) (xs : List ℕ) (y : ℕ) (ys : List ℕ) → less y x ≡ true → merged less (x ∷ xs) (y ∷ ys) ≡ y ∷ merged less (x ∷ xs) ys
   unfolding merged pick
@@ -45,19 +47,10 @@ module _ (less : ℕ → ℕ → Bool) where
       go true h i = omega arith
       go false h i = omega arith
 
-  length-insert : (e : ℕ) (l : List ℕ) → length (insertStart less e l) ≡ suc (length l)
-  unfolding insertStart pick
-  length-insert e [] = refl
-  length-insert e (x ∷ l) = go (less e x) (length-insert e l)
-    where
-      go : (t : Bool) → length (insertStart less e l) ≡ suc (length l) → length (pick t (e ∷ x ∷ l) (x ∷ insertStart less e l)) ≡ suc (suc (length l))
-      go true h = refl
-      go false h = ap suc h
-
   length-onto : (d es : List ℕ) → length (inOrderOnto less d es) ≡ length d + length es
   unfolding inOrderOnto
   length-onto d [] = omega arith
-  length-onto d (e ∷ es) = omega (arith, length-onto (insertStart less e d) es, length-insert e d)
+  length-onto d (e ∷ es) = omega (arith, length-onto (insert less e d) es, length-insert less e d)
 
   -- sorting keeps the length
   pub length-in-order : (es : List ℕ) → length (inOrder less es) ≡ length es
@@ -66,44 +59,44 @@ module _ (less : ℕ → ℕ → Bool) where
   onto-append : (d xs ys : List ℕ) → inOrderOnto less d (xs ++ ys) ≡ inOrderOnto less (inOrderOnto less d xs) ys
   unfolding inOrderOnto
   onto-append d [] ys = refl
-  onto-append d (x ∷ xs) ys = onto-append (insertStart less x d) xs ys
+  onto-append d (x ∷ xs) ys = onto-append (insert less x d) xs ys
 
   module _ (transitive : (x y z : ℕ) → less x y ≡ true → less y z ≡ true → less x z ≡ true)
       (level : (x y z : ℕ) → less x y ≡ false → less y z ≡ false → less x z ≡ false) where
-    merged-insert : (d m : List ℕ) (e : ℕ) → merged less d (insertStart less e m) ≡ insertStart less e (merged less d m)
-    unfolding merged insertStart
+    merged-insert : (d m : List ℕ) (e : ℕ) → merged less d (insert less e m) ≡ insert less e (merged less d m)
+    unfolding merged insert
     merged-insert [] m e = refl
     merged-insert (x ∷ xs) [] e = go (less e x) refl (merged-insert xs [] e)
       where
-        go : (t : Bool) → less e x ≡ t → merged less xs (e ∷ []) ≡ insertStart less e (merged less xs [])
-            → merged less (x ∷ xs) (e ∷ []) ≡ insertStart less e (x ∷ xs)
+        go : (t : Bool) → less e x ≡ t → merged less xs (e ∷ []) ≡ insert less e (merged less xs [])
+            → merged less (x ∷ xs) (e ∷ []) ≡ insert less e (x ∷ xs)
         go true q h = merged-second x xs e [] q ∙ sym (insert-first e x xs q)
         go false q h =
-            merged-first x xs e [] q ∙ ap (λ (l : List ℕ). x ∷ l) (h ∙ ap (insertStart less e) (merged-nil xs))
+            merged-first x xs e [] q ∙ ap (λ (l : List ℕ). x ∷ l) (h ∙ ap (insert less e) (merged-nil xs))
             ∙ sym (insert-later e x xs q)
     merged-insert (x ∷ xs) (y ∷ ys) e = go (less e y) refl (less e x) refl (less y x) refl (merged-insert xs (y ∷ ys) e) (merged-insert (x ∷ xs) ys e)
       where
         -- where the entry goes before both firsts, it is the first of all
         front : (u : Bool) → less y x ≡ u → less e x ≡ true → less e y ≡ true
-            → insertStart less e (merged less (x ∷ xs) (y ∷ ys)) ≡ e ∷ merged less (x ∷ xs) (y ∷ ys)
+            → insert less e (merged less (x ∷ xs) (y ∷ ys)) ≡ e ∷ merged less (x ∷ xs) (y ∷ ys)
         front true u p q =
-            ap (insertStart less e) (merged-second x xs y ys u) ∙ insert-first e y (merged less (x ∷ xs) ys) q
+            ap (insert less e) (merged-second x xs y ys u) ∙ insert-first e y (merged less (x ∷ xs) ys) q
             ∙ ap (λ (l : List ℕ). e ∷ l) (sym (merged-second x xs y ys u))
         front false u p q =
-            ap (insertStart less e) (merged-first x xs y ys u) ∙ insert-first e x (merged less xs (y ∷ ys)) p
+            ap (insert less e) (merged-first x xs y ys u) ∙ insert-first e x (merged less xs (y ∷ ys)) p
             ∙ ap (λ (l : List ℕ). e ∷ l) (sym (merged-first x xs y ys u))
 
         -- where the first list's first is taken, the entry goes into what follows it
-        behind : less e x ≡ false → less y x ≡ false → merged less xs (insertStart less e (y ∷ ys)) ≡ insertStart less e (merged less xs (y ∷ ys))
-            → x ∷ merged less xs (insertStart less e (y ∷ ys)) ≡ insertStart less e (merged less (x ∷ xs) (y ∷ ys))
+        behind : less e x ≡ false → less y x ≡ false → merged less xs (insert less e (y ∷ ys)) ≡ insert less e (merged less xs (y ∷ ys))
+            → x ∷ merged less xs (insert less e (y ∷ ys)) ≡ insert less e (merged less (x ∷ xs) (y ∷ ys))
         behind p u h =
             ap (λ (l : List ℕ). x ∷ l) h ∙ sym (insert-later e x (merged less xs (y ∷ ys)) p)
-            ∙ ap (insertStart less e) (sym (merged-first x xs y ys u))
+            ∙ ap (insert less e) (sym (merged-first x xs y ys u))
 
         go : (s : Bool) → less e y ≡ s → (t : Bool) → less e x ≡ t → (u : Bool) → less y x ≡ u
-            → merged less xs (insertStart less e (y ∷ ys)) ≡ insertStart less e (merged less xs (y ∷ ys))
-            → merged less (x ∷ xs) (insertStart less e ys) ≡ insertStart less e (merged less (x ∷ xs) ys)
-            → merged less (x ∷ xs) (insertStart less e (y ∷ ys)) ≡ insertStart less e (merged less (x ∷ xs) (y ∷ ys))
+            → merged less xs (insert less e (y ∷ ys)) ≡ insert less e (merged less xs (y ∷ ys))
+            → merged less (x ∷ xs) (insert less e ys) ≡ insert less e (merged less (x ∷ xs) ys)
+            → merged less (x ∷ xs) (insert less e (y ∷ ys)) ≡ insert less e (merged less (x ∷ xs) (y ∷ ys))
         go true s true t u w h i =
             ap (merged less (x ∷ xs)) (insert-first e y ys s) ∙ merged-second x xs e (y ∷ ys) t ∙ sym (front u w t s)
         go true s false t true w h i = true-not-false (sym (transitive e y x s w) ∙ t)
@@ -111,17 +104,17 @@ module _ (less : ℕ → ℕ → Bool) where
             ap (merged less (x ∷ xs)) (insert-first e y ys s) ∙ merged-first x xs e (y ∷ ys) t
             ∙ ap (λ (l : List ℕ). x ∷ merged less xs l) (sym (insert-first e y ys s)) ∙ behind t w h
         go false s t q true w h i =
-            ap (merged less (x ∷ xs)) (insert-later e y ys s) ∙ merged-second x xs y (insertStart less e ys) w
+            ap (merged less (x ∷ xs)) (insert-later e y ys s) ∙ merged-second x xs y (insert less e ys) w
             ∙ ap (λ (l : List ℕ). y ∷ l) i ∙ sym (insert-later e y (merged less (x ∷ xs) ys) s)
-            ∙ ap (insertStart less e) (sym (merged-second x xs y ys w))
+            ∙ ap (insert less e) (sym (merged-second x xs y ys w))
         go false s t q false w h i =
-            ap (merged less (x ∷ xs)) (insert-later e y ys s) ∙ merged-first x xs y (insertStart less e ys) w
+            ap (merged less (x ∷ xs)) (insert-later e y ys s) ∙ merged-first x xs y (insert less e ys) w
             ∙ ap (λ (l : List ℕ). x ∷ merged less xs l) (sym (insert-later e y ys s)) ∙ behind (level e y x s w) w h
 
     merged-onto : (d m es : List ℕ) → merged less d (inOrderOnto less m es) ≡ inOrderOnto less (merged less d m) es
     unfolding inOrderOnto
     merged-onto d m [] = refl
-    merged-onto d m (e ∷ es) = merged-onto d (insertStart less e m) es ∙ ap (λ (l : List ℕ). inOrderOnto less l es) (merged-insert d m e)
+    merged-onto d m (e ∷ es) = merged-onto d (insert less e m) es ∙ ap (λ (l : List ℕ). inOrderOnto less l es) (merged-insert d m e)
 
     -- two parts in order, merged, are the whole in order
     pub merged-parts : (xs ys : List ℕ) → merged less (inOrder less xs) (inOrder less ys) ≡ inOrder less (xs ++ ys)

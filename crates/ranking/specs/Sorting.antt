@@ -9,18 +9,14 @@ use lib.Seq.{slice}
 use Rattle.letters.specs.Choice.{pick}
 use Rattle.entries.specs.Limits.{bookLimit}
 use Rattle.entries.specs.Entries.{entryAt}
+use Rattle.entries.specs.Rank.{insert}
 use Rattle.filing.specs.Filing.{before, AllKeyed, keyRoom}
 
 module _ (less : ℕ → ℕ → Bool) where
-  -- a start among others that are in order, behind those that it does not go before
-  unfoldable pub insertStart : ℕ → List ℕ → List ℕ
-  insertStart start [] = start ∷ []
-  insertStart start (first ∷ rest) = pick (less start first) (start ∷ first ∷ rest) (first ∷ insertStart start rest)
-
   -- starts put one after the other among those that are in order already
   unfoldable pub inOrderOnto : List ℕ → List ℕ → List ℕ
   inOrderOnto done [] = done
-  inOrderOnto done (start ∷ starts) = inOrderOnto (insertStart start done) starts
+  inOrderOnto done (start ∷ starts) = inOrderOnto (insert less start done) starts
 
   abbrev pub inOrder : List ℕ → List ℕ
   inOrder starts = inOrderOnto [] starts
