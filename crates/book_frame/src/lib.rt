@@ -13,6 +13,9 @@ ghost use Rattle.entries.specs.Limits.{bookLimit};
 ghost use Rattle.entries.specs.Readable.{isReadable};
 ghost use Rattle.entries.specs.Entries.{valueOf, wordAt, isFramed};
 
+// The bytes of a record before its word: its mark, its count and its stock number.
+pub const HEAD: usize = 7;
+
 // The value that a byte of a record stands for.
 pub fn value_of(byte: u8) -> u16
     ensures { λ r. ⌜ r ≡ valueOf byte ⌝ }
@@ -48,7 +51,7 @@ fn is_framed(book: &[u8], at: usize) -> bool
     if Word::LIMIT < count {
         return false;
     }
-    if book.len() - at < 7 + count {
+    if book.len() - at < HEAD + count {
         return false;
     }
     true
@@ -77,6 +80,6 @@ pub fn is_record(book: &[u8], at: usize) -> bool
         return false;
     }
     let count = wide(book[at + 2]);
-    let values = values_of(book, at + 7, count);
+    let values = values_of(book, at + HEAD, count);
     is_row(&values[..count])
 }

@@ -1,6 +1,7 @@
 // The comparison of two words.
 use crate::heads::order_heads;
 use crate::weigh::weigh;
+use formula::Word;
 use refusals::Counted;
 use refusals::Refusal;
 use weighing::order::Order;
@@ -51,20 +52,20 @@ fn order_forms(first: &[u16], second: &[u16]) -> Order
 fn compare_keys(first: &[u16], second: &[u16]) -> Compared
     ensures { λ r. ⌜ CompareRight (now (first .entry)) (now (second .entry)) r ⌝ }
 {
-    let mut one = [0; 320];
+    let mut one = [0; Word::KEY];
     let one_answer = weigh(first, &mut one);
     let one_count = match one_answer {
         Counted::Refused(refusal) => return Compared::FirstRefused(refusal),
         Counted::Count(count) => count,
     };
-    let mut other = [0; 320];
+    let mut other = [0; Word::KEY];
     let other_answer = weigh(second, &mut other);
     let other_count = match other_answer {
         Counted::Refused(refusal) => return Compared::SecondRefused(refusal),
         Counted::Count(count) => count,
     };
-    let one_end = 5 * one_count;
-    let other_end = 5 * other_count;
+    let one_end = Word::WEIGHTS * one_count;
+    let other_end = Word::WEIGHTS * other_count;
     let order = order_bytes(&one[..one_end], &other[..other_end]);
     let Order::Equal = order else {
         return answer_of(order);

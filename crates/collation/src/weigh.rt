@@ -9,7 +9,7 @@ ghost use Rattle.weighing.specs.Keys.{keyLimit, zeros};
 ghost use Rattle.collation.specs.Keyed.{WeighRight};
 
 // Fills a key of zeros with the weights of a word's stored form, which is a word of its own.
-fn weigh_stored(word: &[u16], bytes: &mut [u8; 320]) -> Counted
+fn weigh_stored(word: &[u16], bytes: &mut [u8; Word::KEY]) -> Counted
     requires { ⌜ now bytes ≡ zeros keyLimit ⌝ }
     ensures { λ r. ⌜ WeighRight (now (word .entry)) r (now (bytes .exit)) ⌝ }
 {
@@ -27,7 +27,7 @@ fn weigh_stored(word: &[u16], bytes: &mut [u8; 320]) -> Counted
 }
 
 // The same for a word of any values and any length; with a refusal it is a key of zeros again. A row of syllables is its own stored form.
-pub fn weigh(word: &[u16], bytes: &mut [u8; 320]) -> Counted
+pub fn weigh(word: &[u16], bytes: &mut [u8; Word::KEY]) -> Counted
     requires { ⌜ now bytes ≡ zeros keyLimit ⌝ }
     ensures { λ r. ⌜ WeighRight (now (word .entry)) r (now (bytes .exit)) ⌝ }
 {

@@ -7,7 +7,7 @@ use Prim.Native.Nat.{ℕ, _+_, _-_, _/_, _%_, _≤_, _<_}
 use lib.Dec.{T}
 use lib.ListN.{length, replicate}
 use Rattle.recogniser.specs.Answer.{Readable}
-use Rattle.entries.specs.Limits.{bookLimit}
+use Rattle.entries.specs.Limits.{bookLimit, headSize}
 use Rattle.entries.specs.Entries.{Entry, isFresh}
 
 -- "then only zero bytes"
@@ -38,7 +38,7 @@ records (entry ∷ entries) = recordBytes entry ++ records entries
 
 -- how many bytes a record has
 abbrev pub size : Entry → ℕ
-size entry = 7 + length (entry .word)
+size entry = headSize + length (entry .word)
 
 -- the place behind records that begin at a place
 abbrev pub endOf : ℕ → List Entry → ℕ

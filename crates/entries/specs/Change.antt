@@ -2,6 +2,7 @@
 use mathlib.Core.List.{List, _++_}
 use Prim.Native.Nat.{ℕ, _+_, _≤_}
 use lib.ListN.{length, take, drop, set}
+use Rattle.entries.specs.Limits.{headSize}
 use Rattle.recogniser.specs.Answer.{Readable}
 use Rattle.entries.specs.Book.{recordBytes}
 use Rattle.entries.specs.Map.{newEntry}
@@ -14,7 +15,7 @@ pub record Storable (word : List ℕ) : Type 0 where
 -- "Add puts a record with the normalised word just after the last record": each byte before and behind it stays
 abbrev pub withRecord : List ℕ → ℕ → List ℕ → ℕ → List ℕ
 withRecord bytes start word stock =
-    take start bytes ++ (recordBytes (newEntry start word stock) ++ drop (start + 7 + length word) bytes)
+    take start bytes ++ (recordBytes (newEntry start word stock) ++ drop (start + headSize + length word) bytes)
 
 -- "Remove changes the record's 57 to 2D, no other byte"
 abbrev pub withRemoved : List ℕ → ℕ → List ℕ

@@ -9,7 +9,7 @@ use lib.ListN.{length, getD, take, drop}
 use Rattle.letters.specs.Choice.{pick}
 use Rattle.formula.specs.Limits.{limit}
 use Rattle.formula.proofs.Lists.{sameList}
-use Rattle.entries.specs.Limits.{bookLimit}
+use Rattle.entries.specs.Limits.{bookLimit, headSize}
 use Rattle.entries.specs.Readable.{isReadable}
 
 -- a record: where it starts, whether it is live, its stock number, its word
@@ -29,7 +29,7 @@ number low second third high = low + 256 * (second + 256 * (third + 256 * high))
 
 -- the word of the record at a place
 abbrev pub wordAt : List ℕ → ℕ → List ℕ
-wordAt bytes at = map valueOf (take (getD bytes (at + 2) 0) (drop (at + 7) bytes))
+wordAt bytes at = map valueOf (take (getD bytes (at + 2) 0) (drop (at + headSize) bytes))
 
 -- the record at a place, if there is one
 abbrev pub entryAt : List ℕ → ℕ → Entry
@@ -46,7 +46,7 @@ entryAt bytes at =
 unfoldable pub isFramed : List ℕ → ℕ → Bool
 isFramed bytes at =
     eqb (getD bytes at 0) 0x4D && ((eqb (getD bytes (at + 1) 0) 0x57 || eqb (getD bytes (at + 1) 0) 0x2D)
-    && (leb 1 (getD bytes (at + 2) 0) && (leb (getD bytes (at + 2) 0) limit && leb (at + 7 + getD bytes (at + 2) 0) (length bytes))))
+    && (leb 1 (getD bytes (at + 2) 0) && (leb (getD bytes (at + 2) 0) limit && leb (at + headSize + getD bytes (at + 2) 0) (length bytes))))
 
 -- some live entry has the word
 unfoldable pub holds : List Entry → List ℕ → Bool
@@ -79,7 +79,7 @@ entriesFrom (suc fuel) bytes at seen =
     pick (eqb (getD bytes at 0) 0)
     (zeroTail (drop at bytes) at (book seen at))
     (pick (isFramed bytes at && mayFollow seen (entryAt bytes at))
-    (entriesFrom fuel bytes (at + 7 + getD bytes (at + 2) 0) (seen ++ (entryAt bytes at ∷ [])))
+    (entriesFrom fuel bytes (at + headSize + getD bytes (at + 2) 0) (seen ++ (entryAt bytes at ∷ [])))
     (wrong at))
 
 -- "In 11 an overlong buffer is tested first", and its place is 16,384; a buffer has fewer records than bytes

@@ -5,3 +5,7 @@ use Prim.Native.Nat.{ℕ}
 -- the most bytes of a book
 abbrev pub bookLimit : ℕ
 bookLimit = 16384
+
+-- the bytes of a record before its word: the mark, the count and the stock number
+abbrev pub headSize : ℕ
+headSize = 7

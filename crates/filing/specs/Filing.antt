@@ -10,7 +10,7 @@ use lib.Seq.{sets}
 use Rattle.letters.specs.Choice.{pick}
 use Rattle.formula.specs.Row.{Row}
 use Rattle.recogniser.specs.Answer.{Readable}
-use Rattle.weighing.specs.Keys.{keyOf}
+use Rattle.weighing.specs.Keys.{keyOf, usedBytes}
 use Rattle.weighing.specs.Order.{Filed, filed, order}
 use Rattle.weighing.specs.declared.order.Order.{Order}
 use Rattle.weighing.specs.declared.order.Order.the-variants.{Less, Equal, Greater}
@@ -48,7 +48,7 @@ keptKey row = length row ∷ keyOf row
 pub record HasKey (bytes keys : List ℕ) (at : ℕ) : Type 0 where
   pub framed : T (isFramed bytes at)
   pub readable : Readable (wordAt bytes at)
-  pub kept : take (length (keptKey (rowOf (wordAt bytes at)))) (drop (5 * at) keys) ≡ keptKey (rowOf (wordAt bytes at))
+  pub kept : take (length (keptKey (rowOf (wordAt bytes at)))) (drop (usedBytes at) keys) ≡ keptKey (rowOf (wordAt bytes at))
 
 -- each of these starts has its key
 abbrev pub AllKeyed : List ℕ → List ℕ → List ℕ → Type 0
@@ -74,7 +74,7 @@ mostLive = 2048
 -- the keys of the records at these starts, kept one after the other
 unfoldable pub withKeys : List ℕ → List ℕ → List ℕ → List ℕ
 withKeys bytes keys [] = keys
-withKeys bytes keys (start ∷ starts) = withKeys bytes (sets keys (5 * start) (keptKey (rowOf (wordAt bytes start)))) starts
+withKeys bytes keys (start ∷ starts) = withKeys bytes (sets keys (usedBytes start) (keptKey (rowOf (wordAt bytes start)))) starts
 
 -- the promise of `file_records`: the starts of the live records in their order, with the key of each; all else that is lent stays
 pub record FiledRight (bytes keys-before starts-before keys starts : List ℕ) (count : ℕ) : Type 0 where

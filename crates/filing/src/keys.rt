@@ -1,6 +1,8 @@
 // The live records of a book, each with its key: the number of its syllables and their weights.
+use book_frame::HEAD;
 use book_frame::has_mark;
 use book_frame::values_of;
+use formula::Word;
 use keying::fill::fill;
 use memory::casts::count_byte;
 use memory::casts::wide;
@@ -40,21 +42,21 @@ fn put_key(keys: &mut [u8], from: usize, key: &[u8], count: usize)
     ensures { λ _. ⌜ now (keys .exit) ≡ sets (now (keys .entry)) from (count ∷ take (usedBytes count) (now (key .entry))) ⌝ }
 {
     keys[from] = count_byte(count);
-    let used = 5 * count;
+    let used = Word::WEIGHTS * count;
     put_bytes(&key[..used], keys, from + 1);
 }
 
 // Keeps the key of the record at a place, whose word is readable.
 fn keep_key(book: &[u8], at: usize, keys: &mut [u8])
     requires { ⌜ (length (now book) ≤ bookLimit) × (length (now keys) ≡ keyRoom) × T (isFramed (now book) at) × Readable (wordAt (now book) at) ⌝ }
-    ensures { λ _. ⌜ now (keys .exit) ≡ sets (now (keys .entry)) (5 * at) (keptKey (rowOf (wordAt (now (book .entry)) at))) ⌝ }
+    ensures { λ _. ⌜ now (keys .exit) ≡ sets (now (keys .entry)) (usedBytes at) (keptKey (rowOf (wordAt (now (book .entry)) at))) ⌝ }
 {
     let count = wide(book[at + 2]);
-    let values = values_of(book, at + 7, count);
-    let mut key = [0; 320];
+    let values = values_of(book, at + HEAD, count);
+    let mut key = [0; Word::KEY];
     let answer = fill(&values[..count], &mut key);
     if let Counted::Count(number) = answer {
-        put_key(keys, 5 * at, &key, number);
+        put_key(keys, Word::WEIGHTS * at, &key, number);
     }
 }
 
@@ -76,7 +78,7 @@ pub fn file_records(
             starts[live] = start_of(at);
             live += 1;
         }
-        at += 7 + wide(book[at + 2]);
+        at += HEAD + wide(book[at + 2]);
     }
     live
 }

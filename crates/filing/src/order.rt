@@ -1,5 +1,7 @@
 // Two records of a book in word order.
+use book_frame::HEAD;
 use crate::keys::KEY_ROOM;
+use formula::Word;
 use memory::casts::wide;
 use weighing::order::Order;
 use weighing::order::order_bytes;
@@ -42,23 +44,23 @@ pub fn is_before(book: &[u8], keys: &[u8; KEY_ROOM], first: usize, second: usize
     requires { ⌜ (length (now book) ≤ bookLimit) × (length (now keys) ≡ keyRoom) × HasKey (now book) (now keys) first × HasKey (now book) (now keys) second ⌝ }
     ensures { λ r. ⌜ r ≡ before (entryAt (now (book .entry)) first) (entryAt (now (book .entry)) second) ⌝ }
 {
-    let first_key = 5 * first;
-    let second_key = 5 * second;
+    let first_key = Word::WEIGHTS * first;
+    let second_key = Word::WEIGHTS * second;
     let by_weights = order_parts(
         keys,
         first_key + 1,
-        5 * wide(keys[first_key]),
+        Word::WEIGHTS * wide(keys[first_key]),
         second_key + 1,
-        5 * wide(keys[second_key]),
+        Word::WEIGHTS * wide(keys[second_key]),
     );
     let Order::Equal = by_weights else {
         return is_less(by_weights);
     };
     is_less(order_parts(
         book,
-        first + 7,
+        first + HEAD,
         wide(book[first + 2]),
-        second + 7,
+        second + HEAD,
         wide(book[second + 2]),
     ))
 }

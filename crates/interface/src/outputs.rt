@@ -1,5 +1,6 @@
 // A key and a decoded line, written to lent output.
 use collation::weigh::weigh;
+use formula::Word;
 use lines::decode;
 use memory::copies::put_bytes;
 use normaliser::put_out;
@@ -8,20 +9,17 @@ use refusals::Refusal;
 ghost use Rattle.refusals.specs.Outcome.{outcomeOf};
 ghost use Rattle.interface.specs.Outputs.{KeyWritten, DecodeWritten};
 
-// How many bytes a key is held in.
-const KEY_SIZE: usize = 320;
-
 // Writes the key of a word to the front of the output.
 pub(crate) fn put_key(word: &[u16], output: &mut [u8]) -> Counted
     ensures { λ r. ⌜ KeyWritten (now (word .entry)) (now (output .entry)) (now (output .exit)) (outcomeOf r) ⌝ }
 {
-    let mut bytes = [0; KEY_SIZE];
+    let mut bytes = [0; Word::KEY];
     let answer = weigh(word, &mut bytes);
     match answer {
         Counted::Refused(refusal) => Counted::Refused(refusal),
         Counted::Count(count) => {
-            if output.len() < KEY_SIZE {
-                return Counted::Refused(Refusal::OutputTooShort(KEY_SIZE));
+            if output.len() < Word::KEY {
+                return Counted::Refused(Refusal::OutputTooShort(Word::KEY));
             }
             put_bytes(&bytes, output, 0);
             Counted::Count(count)

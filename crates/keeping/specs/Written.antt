@@ -3,6 +3,7 @@ use mathlib.Core.Path.{_≡_}
 use mathlib.Core.List.{List, [], _∷_, _++_}
 use Prim.Native.Nat.{ℕ, _+_}
 use lib.ListN.{length, take, drop}
+use Rattle.entries.specs.Limits.{headSize}
 use Rattle.refusals.specs.Outcome.{Outcome, accepts, accepts-both, absent, refuses}
 use Rattle.entries.specs.Entries.{entries}
 use Rattle.entries.specs.Book.{numberBytes}
@@ -35,4 +36,4 @@ pub record RemoveRight (word before after : List ℕ) (outcome : Outcome) : Type
 
 -- the buffer with the seven bytes that stand before a word; an inner contract cites it
 unfoldable pub withHead : List ℕ → ℕ → ℕ → ℕ → List ℕ
-withHead bytes at count stock = take at bytes ++ ((0x4D ∷ 0x57 ∷ count ∷ numberBytes stock []) ++ drop (at + 7) bytes)
+withHead bytes at count stock = take at bytes ++ ((0x4D ∷ 0x57 ∷ count ∷ numberBytes stock []) ++ drop (at + headSize) bytes)

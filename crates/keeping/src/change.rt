@@ -1,4 +1,5 @@
 // Adding and removing records: the decision first, then the bytes.
+use book_frame::HEAD;
 use lookup::plan::plan_add;
 use lookup::plan::plan_remove;
 use memory::casts::count_byte;
@@ -10,7 +11,7 @@ ghost use lib.ListN.{length};
 ghost use lib.Seq.{paste};
 ghost use Rattle.formula.specs.Limits.{limit};
 ghost use Rattle.refusals.specs.Outcome.{outcomeOf};
-ghost use Rattle.entries.specs.Limits.{bookLimit};
+ghost use Rattle.entries.specs.Limits.{bookLimit, headSize};
 ghost use Rattle.entries.specs.Book.{byteOf};
 ghost use Rattle.entries.specs.Change.{Storable};
 ghost use Rattle.keeping.specs.Written.{withHead, AddRight, RemoveRight};
@@ -33,7 +34,7 @@ fn value_byte(value: u16) -> u8
 
 // Writes the seven bytes of a live record that stand before its word.
 fn put_head(book: &mut [u8], at: usize, count: usize, stock: u32)
-    requires { ⌜ (length (now book) ≤ bookLimit) × (at + 7 ≤ length (now book)) × (count ≤ limit) ⌝ }
+    requires { ⌜ (length (now book) ≤ bookLimit) × (at + headSize ≤ length (now book)) × (count ≤ limit) ⌝ }
     ensures { λ _. ⌜ now (book .exit) ≡ withHead (now (book .entry)) at count stock ⌝ }
 {
     let live = b"MW";
@@ -68,7 +69,7 @@ pub fn add(book: &mut [u8], word: &[u16], stock: u32) -> Counted
         return plan;
     };
     put_head(book, start, word.len(), stock);
-    put_word(book, start + 7, word);
+    put_word(book, start + HEAD, word);
     plan
 }
 

@@ -6,6 +6,7 @@ use Prim.Native.Nat.{ℕ, _+_, _-_, _*_}
 use lib.Dec.{T, eqb}
 use lib.ListN.{length}
 use lib.Seq.{sets}
+use Rattle.formula.specs.Limits.{weightCount}
 use Rattle.letters.specs.Choice.{pick}
 use Rattle.formula.specs.Syllable.{isNoFinal}
 use Rattle.formula.specs.Row.{Row}
@@ -14,12 +15,12 @@ use Rattle.formula.specs.declared.Window.{Window}
 use Rattle.rows.specs.Kept.{endOf}
 use Rattle.syllables.specs.Window.{windowAfter, WindowOf, belowLast}
 use Rattle.recogniser.specs.Walked.{Walked}
-use Rattle.weighing.specs.Keys.{keyLimit, zeros}
+use Rattle.weighing.specs.Keys.{keyLimit, zeros, usedBytes}
 use Rattle.keying.specs.Weights.{weightsBy}
 
 -- the bytes with the last of so many syllables put at its place
 unfoldable pub putLast : ℕ → ℕ → List ℕ → List ℕ
-putLast count packed bytes = pick (eqb count 0) bytes (sets bytes (5 * (count - 1)) (weightsBy packed))
+putLast count packed bytes = pick (eqb count 0) bytes (sets bytes (usedBytes (count - 1)) (weightsBy packed))
 
 -- a syllable is put when the next one begins
 unfoldable pub bytesAfter : ℕ → ℕ → ℕ → List ℕ → List ℕ
@@ -40,9 +41,9 @@ pub record KeyOf (kept : Row) (bytes : List ℕ) : Type 0 where
   pub place : List ℕ
   pub rest : ℕ
   pub is : bytes ≡ keptKey (belowLast kept) ++ (place ++ zeros rest)
-  pub five : length place ≡ 5
-  pub size : 5 * length (belowLast kept) + (5 + rest) ≡ keyLimit
-  pub fresh : T (isNoFinal (endOf kept)) → place ≡ zeros 5
+  pub five : length place ≡ weightCount
+  pub size : usedBytes (length (belowLast kept)) + (weightCount + rest) ≡ keyLimit
+  pub fresh : T (isNoFinal (endOf kept)) → place ≡ zeros weightCount
 
 -- the state of the pass after the first `at` values of the word
 pub record Filled (word : List ℕ) (at state : ℕ) (window : Window) (bytes : List ℕ) : Type 0 where

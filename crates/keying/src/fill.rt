@@ -19,18 +19,18 @@ ghost use Rattle.syllables.specs.Window.{Fit};
 ghost use Rattle.keying.specs.Filled.{FillRight};
 
 // Puts the last of `count` syllables at its place.
-fn put_last(bytes: &mut [u8; 320], count: usize, packed: u64)
+fn put_last(bytes: &mut [u8; Word::KEY], count: usize, packed: u64)
     requires { ⌜ count ≤ limit ⌝ }
     ensures { λ _. ⌜ now (bytes .exit) ≡ putLast count packed (now (bytes .entry)) ⌝ }
 {
     if count == 0 {
         return;
     }
-    put_weights(bytes, 5 * (count - 1), packed);
+    put_weights(bytes, Word::WEIGHTS * (count - 1), packed);
 }
 
 // The window after the value x; the last syllable is put where another begins.
-fn advance(bytes: &mut [u8; 320], window: Window, change: u8, gain: u64, x: u16) -> Window
+fn advance(bytes: &mut [u8; Word::KEY], window: Window, change: u8, gain: u64, x: u16) -> Window
     requires { ⌜ Fit change gain x window ⌝ }
     ensures { λ r. ⌜ Advanced change gain x window (now (bytes .entry)) r (now (bytes .exit)) ⌝ }
 {
@@ -44,7 +44,7 @@ fn advance(bytes: &mut [u8; 320], window: Window, change: u8, gain: u64, x: u16)
 
 // Reads a word of any values and any length, and fills a key of zeros with its weights; with a refusal it is a key of zeros again. A syllable is
 // put when the next one begins, and the last at the end.
-pub fn fill(word: &[u16], bytes: &mut [u8; 320]) -> Counted
+pub fn fill(word: &[u16], bytes: &mut [u8; Word::KEY]) -> Counted
     requires { ⌜ now bytes ≡ zeros keyLimit ⌝ }
     ensures { λ r. ⌜ FillRight (now (word .entry)) r (now (bytes .exit)) ⌝ }
 {
@@ -59,7 +59,7 @@ pub fn fill(word: &[u16], bytes: &mut [u8; 320]) -> Counted
         let rules = rules_of(x);
         let entry = next(state, rules);
         if entry == Rules::REFUSED {
-            *bytes = [0; 320];
+            *bytes = [0; Word::KEY];
             return answer_at(word, at, state, window.count);
         }
         window = advance(bytes, window, entry / 32, gain(state, rules), x);
@@ -71,6 +71,6 @@ pub fn fill(word: &[u16], bytes: &mut [u8; 320]) -> Counted
         put_last(bytes, window.count, window.last);
         return answer;
     }
-    *bytes = [0; 320];
+    *bytes = [0; Word::KEY];
     answer
 }

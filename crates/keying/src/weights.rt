@@ -1,4 +1,5 @@
 // The weights of document 01, "Weights", of a packed syllable.
+use formula::Word;
 use letters::weight::head_weight;
 use letters::weight::independent_vowel_weight;
 use letters::weight::medial_weight;
@@ -7,13 +8,14 @@ use syllables::parts;
 ghost use mathlib.Core.Path.{_≡_};
 ghost use Prim.Native.Nat.{_+_, _≤_};
 ghost use lib.Seq.{sets};
+ghost use Rattle.formula.specs.Limits.{weightCount};
 ghost use Rattle.weighing.specs.Keys.{keyLimit};
 ghost use Rattle.keying.specs.Weights.{weightsBy};
 
 // Puts the five weights of a packed syllable at a place of a key, in the order in which they are compared. A head that is an I has a vowel weight,
 // and a final weighs its number, whichever form it has.
-pub(crate) fn put_weights(bytes: &mut [u8; 320], at: usize, packed: u64)
-    requires { ⌜ at + 5 ≤ keyLimit ⌝ }
+pub(crate) fn put_weights(bytes: &mut [u8; Word::KEY], at: usize, packed: u64)
+    requires { ⌜ at + weightCount ≤ keyLimit ⌝ }
     ensures { λ _. ⌜ now (bytes .exit) ≡ sets (now (bytes .entry)) at (weightsBy packed) ⌝ }
 {
     let value = 0x1000 + parts::head(packed) as u16;

@@ -38,11 +38,27 @@ const FIRST_STOP: u16 = 0x104A;
 const FIRST_SIGN: u16 = 0x104C;
 
 // What stands in the table for a set of medials that is no group: Y and R together.
-const FORBIDDEN: u64 = 15;
+const FORBIDDEN: u8 = 255;
 
-// The weights of the sets of medials, by the sum of their members: Y 1, R 2, W 4, H 8. Four bits a set, the empty one lowest: a number is looked
-// up without a store, where an array constant would be stored at each use.
-const MEDIAL_WEIGHTS: u64 = 0xFBA9_F874_F653_F210;
+// The weights of the sets of medials, by the sum of their members: Y 1, R 2, W 4, H 8.
+const MEDIAL_WEIGHTS: [u8; 16] = [
+    0,
+    1,
+    2,
+    FORBIDDEN,
+    3,
+    5,
+    6,
+    FORBIDDEN,
+    4,
+    7,
+    8,
+    FORBIDDEN,
+    9,
+    10,
+    11,
+    FORBIDDEN,
+];
 
 // What a value or a set weighs, where it is of the class that is asked about.
 pub enum Weighed {
@@ -112,8 +128,8 @@ pub fn medial_weight(set: u8) -> Weighed
     if set >= 16 {
         return Weighed::Nothing;
     }
-    let weight = (MEDIAL_WEIGHTS >> (4 * set)) % 16;
-    weight_if(weight != FORBIDDEN, weight as u8)
+    let weight = MEDIAL_WEIGHTS[set as usize];
+    weight_if(weight != FORBIDDEN, weight)
 }
 
 // The number of a final letter, as a syllable record has it.

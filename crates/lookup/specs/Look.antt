@@ -5,7 +5,7 @@ use mathlib.Core.Option.{Option, none, some}
 use Prim.Native.Nat.{ℕ, _+_, _≤_}
 use lib.ListN.{length}
 use Rattle.refusals.specs.Outcome.{Outcome, accepts, accepts-both, absent, refuses}
-use Rattle.entries.specs.Limits.{bookLimit}
+use Rattle.entries.specs.Limits.{bookLimit, headSize}
 use Rattle.entries.specs.Entries.{Entry, Entries, book, wrong, entries}
 use Rattle.entries.specs.Map.{lookup}
 use Rattle.lookup.specs.declared.look.Look.{Look}
@@ -26,7 +26,7 @@ pub record Within (bytes : List ℕ) (place behind : ℕ) : Type 0 where
 
 abbrev pub LookWithin : List ℕ → Look → Type 0
 LookWithin bytes (Wrong place) = Unit {0}
-LookWithin bytes (Live start stock) = Within bytes start 7
+LookWithin bytes (Live start stock) = Within bytes start headSize
 LookWithin bytes (Missing free) = Within bytes free 0
 
 pub record LookRight (bytes word : List ℕ) (look : Look) : Type 0 where
@@ -35,7 +35,7 @@ pub record LookRight (bytes word : List ℕ) (look : Look) : Type 0 where
 
 -- the seven bytes at the start of a record
 abbrev pub PlacedWithin : List ℕ → Outcome → Type 0
-PlacedWithin bytes (accepts start) = Within bytes start 7
+PlacedWithin bytes (accepts start) = Within bytes start headSize
 PlacedWithin bytes (accepts-both stock start) = Unit {0}
 PlacedWithin bytes absent = Unit {0}
 PlacedWithin bytes (refuses number place) = Unit {0}

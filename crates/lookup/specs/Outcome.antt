@@ -5,6 +5,7 @@ use mathlib.Core.Option.{Option, none, some}
 use Prim.Native.Nat.{ℕ, _+_}
 use lib.Dec.{leb}
 use lib.ListN.{length}
+use Rattle.entries.specs.Limits.{headSize}
 use Rattle.letters.specs.Choice.{pick}
 use Rattle.refusals.specs.Refusal.{numberOf, placeOf}
 use Rattle.refusals.specs.Outcome.{Outcome, accepts, accepts-both, refuses}
@@ -47,7 +48,7 @@ removeOf (wrong place) word = refuses 11 place
 -- "add: word is live already"; "add: first free byte plus 7 plus n passes the buffer's end"
 abbrev pub addOfEntry : Option Entry → ℕ → ℕ → List ℕ → Outcome
 addOfEntry (some entry) free room word = refuses 12 (entry .start)
-addOfEntry none free room word = pick (leb (free + 7 + length word) room) (accepts free) (refuses 14 free)
+addOfEntry none free room word = pick (leb (free + headSize + length word) room) (accepts free) (refuses 14 free)
 
 -- `room` is how many bytes the buffer has
 abbrev pub addOf : Entries → ℕ → List ℕ → Outcome

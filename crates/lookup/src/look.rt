@@ -1,4 +1,5 @@
 // Where a word stands in a book: a pass over the records of a buffer that is opened.
+use book_frame::HEAD;
 use book_frame::has_mark;
 use book_frame::value_of;
 use memory::casts::wide;
@@ -11,7 +12,7 @@ ghost use Prim.Native.Nat.{_+_, _≤_, _<_};
 ghost use lib.Dec.{T, eqb};
 ghost use lib.ListN.{length, getD, take, drop};
 ghost use Rattle.formula.proofs.Lists.{sameList};
-ghost use Rattle.entries.specs.Limits.{bookLimit};
+ghost use Rattle.entries.specs.Limits.{bookLimit, headSize};
 ghost use Rattle.entries.specs.Entries.{valueOf, wordAt, entryAt, isFramed};
 ghost use Rattle.entries.specs.Book.{Opened};
 ghost use Rattle.lookup.specs.Look.{LookRight};
@@ -49,7 +50,7 @@ fn has_word(book: &[u8], at: usize, word: &[u16]) -> bool
     if wide(book[at + 2]) != word.len() {
         return false;
     }
-    is_word(book, at + 7, word)
+    is_word(book, at + HEAD, word)
 }
 
 // A byte as part of a stock number.
@@ -61,7 +62,7 @@ fn stock_part(byte: u8) -> u32
 
 // The stock number of the record at a place, low byte first.
 pub fn stock_at(book: &[u8], at: usize) -> u32
-    requires { ⌜ (length (now book) ≤ bookLimit) × (at + 7 ≤ length (now book)) ⌝ }
+    requires { ⌜ (length (now book) ≤ bookLimit) × (at + headSize ≤ length (now book)) ⌝ }
     ensures { λ r. ⌜ r ≡ entryAt (now (book .entry)) at .stock ⌝ }
 {
     let low = stock_part(book[at + 3]);
@@ -82,7 +83,7 @@ fn locate(book: &[u8], free: usize, word: &[u16]) -> Look
             let stock = stock_at(book, at);
             return Look::Live { start: at, stock };
         }
-        at += 7 + wide(book[at + 2]);
+        at += HEAD + wide(book[at + 2]);
     }
     Look::Missing { free }
 }

@@ -1,4 +1,5 @@
 // The answers of find, add and remove, decided by reading alone.
+use book_frame::HEAD;
 use crate::look::Look;
 use crate::look::look_up;
 use refusals::Counted;
@@ -37,7 +38,7 @@ pub fn plan_add(book: &[u8], word: &[u16]) -> Counted
         Look::Wrong(place) => Counted::Refused(Refusal::NotABook(place)),
         Look::Live { start, stock: _ } => Counted::Refused(Refusal::AlreadyLive(start)),
         Look::Missing { free } => {
-            if book.len() - free < 7 + word.len() {
+            if book.len() - free < HEAD + word.len() {
                 return Counted::Refused(Refusal::BookFull(free));
             }
             Counted::Count(free)

@@ -6,7 +6,7 @@ use mathlib.Core.List.{List, [], _∷_}
 use Prim.Native.Nat.{ℕ, _+_, _-_, _*_, _%_, _≤_, _<_}
 use lib.Dec.{T}
 use lib.ListN.{length, getD, take, drop}
-use Rattle.entries.specs.Limits.{bookLimit}
+use Rattle.entries.specs.Limits.{bookLimit, headSize}
 use Rattle.entries.specs.Entries.{Entry, entryAt, isFramed}
 
 -- how many chains there are
@@ -15,7 +15,7 @@ buckets = 1024
 
 -- the bytes of the word of the record at a place
 abbrev pub wordBytes : List ℕ → ℕ → List ℕ
-wordBytes bytes start = take (getD bytes (start + 2) 0) (drop (start + 7) bytes)
+wordBytes bytes start = take (getD bytes (start + 2) 0) (drop (start + headSize) bytes)
 
 -- any function of the bytes would do; this one goes on from the hash of the bytes before
 unfoldable pub hashOf : List ℕ → ℕ → ℕ

@@ -1,4 +1,5 @@
 // Chains of live records by a hash of their words, so that a repeated word is found without a comparison of every pair.
+use book_frame::HEAD;
 use crate::open::BOOK_LIMIT;
 use memory::casts::place_of;
 use memory::casts::wide;
@@ -6,6 +7,7 @@ ghost use mathlib.Core.Path.{_≡_};
 ghost use mathlib.Core.List.{List};
 ghost use Prim.Native.Nat.{_+_, _≤_, _<_};
 ghost use lib.ListN.{length, take, drop};
+ghost use Rattle.entries.specs.Limits.{bookLimit};
 ghost use Rattle.formula.proofs.Lists.{sameList};
 ghost use Rattle.entries.specs.Entries.{Entry, wordAt, holds};
 ghost use Rattle.opening.specs.Chain.{hashOf, buckets, Chained, Ready};
@@ -44,7 +46,7 @@ fn is_same_part(book: &[u8], first: usize, second: usize, count: usize) -> bool
 
 // The link to a start: one more than it, since 0 ends a chain.
 pub(crate) fn link_to(start: usize) -> u16
-    requires { ⌜ start < 16384 ⌝ }
+    requires { ⌜ start < bookLimit ⌝ }
     ensures { λ r. ⌜ r ≡ start + 1 ⌝ }
 {
     (start + 1) as u16
@@ -66,7 +68,7 @@ pub(crate) fn is_repeated(
     while 0 < place {
         let start = place - 1;
         if book[start + 2] == count {
-            if is_same_part(book, start + 7, at + 7, wide(count)) {
+            if is_same_part(book, start + HEAD, at + HEAD, wide(count)) {
                 return true;
             }
         }

@@ -1,4 +1,5 @@
 // The pass over a buffer that tells whether it is a book.
+use book_frame::HEAD;
 use crate::chain::BUCKETS;
 use crate::chain::bucket_of;
 use crate::chain::is_repeated;
@@ -62,7 +63,7 @@ pub fn open_book(book: &[u8]) -> Opening
         }
         let count = wide(book[at + 2]);
         if has_mark(book, at, b"MW") {
-            let bucket = bucket_of(book, at + 7, count);
+            let bucket = bucket_of(book, at + HEAD, count);
             if is_repeated(book, at, bucket, &heads, &links) {
                 return Opening::Wrong(at);
             }
@@ -70,7 +71,7 @@ pub fn open_book(book: &[u8]) -> Opening
             heads[bucket] = link_to(at);
             live += 1;
         }
-        at += 7 + count;
+        at += HEAD + count;
     }
     Opening::Book { live, free: at }
 }

@@ -1,5 +1,6 @@
 // Answers as one number of 64 bits each, for callers in other languages.
 use collation::compare::Compared;
+use formula::Word;
 use lookup::plan::Found;
 use reading::parts::PartAnswer;
 use reading::records::RecordAnswer;
@@ -49,7 +50,7 @@ fn joined(low: u8, second: u8, third: u8, high: u8) -> u64
 }
 
 // The bytes of a record: four in the first number, three in the second.
-fn of_bytes(bytes: [u8; 7]) -> u64
+fn of_bytes(bytes: [u8; Word::RECORD]) -> u64
     ensures { λ r. ⌜ r ≡ pack (bytesNumbers bytes) ⌝ }
 {
     let first = joined(bytes[0], bytes[1], bytes[2], bytes[3]);

@@ -4,6 +4,7 @@ use mathlib.Core.Path.{_≡_}
 use mathlib.Core.List.{List, [], _∷_}
 use Prim.Native.Nat.{ℕ, _≤_, _<_}
 use lib.ListN.{length, getD, replicate}
+use Rattle.formula.specs.Limits.{recordSize}
 use Rattle.letters.specs.Weights.{medialSetWeight, weightOr}
 use Rattle.formula.specs.Syllable.{bare}
 use Rattle.formula.specs.Row.{Row, Gives}
@@ -18,12 +19,12 @@ use Rattle.reading.specs.declared.records.SyllableRecord.{SyllableRecord
 
 -- a record that is found tells how many bytes it has, "seven bytes by value"
 abbrev pub recordOutcomeOf : RecordAnswer → Outcome
-recordOutcomeOf Found = accepts 7
+recordOutcomeOf Found = accepts recordSize
 recordOutcomeOf NoSyllable = absent
 recordOutcomeOf (Refused r) = refuses (numberOf r) (placeOf r)
 
 abbrev pub noBytes : List ℕ
-noBytes = replicate 7 0
+noBytes = replicate recordSize 0
 
 -- "Where the word is a row of syllables, number and records are those of that row, in its order"
 pub record HasRecord (word : List ℕ) (number : ℕ) (bytes : List ℕ) : Type 0 where

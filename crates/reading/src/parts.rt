@@ -6,6 +6,7 @@ use refusals::Counted;
 use refusals::Refusal;
 ghost use mathlib.Core.Path.{_≡_};
 ghost use Prim.Native.Nat.{_<_, _≤_};
+ghost use Rattle.formula.specs.Limits.{limit};
 ghost use Rattle.reading.specs.Parts.{endBy, PartAnswers, partOutcomeOf, PartRight};
 
 fn wide(x: u8) -> usize
@@ -16,7 +17,7 @@ fn wide(x: u8) -> usize
 
 // Where the syllable `number` ends: where the next one begins, or at the word's end.
 fn end_of(starts: &[u8; Word::LIMIT], count: usize, number: usize, end: usize) -> usize
-    requires { ⌜ (number < count) × (count ≤ 64) ⌝ }
+    requires { ⌜ (number < count) × (count ≤ limit) ⌝ }
     ensures { λ r. ⌜ r ≡ endBy (now (starts .entry)) count number end ⌝ }
 {
     let next = number + 1;

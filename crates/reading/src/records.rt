@@ -1,5 +1,6 @@
 // The record of a syllable by number.
 use crate::read::read;
+use formula::Word;
 use letters::weight::weight_or;
 use refusals::Counted;
 use refusals::Refusal;
@@ -16,7 +17,7 @@ pub enum RecordAnswer {
 // Seven bytes, and whether there is such a syllable; zeros where there is none.
 pub struct SyllableRecord {
     pub answer: RecordAnswer,
-    pub bytes: [u8; 7],
+    pub bytes: [u8; Word::RECORD],
 }
 
 // The weight of a set of medials; a syllable has no other set than a group's.
@@ -27,7 +28,7 @@ fn medial_weight(set: u8) -> u8
 }
 
 // The record of a packed syllable.
-pub fn bytes_of(packed: u64) -> [u8; 7]
+pub fn bytes_of(packed: u64) -> [u8; Word::RECORD]
     ensures { λ r. ⌜ r ≡ bytesBy packed ⌝ }
 {
     [
@@ -46,7 +47,7 @@ fn without_record(answer: RecordAnswer) -> SyllableRecord
 {
     SyllableRecord {
         answer,
-        bytes: [0; 7],
+        bytes: [0; Word::RECORD],
     }
 }
 

@@ -5,6 +5,7 @@ use refusals::Refusal;
 ghost use mathlib.Core.Path.{_≡_};
 ghost use Prim.Native.Nat.{_≤_};
 ghost use lib.ListN.{length};
+ghost use Rattle.formula.specs.Limits.{limit};
 ghost use Rattle.reading.specs.Records.{bytesBy};
 ghost use Rattle.spelling.specs.Plain.{plainLink, plainBytes};
 ghost use Rattle.spelling.specs.Put.{SpelledSize, SyllableRoom, SyllablePut, Room, SyllablesPut};
@@ -24,7 +25,7 @@ fn plain_link(link: u8) -> u8
 }
 
 // The record of a packed syllable whose final is made plain.
-fn plain_record(packed: u64) -> [u8; 7]
+fn plain_record(packed: u64) -> [u8; Word::RECORD]
     ensures { λ r. ⌜ r ≡ plainBytes (bytesBy packed) ⌝ }
 {
     let mut bytes = reading::records::bytes_of(packed);
@@ -34,7 +35,7 @@ fn plain_record(packed: u64) -> [u8; 7]
 
 // How many values the first syllables are spelled with.
 fn measure(syllables: &[u64; Word::LIMIT], count: usize) -> usize
-    requires { ⌜ (count ≤ length (now syllables)) × (count ≤ 64) ⌝ }
+    requires { ⌜ (count ≤ length (now syllables)) × (count ≤ limit) ⌝ }
     ensures { λ r. ⌜ SpelledSize (now (syllables .entry)) count r ⌝ }
 {
     let mut size = 0;

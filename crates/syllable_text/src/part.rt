@@ -1,12 +1,13 @@
 // The part of a syllable by its record: how many values it has, and what is written.
 use crate::text;
+use formula::Word;
 ghost use Prim.Native.Nat.{_+_, _≤_};
 ghost use lib.ListN.{length};
 ghost use Rattle.syllable_text.specs.Decode.{syllableOf};
 ghost use Rattle.syllable_text.specs.Part.{partAfter, PartPut, PartSize};
 
 // How many values the syllable's part has.
-pub fn part_size(next: [u8; 7]) -> usize
+pub fn part_size(next: [u8; Word::RECORD]) -> usize
     ensures { λ r. ⌜ PartSize next r ⌝ }
 {
     let medial = text::medial_text(next[1]);
@@ -17,7 +18,7 @@ pub fn part_size(next: [u8; 7]) -> usize
 }
 
 // Writes the part of a syllable that stands behind one with the link, and gives the place behind the part.
-pub fn put_part(output: &mut [u16], at: usize, link: u8, next: [u8; 7]) -> usize
+pub fn put_part(output: &mut [u16], at: usize, link: u8, next: [u8; Word::RECORD]) -> usize
     requires { ⌜ at + length (partAfter link (syllableOf next)) ≤ length (now output) ⌝ }
     ensures { λ r. ⌜ PartPut (now (output .entry)) (now (output .exit)) at (partAfter link (syllableOf next)) r ⌝ }
 {

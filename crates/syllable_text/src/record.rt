@@ -1,15 +1,17 @@
 // The tests on one record, as document 01, "Syllable records", has them: head, medial weight, vowel weight, tall, final number, link, tone weight.
+use formula::Word;
 ghost use mathlib.Core.Path.{_≡_};
 ghost use Prim.Native.Nat.{_+_, _≤_};
 ghost use lib.ListN.{length, take, drop};
+ghost use Rattle.formula.specs.Limits.{recordSize};
 ghost use Rattle.letters.specs.Weights.{isHead};
 ghost use Rattle.formula.specs.Syllable.{carriesMarks, carriesFinal};
 ghost use Rattle.syllable_text.specs.Record.{isVowelNumbers, isFinalNumbers, isToneNumber, linkAdmits, isRecord, mayFollow};
 
 // The record that begins at a place.
-pub fn record_at(records: &[u8], at: usize) -> [u8; 7]
-    requires { ⌜ at + 7 ≤ length (now records) ⌝ }
-    ensures { λ r. ⌜ r ≡ take 7 (drop at (now (records .entry))) ⌝ }
+pub fn record_at(records: &[u8], at: usize) -> [u8; Word::RECORD]
+    requires { ⌜ at + recordSize ≤ length (now records) ⌝ }
+    ensures { λ r. ⌜ r ≡ take recordSize (drop at (now (records .entry))) ⌝ }
 {
     [
         records[at],
@@ -23,14 +25,14 @@ pub fn record_at(records: &[u8], at: usize) -> [u8; 7]
 }
 
 // Whether the record is one, and may follow one with the link.
-pub fn may_follow(link: u8, next: [u8; 7]) -> bool
+pub fn may_follow(link: u8, next: [u8; Word::RECORD]) -> bool
     ensures { λ r. ⌜ r ≡ mayFollow link next ⌝ }
 {
     admits(link, next[0]) & is_record(next)
 }
 
 // Whether the seven bytes are those of a syllable.
-fn is_record(bytes: [u8; 7]) -> bool
+fn is_record(bytes: [u8; Word::RECORD]) -> bool
     ensures { λ r. ⌜ r ≡ isRecord bytes ⌝ }
 {
     let head = bytes[0];

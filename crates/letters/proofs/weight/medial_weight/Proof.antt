@@ -1,22 +1,27 @@
--- `letters::weight::medial_weight` meets its contract: a set of sixteen and more is no group's, and the table's rule is a test at each of its
--- sixteen entries, which antt computes. Assumes nothing.
+-- `letters::weight::medial_weight` meets its contract: a set of sixteen and more is no group's, and the table's rule is a test at each of its sixteen entries, which antt computes.
+-- Assumes nothing.
 use mathlib.Core.Path.{_≡_, refl, ap, _∙_}
 use mathlib.Core.Bool.{Bool, true, false, not}
-use Prim.Native.Nat.{ℕ, _*_, _/_, _%_, _^_}
+use mathlib.Core.List.{List, [], _∷_}
+use Prim.Native.Nat.{ℕ}
 use lib.Dec.{T, eqb, eqb→eq}
+use lib.ListN.{getD}
 use borrow.Author.Needs.{needs}
 use Rattle.letters.specs.Choice.{pick}
 use Rattle.letters.specs.Weights.{medialSetWeight}
 use Rattle.letters.specs.declared.weight.Weighed.{Weighed}
 use Rattle.letters.specs.declared.weight.Weighed.the-variants.{Weight, Nothing}
 use Rattle.letters.proofs.Picks.{pick-no, from-eqb}
-use Rattle.letters.proofs.Table.{below}
+use Rattle.letters.proofs.Table.{at}
 use Rattle.letters.proofs.weight.medial_weight.Statement.{statement}
 use Rattle.letters.proofs.weight.medial_weight.Tie as tie
 
--- what the table says of a set
-abbrev entry : ℕ → Weighed
-entry set = let x = 0xFBA9F874F653F210 / 2 ^ (4 * set) % 16 in pick (not (eqb x 15)) (Weight x) Nothing
+table : List ℕ
+table = 0 ∷ 1 ∷ 2 ∷ 255 ∷ 3 ∷ 5 ∷ 6 ∷ 255 ∷ 4 ∷ 7 ∷ 8 ∷ 255 ∷ 9 ∷ 10 ∷ 11 ∷ 255 ∷ []
+
+-- what an entry says
+entry : ℕ → Weighed
+entry x = pick (not (eqb x 255)) (Weight x) Nothing
 
 same : Weighed → Weighed → Bool
 same (Weight a) (Weight b) = eqb a b
@@ -31,30 +36,23 @@ same-equal (Weight a) Nothing t = absurd t
 same-equal Nothing (Weight b) t = absurd t
 same-equal Nothing Nothing t = refl
 
+right : ℕ → ℕ → Bool
+right k x = same (entry x) (medialSetWeight k)
+
 returns : tie.Need-returns
 returns c = search (needs, pick-no, from-eqb) depth 16
 
-mul-weight : tie.Need-mul-weight
-mul-weight c = search needs
-
-cast-weight : tie.Need-cast-weight
-cast-weight c = search needs
-
-shr-weight : tie.Need-shr-weight
-shr-weight c = search needs
-
-cast-weight-if : tie.Need-cast-weight-if
-cast-weight-if c = search needs
+array-read-weight : tie.Need-array-read-weight
+array-read-weight c = search needs
 
 weight-if-requires : tie.Need-weight-if-requires
 weight-if-requires c κs = search needs
 
 returns-2 : tie.Need-returns-2
-unfolding same pick
+unfolding table entry same right pick
 returns-2 c =
     let set = c .before .before .args .set in
-    c .weight-if .ensures
-    ∙ same-equal (entry set) (medialSetWeight set) (below (λ (k : ℕ). same (entry k) (medialSetWeight k)) 16 tt set (search needs))
+    c .weight-if .ensures ∙ same-equal (entry (getD table set 0)) (medialSetWeight set) (at right table tt set (search needs))
 
 pub medial-weight-spec : {M : Type 1} → statement M
-medial-weight-spec = tie.close (tie.spec returns mul-weight cast-weight shr-weight cast-weight-if weight-if-requires returns-2)
+medial-weight-spec = tie.close (tie.spec returns array-read-weight weight-if-requires returns-2)
