@@ -2,4 +2,4 @@ mod Decoding
 mod Keying
 pub mod Determined
 pub mod OutputFits
-pub mod Told
+pub mod Unpacked

@@ -13,7 +13,7 @@ use Rattle.formula.specs.Row.{Row, Gives, Viable}
 use Rattle.formula.specs.Packed.{unread}
 use Rattle.formula.specs.declared.Window.{Window}
 use Rattle.refusals.specs.Outcome.{Outcome, accepts, accepts-both, absent, refuses}
-use Rattle.rows.specs.Kept.{KeptOk, step, run}
+use Rattle.rows.specs.Machine.{KeptOk, step, run}
 use Rattle.rows.proofs.Viable.{read-back, stops}
 use Rattle.transitions.specs.Transition.{byteOf}
 use Rattle.transitions.specs.Tables.{entryOf, gainOf}
@@ -23,7 +23,7 @@ use Rattle.syllables.proofs.Moved.{window-moves, window-fits}
 use Rattle.recogniser.specs.Walked.{WalkStopped}
 use Rattle.recogniser.proofs.Kept.{kept-right}
 use Rattle.recogniser.proofs.Answered.{row-viable}
-use Rattle.recogniser.proofs.Walking.{walk-start, state-bound, count-within, walk-refused, moved, moved-on}
+use Rattle.recogniser.proofs.Walking.{state-bound, count-within, moved, moved-on}
 use Rattle.weighing.specs.Keys.{keyLimit, usedBytes, zeros, keyOf, keyBytes}
 use Rattle.keying.specs.Filling.{putLast, bytesAfter, Advanced, KeyOf, Filled}
 use Rattle.keying.specs.Filled.{KeyIfRead}

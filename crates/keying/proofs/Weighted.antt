@@ -1,11 +1,11 @@
 -- The weights of a packed syllable are the formula's: its parts give a head's value and a set of medials back, a final weighs its number, and a
 -- head that is an independent vowel carries no vowel. Assumes nothing.
-use mathlib.Core.Path.{_≡_, refl, ap, sym, subst, _∙_}
+use mathlib.Core.Path.{_≡_, refl, ap}
 use mathlib.Core.Bool.{Bool, true, false, _&&_, _||_}
 use mathlib.Core.List.{List, [], _∷_}
 use Prim.Native.Nat.{ℕ, suc, _+_, _-_, _≤_}
 use native.Mathlib.Omega.{arith}
-use lib.Dec.{T, eqb→eq}
+use lib.Dec.{T}
 use lib.ListN.{set}
 use lib.Seq.{sets}
 use Rattle.letters.specs.Choice.{pick}

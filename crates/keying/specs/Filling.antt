@@ -2,7 +2,7 @@
 -- Assumes nothing.
 use mathlib.Core.Path.{_≡_}
 use mathlib.Core.List.{List, [], _∷_, _++_}
-use Prim.Native.Nat.{ℕ, _+_, _-_, _*_}
+use Prim.Native.Nat.{ℕ, _+_, _-_}
 use lib.Dec.{T, eqb}
 use lib.ListN.{length}
 use lib.Seq.{sets}
@@ -12,7 +12,7 @@ use Rattle.formula.specs.Syllable.{isNoFinal}
 use Rattle.formula.specs.Row.{Row}
 use Rattle.formula.specs.Weighing.{weightsOf}
 use Rattle.formula.specs.declared.Window.{Window}
-use Rattle.rows.specs.Kept.{endOf}
+use Rattle.rows.specs.Machine.{endOf}
 use Rattle.syllables.specs.Window.{windowAfter, WindowOf, belowLast}
 use Rattle.recogniser.specs.Walked.{Walked}
 use Rattle.weighing.specs.Keys.{keyLimit, zeros, usedBytes}

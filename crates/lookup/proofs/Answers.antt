@@ -1,7 +1,6 @@
 -- An outcome determines the answer of find and rank.
 -- Assumes nothing.
 use mathlib.Core.Path.{_≡_}
-use Prim.Native.Nat.{ℕ}
 use Rattle.refusals.proofs.Laws.{number-place-injective}
 use Rattle.lookup.specs.Outcome.{foundOutcome}
 use Rattle.lookup.specs.declared.plan.Found.{Found}

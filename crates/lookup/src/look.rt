@@ -1,10 +1,10 @@
 // Where a word stands in a book: a pass over the records of a buffer that is opened.
+use book_check::open::Opening;
+use book_check::open::open_book;
 use book_frame::HEAD;
 use book_frame::has_mark;
 use book_frame::value_of;
 use memory::casts::wide;
-use opening::open::Opening;
-use opening::open::open_book;
 ghost use mathlib.Core.Path.{_≡_};
 ghost use mathlib.Core.Bool.{_&&_};
 ghost use mathlib.Core.List.{map};

@@ -1,7 +1,7 @@
 // The answers of find, add and remove, decided by reading alone.
-use book_frame::HEAD;
 use crate::look::Look;
 use crate::look::look_up;
+use book_frame::HEAD;
 use refusals::Counted;
 use refusals::Refusal;
 ghost use mathlib.Core.Path.{_≡_};

@@ -23,7 +23,7 @@ use Rattle.entries.specs.Map.{lookup, counted, liveCount}
 use Rattle.entries.proofs.Records.{framed-true, length-record, end-length}
 use Rattle.entries.proofs.Agree.{Sound, sound}
 use Rattle.lookup.specs.Outcome.{checkOf, findOfEntry, findOf, removeOfEntry, removeOf, addOfEntry, addOf}
-use Rattle.keeping.proofs.Laws.{Bytes}
+use Rattle.book_change.proofs.Laws.{Bytes}
 use Rattle.ranking.specs.Rank.{rankOf, Among}
 use Rattle.ranking.proofs.Laws.{rank-below, rank-too-high, rank-of-no-book}
 use Rattle.wordbook.specs.Calls.{WordRefused, empty, refused, CallAnswers, word-refused, word-stored, AddPromise, RemovePromise}

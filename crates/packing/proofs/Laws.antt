@@ -1,6 +1,6 @@
 -- Unpacking undoes packing, where each number fits its bits; so two answers that fit and have the same number are one.
 -- Assumes nothing.
-use mathlib.Core.Path.{_≡_, refl, sym, ap, _∙_}
+use mathlib.Core.Path.{_≡_, sym, ap, _∙_}
 use mathlib.Core.List.{List}
 use Prim.Native.Nat.{ℕ, _/_, _%_, _<_}
 use native.Mathlib.Omega.{arith}
@@ -24,9 +24,9 @@ pub pack-injective : (a b : Answer) → Fits a → Fits b → pack a ≡ pack b 
 pack-injective a b f g e = sym (unpack-pack a f) ∙ ap unpack e ∙ unpack-pack b g
 
 -- a call's number unpacks to the numbers of its outcome, where those of every right outcome fit
-pub packed-told : {A : Type 0} (Right : A → Type 0) (numbers : A → Answer) → ((o : A) → Right o → Fits (numbers o))
+pub packed-unpacked : {A : Type 0} (Right : A → Type 0) (numbers : A → Answer) → ((o : A) → Right o → Fits (numbers o))
     → (n : ℕ) (p : Packed Right numbers n) → unpack n ≡ numbers (p .outcome)
-packed-told Right numbers fits n p = ap unpack (p .packed) ∙ unpack-pack (numbers (p .outcome)) (fits (p .outcome) (p .right))
+packed-unpacked Right numbers fits n p = ap unpack (p .packed) ∙ unpack-pack (numbers (p .outcome)) (fits (p .outcome) (p .right))
 
 -- the bits of a record's number: its seven bytes, the head lowest
 pub record RecordBits (n : ℕ) (bytes : List ℕ) : Type 0 where

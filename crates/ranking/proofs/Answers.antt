@@ -14,11 +14,11 @@ use Rattle.entries.specs.Book.{Opened}
 use Rattle.entries.specs.Map.{liveCount}
 use Rattle.entries.proofs.Records.{framed-true}
 use Rattle.entries.proofs.Agree.{opened-is}
-use Rattle.opening.specs.Opening.{openingOf}
-use Rattle.opening.specs.declared.open.Opening.the-variants.{Book}
+use Rattle.book_check.specs.Opening.{openingOf}
+use Rattle.book_check.specs.declared.open.Opening.the-variants.{Book}
 use Rattle.lookup.specs.Outcome.{finds}
-use Rattle.filing.specs.Filing.{AllKeyed, mostLive, FiledRight}
-use Rattle.filing.proofs.Live.{keyed-at}
+use Rattle.book_keys.specs.Filing.{AllKeyed, mostLive, FiledRight}
+use Rattle.book_keys.proofs.Live.{keyed-at}
 use Rattle.ranking.specs.Sorting.{inOrder, goesBefore, frontInOrder}
 use Rattle.ranking.specs.Rank.{rankOfEntry, rankOf, SortedRight}
 use Rattle.ranking.proofs.Merges.{length-in-order}

@@ -16,8 +16,8 @@ use Rattle.entries.specs.Book.{IsBook}
 use Rattle.entries.specs.Map.{liveCount}
 use Rattle.entries.specs.Rank.{insert, sortedOnto, sorted}
 use Rattle.entries.proofs.Ranked.{AllLive}
-use Rattle.filing.specs.Filing.{before, liveOnes, startOf}
-use Rattle.filing.proofs.Live.{live-count, entries-back, live-all, sorted-live}
+use Rattle.book_keys.specs.Filing.{before, liveOnes, startOf}
+use Rattle.book_keys.proofs.Live.{live-count, entries-back, live-all, sorted-live}
 use Rattle.ranking.specs.Sorting.{inOrderOnto, inOrder, goesBefore}
 use Rattle.ranking.proofs.Merges.{length-in-order}
 

@@ -6,7 +6,7 @@ use Prim.Native.Nat.{ℕ, zero, suc}
 use lib.ListN.{take, drop}
 use Rattle.letters.specs.Choice.{pick}
 use Rattle.entries.specs.Rank.{insert}
-use Rattle.filing.specs.Filing.{HasKey, AllKeyed}
+use Rattle.book_keys.specs.Filing.{HasKey, AllKeyed}
 use Rattle.ranking.specs.Sorting.{inOrderOnto, inOrder, Sortable}
 
 module _ (bytes keys : List ℕ) where

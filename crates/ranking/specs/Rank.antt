@@ -13,7 +13,7 @@ use Rattle.entries.specs.Book.{IsBook}
 use Rattle.entries.specs.Map.{liveCount}
 use Rattle.entries.specs.Rank.{sorted, liveBefore}
 use Rattle.lookup.specs.Outcome.{finds}
-use Rattle.filing.specs.Filing.{before, startOf, mostLive}
+use Rattle.book_keys.specs.Filing.{before, startOf, mostLive}
 
 -- the entry's "start and stock number"; 15 where there is none: "rank not below the live count", with the live count
 abbrev pub rankOfEntry : Option Entry → ℕ → Outcome

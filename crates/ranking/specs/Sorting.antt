@@ -10,7 +10,7 @@ use Rattle.letters.specs.Choice.{pick}
 use Rattle.entries.specs.Limits.{bookLimit}
 use Rattle.entries.specs.Entries.{entryAt}
 use Rattle.entries.specs.Rank.{insert}
-use Rattle.filing.specs.Filing.{before, AllKeyed, keyRoom}
+use Rattle.book_keys.specs.Filing.{before, AllKeyed, keyRoom}
 
 module _ (less : ℕ → ℕ → Bool) where
   -- starts put one after the other among those that are in order already

@@ -1,19 +1,19 @@
 // The live records of a book in word order, and the one with so many before it.
-use filing::keys::KEY_ROOM;
-use filing::keys::MOST_LIVE;
-use filing::keys::file_records;
+use book_check::open::Opening;
+use book_check::open::open_book;
+use book_keys::keys::KEY_ROOM;
+use book_keys::keys::MOST_LIVE;
+use book_keys::keys::file_records;
 use lookup::look::stock_at;
 use lookup::plan::Found;
 use memory::casts::place_of;
-use opening::open::Opening;
-use opening::open::open_book;
 use refusals::Refusal;
 ghost use mathlib.Core.Path.{_≡_};
 ghost use lib.ListN.{length};
 ghost use Rattle.entries.specs.Entries.{entries};
 ghost use Rattle.entries.specs.Book.{Opened};
 ghost use Rattle.lookup.specs.Outcome.{foundOutcome};
-ghost use Rattle.filing.specs.Filing.{mostLive};
+ghost use Rattle.book_keys.specs.Filing.{mostLive};
 ghost use Rattle.ranking.specs.Rank.{rankOf, SortedRight};
 
 mod merging; // merging.rt: a merge sort of starts

@@ -13,7 +13,7 @@ use lib.Seq.{take-at, drop-at}
 use Rattle.letters.specs.Choice.{pick}
 use Rattle.formula.specs.Syllable.{Final, no-final, finalOf, part}
 use Rattle.formula.specs.Row.{Row, joinAfter, partsAfter, parts}
-use Rattle.rows.specs.Kept.{endOf, keptJoin}
+use Rattle.rows.specs.Machine.{endOf, keptJoin}
 use Rattle.rows.proofs.Viable.{only-row}
 use Rattle.recogniser.specs.Answer.{RefusedWith, Reads}
 use Rattle.recogniser.specs.Walked.{WalkStopped}

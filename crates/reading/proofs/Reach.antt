@@ -13,7 +13,7 @@ use Rattle.formula.specs.Syllable.{no-final, great-sa, Syllable, syllable, bare
 use Rattle.formula.specs.Row.{Row}
 use Rattle.formula.specs.Packed.{packed, unread}
 use Rattle.formula.specs.declared.Window.{Window}
-use Rattle.rows.specs.Kept.{endOf, keptJoin, step, run}
+use Rattle.rows.specs.Machine.{endOf, keptJoin, step, run}
 use Rattle.transitions.specs.Tables.{entryOf, gainOf}
 use Rattle.transitions.specs.Transition.{Makes, begins, begins-great-sa, adds-medial, adds-vowel, adds-tone, makes-kinzi, closes}
 use Rattle.transitions.proofs.Entered.{Moves, makes-length}

@@ -11,7 +11,7 @@ use lib.Seq.{take-all}
 use Rattle.formula.specs.Limits.{limit}
 use Rattle.formula.specs.Row.{Row, Gives, Viable}
 use Rattle.formula.specs.Packed.{packed}
-use Rattle.rows.specs.Kept.{run}
+use Rattle.rows.specs.Machine.{run}
 use Rattle.rows.proofs.Viable.{read-back, stops}
 use Rattle.recogniser.specs.Answer.{Reads}
 use Rattle.recogniser.specs.Walked.{WalkStopped}

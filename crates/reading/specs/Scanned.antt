@@ -10,7 +10,7 @@ use Rattle.formula.specs.Syllable.{isNoFinal}
 use Rattle.formula.specs.Row.{Row}
 use Rattle.formula.specs.Packed.{packed}
 use Rattle.formula.specs.declared.Window.{Window}
-use Rattle.rows.specs.Kept.{endOf, keptJoin}
+use Rattle.rows.specs.Machine.{endOf, keptJoin}
 use Rattle.syllables.specs.Window.{WindowOf, belowLast}
 use Rattle.recogniser.specs.Walked.{Walked, WalkStopped}
 use Rattle.reading.specs.declared.scan.Scan.{Scan}

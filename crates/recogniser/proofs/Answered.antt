@@ -14,7 +14,7 @@ use Rattle.letters.specs.Letters.{isAdmitted}
 use Rattle.formula.proofs.Lists.{every-at}
 use Rattle.formula.specs.Syllable.{isClosed}
 use Rattle.formula.specs.Row.{Row, Gives, Viable}
-use Rattle.rows.specs.Kept.{endOf, run}
+use Rattle.rows.specs.Machine.{endOf, run}
 use Rattle.rows.proofs.Sound.{sound}
 use Rattle.rows.proofs.Admitted.{run-admitted}
 use Rattle.rows.proofs.Viable.{read-back, only-row, unfinished, alive, stops, longest}

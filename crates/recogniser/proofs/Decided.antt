@@ -11,7 +11,7 @@ use lib.ListN.{length}
 use Rattle.formula.specs.Limits.{limit}
 use Rattle.formula.specs.Syllable.{isClosed}
 use Rattle.formula.specs.Row.{Row, Gives}
-use Rattle.rows.specs.Kept.{endOf, run}
+use Rattle.rows.specs.Machine.{endOf, run}
 use Rattle.rows.proofs.Sound.{sound}
 use Rattle.rows.proofs.Viable.{read-back, unfinished}
 use Rattle.recogniser.specs.Answer.{Readable}

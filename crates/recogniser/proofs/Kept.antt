@@ -7,7 +7,7 @@ use Prim.Native.Nat.{ℕ, _≤_}
 use native.Mathlib.Omega.{arith}
 use lib.ListN.{length, take, length-append, length-take}
 use Rattle.formula.specs.Row.{Row}
-use Rattle.rows.specs.Kept.{endOf, keptJoin, run}
+use Rattle.rows.specs.Machine.{endOf, keptJoin, run}
 use Rattle.rows.proofs.Sound.{RunOut, run-out}
 use Rattle.recogniser.proofs.Counted.{part-length}
 

@@ -8,8 +8,7 @@ use native.Mathlib.Numerals.{add-one}
 use native.Mathlib.Omega.{arith}
 use lib.Dec.{eqb, leb→le}
 use lib.ListN.{length, getD, take}
-use Rattle.formula.specs.Row.{Row}
-use Rattle.rows.specs.Kept.{step, run}
+use Rattle.rows.specs.Machine.{step, run}
 use Rattle.rows.proofs.Viable.{goes-on}
 use Rattle.transitions.specs.State.{stateOf, stateNumber}
 use Rattle.transitions.specs.Tables.{entryOf, gainOf}

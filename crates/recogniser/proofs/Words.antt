@@ -19,7 +19,7 @@ use Rattle.formula.specs.Spelled.{spelled}
 use Rattle.formula.specs.Weighing.{weightsOf, weights}
 use Rattle.formula.proofs.Lists.{both-left, both-right, every, All, every-all, every-at, sameLists, sameLists-equal}
 use Rattle.formula.proofs.Words.{Example, examples}
-use Rattle.rows.specs.Kept.{endOf, step, run}
+use Rattle.rows.specs.Machine.{endOf, step, run}
 use Rattle.rows.proofs.Sound.{sound}
 use Rattle.rows.proofs.Viable.{read-back, only-row, unfinished, alive, stops, goes-on, longest}
 use Rattle.refusals.specs.Outcome.{Outcome, accepts, refuses}

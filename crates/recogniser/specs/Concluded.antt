@@ -11,7 +11,7 @@ use Rattle.letters.specs.Letters.{isAdmitted}
 use Rattle.formula.specs.Limits.{limit}
 use Rattle.formula.specs.Syllable.{isClosed}
 use Rattle.formula.specs.Row.{Row}
-use Rattle.rows.specs.Kept.{endOf, step, run}
+use Rattle.rows.specs.Machine.{endOf, step, run}
 
 unfoldable pub isForeign : ℕ → Bool
 isForeign x = not (isAdmitted x)

@@ -7,7 +7,7 @@ use Prim.Native.Nat.{ℕ, _≤_, _<_}
 use lib.ListN.{length, getD, take}
 use Rattle.formula.specs.Limits.{limit}
 use Rattle.formula.specs.Row.{Row}
-use Rattle.rows.specs.Kept.{step, run}
+use Rattle.rows.specs.Machine.{step, run}
 use Rattle.transitions.specs.State.{stateOf, stateNumber}
 
 -- the state after the first `at` values of the word

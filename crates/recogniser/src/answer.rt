@@ -7,7 +7,7 @@ ghost use Rattle.recogniser.specs.Answer.{Answers};
 ghost use Rattle.recogniser.specs.Concluded.{Halted};
 
 // The answer where a pass over the word has stopped with so many syllables, the last of which waits for a letter or not.
-pub fn answer_where(word: &[u16], at: usize, waits: bool, count: usize) -> Counted
+pub(crate) fn answer_where(word: &[u16], at: usize, waits: bool, count: usize) -> Counted
     requires { ⌜ Halted (now word) at waits count ⌝ }
     ensures { λ r. ⌜ Answers (now (word .entry)) (outcomeOf r) ⌝ }
 {

@@ -13,10 +13,10 @@ pub record Same {A : Type 0} (first second : Outcome) (after final : A) : Type 0
   pub outcome : first ≡ second
   pub output : after ≡ final
 
-module _ {A : Type 0} (Refuses : ℕ → ℕ → Type 0) (Stands : A → Type 0) (values : A → List ℕ) (told : A → ℕ)
+module _ {A : Type 0} (Refuses : ℕ → ℕ → Type 0) (Stands : A → Type 0) (values : A → List ℕ) (tells : A → ℕ)
     (alike : (n p m q : ℕ) → Refuses n p → Refuses m q → refuses n p ≡ refuses m q) (one : (a b : A) → Stands a → Stands b → a ≡ b)
     (either : (a : A) (n p : ℕ) → Stands a → Refuses n p → ⊥) (before after final : List ℕ) where
-  pub writes-determined : (first second : Outcome) → Writes Refuses Stands values told before after first → Writes Refuses Stands values told before final second
+  pub writes-determined : (first second : Outcome) → Writes Refuses Stands values tells before after first → Writes Refuses Stands values tells before final second
       → Same first second after final
   writes-determined first second (refused r e) (refused s f) = record { outcome = alike _ _ _ _ r s; output = e ∙ sym f }
   writes-determined first second (refused r e) (put {thing = b} t l f) = absurd (either b _ _ t r)

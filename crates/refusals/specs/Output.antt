@@ -7,13 +7,13 @@ use lib.ListN.{length, drop}
 use Rattle.refusals.specs.Outcome.{Outcome, accepts, refuses}
 
 -- what is handed in is refused, or it stands for a thing with values and a number: these are written where there is room, and this is told
-pub data Writes {A : Type 0} (Refuses : ℕ → ℕ → Type 0) (Stands : A → Type 0) (values : A → List ℕ) (told : A → ℕ) (before after : List ℕ) : Outcome → Type 0 where
-  refused : {number place : ℕ} → Refuses number place → after ≡ before → Writes Refuses Stands values told before after (refuses number place)
+pub data Writes {A : Type 0} (Refuses : ℕ → ℕ → Type 0) (Stands : A → Type 0) (values : A → List ℕ) (tells : A → ℕ) (before after : List ℕ) : Outcome → Type 0 where
+  refused : {number place : ℕ} → Refuses number place → after ≡ before → Writes Refuses Stands values tells before after (refuses number place)
   put : {thing : A} → Stands thing → length (values thing) ≤ length before → after ≡ values thing ++ drop (length (values thing)) before
-      → Writes Refuses Stands values told before after (accepts (told thing))
+      → Writes Refuses Stands values tells before after (accepts (tells thing))
   -- 5: "lent output too short"; place: "values or bytes needed"
   too-short : {thing : A} → Stands thing → length before < length (values thing) → after ≡ before
-      → Writes Refuses Stands values told before after (refuses 5 (length (values thing)))
+      → Writes Refuses Stands values tells before after (refuses 5 (length (values thing)))
 
 -- values that are written where there is room for them, and how many; an inner contract cites it
 pub data Puts (values before after : List ℕ) : Outcome → Type 0 where

@@ -11,7 +11,7 @@ use Rattle.letters.specs.declared.kind.Kind.{Kind}
 use Rattle.letters.proofs.Counted.{unadmitted-foreign}
 use Rattle.formula.proofs.Lists.{both, every}
 use Rattle.formula.specs.Row.{Row}
-use Rattle.rows.specs.Kept.{act, step, andThen, run}
+use Rattle.rows.specs.Machine.{act, step, andThen, run}
 
 step-admitted : (x : ℕ) (a b : Row) → step a x ≡ some b → T (isAdmitted x)
 step-admitted x a b e = go (isAdmitted x) refl

@@ -18,7 +18,7 @@ use Rattle.letters.proofs.Tests.{or-false, pick-true, on-pick}
 use Rattle.formula.proofs.Lists.{both, both-left, both-right}
 use Rattle.formula.specs.Syllable.{Final, no-final, plain, stacked, kinzi, great-sa, Syllable, syllable, bare, headOf, finalOf, carriesMarks, carriesFinal, isNoMedial, isNoVowel, isNoFinal, isNoTone, isClosed, isFinal, takesTone, isSyllable, follows, finalText, headText, part}
 use Rattle.formula.specs.Row.{Row, isRowAfter, IsRow, joinAfter, join}
-use Rattle.rows.specs.Kept.{when, endOf, KeptOk, admits, stepHead, act, step, andThen, run}
+use Rattle.rows.specs.Machine.{when, endOf, KeptOk, admits, stepHead, act, step, andThen, run}
 use Rattle.rows.proofs.Sound.{apart}
 
 -- runs one after the other

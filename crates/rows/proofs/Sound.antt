@@ -6,8 +6,7 @@ use mathlib.Core.List.{List, [], _∷_, _++_, append-assoc, append-nil, reverse,
 use mathlib.Core.Option.{Option, none, some}
 use Prim.Native.Nat.{ℕ}
 use lib.Dec.{T, eqb, eqb→eq}
-use Rattle.letters.specs.Choice.{pick}
-use Rattle.letters.specs.Letters.{isConsonant, isIndependentVowel, isMedial, isVowelMark, isTone, isKiller, isStacker, isGreatSa, isDigit, isStop, isSign, kindOf}
+use Rattle.letters.specs.Letters.{kindOf}
 use Rattle.letters.specs.Marks.{MedialGroup, group, neither, ya, ra, medialGroups, no-medial, medialText, Vowel, no-vowel, vowel-aa, vowel-i, vowel-ii, vowel-u, vowel-uu, vowel-e, vowel-ai, vowel-e-aa, vowel-e-aa-killer, vowel-am, vowel-i-u, vowel-u-am, vowels, vowelText, ToneMark, no-tone, dot, visarga, toneMarks, toneText}
 use Rattle.letters.specs.Weights.{isHead, isFinalLetter}
 use Rattle.letters.specs.declared.kind.Kind.{Kind}
@@ -18,7 +17,7 @@ use Rattle.letters.proofs.Tests.{or-right, or-false}
 use Rattle.formula.proofs.Lists.{both, both-left, both-right, sameList, sameList-equal}
 use Rattle.formula.specs.Syllable.{Final, no-final, plain, stacked, kinzi, great-sa, Syllable, syllable, bare, headOf, finalOf, carriesMarks, carriesFinal, isNoMedial, isNoVowel, isNoFinal, isNoTone, isClosed, isFinal, takesTone, isSyllable, follows, finalText, headText, part}
 use Rattle.formula.specs.Row.{Row, isRowAfter, IsRow, joinAfter, join, Gives}
-use Rattle.rows.specs.Kept.{firstOf, writtenAs, medialAnd, vowelAnd, toneOf, when, onto, endOf, KeptOk, keptJoin, isNotGreatSa, isOpen, isBare, admits, stepHead, stepMedial, stepVowel, stepTone, stepGreatSa, close, killed, stepKiller, stacks, stepStacker, act, step, andThen, run}
+use Rattle.rows.specs.Machine.{firstOf, writtenAs, medialAnd, vowelAnd, toneOf, when, onto, endOf, KeptOk, keptJoin, isNotGreatSa, isOpen, isBare, admits, stepHead, stepMedial, stepVowel, stepTone, stepGreatSa, close, killed, stepKiller, stacks, stepStacker, act, step, andThen, run}
 
 -- absent pieces are written with nothing
 pub no-medial-text : (m : MedialGroup) → T (isNoMedial m) → medialText m ≡ []

@@ -10,7 +10,7 @@ use lib.ListN.{length, getD, take, drop, take-append-drop}
 use lib.Seq.{take-suc, take-take}
 use Rattle.formula.specs.Syllable.{Final, no-final, plain, stacked, kinzi, great-sa, carriesMarks, carriesFinal, bare, isClosed}
 use Rattle.formula.specs.Row.{Row, isRowAfter, joinAfter, join, IsRow, Gives, Viable, LongestViable}
-use Rattle.rows.specs.Kept.{endOf, step, andThen, run}
+use Rattle.rows.specs.Machine.{endOf, step, andThen, run}
 use Rattle.rows.proofs.Sound.{RunOut, run-out, row-of, join-of}
 use Rattle.rows.proofs.Complete.{complete, run-append, first}
 

@@ -8,16 +8,14 @@ use native.Mathlib.Numerals.{add-one}
 use native.Mathlib.Decide.{decLt}
 use native.Mathlib.Omega.{arith}
 use lib.Dec.{eqb}
-use lib.ListN.{length, take, drop, getD, set, replicate, length-append, length-drop, length-set, drop-of-length-le, List·getD-eq-default}
-use lib.Seq.{drop-cons, take-suc, getD-drop, length-take-le, drop-at, set-at, set-split, take-suc-set, drop-set-lt, append-snoc}
+use lib.ListN.{length, take, drop, getD, set, length-append, length-drop, length-set, drop-of-length-le, List·getD-eq-default}
+use lib.Seq.{drop-cons, length-take-le, drop-at, set-split, take-suc-set, drop-set-lt, append-snoc}
 use borrow.Author.Tests.{lt-ltb, le-ltb, ne-eqb}
 use Rattle.letters.specs.Choice.{pick}
 use Rattle.letters.proofs.Picks.{and-no-right}
 use Rattle.formula.specs.Limits.{limit}
-use Rattle.formula.specs.Held.{wordOf}
-use Rattle.formula.specs.declared.Word.{Word}
 use Rattle.storage.specs.Stored.{isRunMark, rank, goesBehind, insert, makesLongVowel, makesLetter}
-use Rattle.storage.specs.Putting.{joinFront, putFront, firstRank, Room, FrontPut, PartRoom}
+use Rattle.storage.specs.Putting.{joinFront, putFront, firstRank, Room, FrontPut}
 use Rattle.storage.proofs.Ranks.{behind-mark, behind-rank, behind-marks}
 use Rattle.storage.proofs.Runs.{insert-behind, insert-here, insert-length}
 use Rattle.storage.proofs.Composing.{other-vowel, other-letter}

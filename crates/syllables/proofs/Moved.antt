@@ -14,11 +14,11 @@ use Rattle.letters.specs.Weights.{isHead, isFinalLetter}
 use Rattle.letters.proofs.Branches.{when-equal, when-unequal}
 use Rattle.formula.proofs.Classes.{within-bounds, head-bounds}
 use Rattle.formula.specs.Limits.{limit}
-use Rattle.formula.specs.Syllable.{Final, no-final, plain, stacked, syllable, bare, isNoFinal}
+use Rattle.formula.specs.Syllable.{no-final, plain, stacked, syllable, bare, isNoFinal}
 use Rattle.formula.specs.Row.{Row}
 use Rattle.formula.specs.Packed.{packed, packedTop}
 use Rattle.formula.specs.declared.Window.{Window}
-use Rattle.rows.specs.Kept.{KeptOk}
+use Rattle.rows.specs.Machine.{KeptOk}
 use Rattle.transitions.specs.Transition.{finalBy, Makes, begins, begins-great-sa, adds-medial, adds-vowel, adds-tone, makes-kinzi, closes}
 use Rattle.transitions.proofs.Entered.{makes-length}
 use Rattle.syllables.specs.Window.{begunBy, closedBy, linkBy, lastKept, windowAfter, Closable, Fit, WindowOf}

@@ -1,11 +1,11 @@
 -- A packed syllable is a sum of bytes, each below 256, so its parts are those that it was made of.
 -- Assumes nothing.
-use mathlib.Core.Path.{_≡_, refl, ap, sym, _∙_}
+use mathlib.Core.Path.{_≡_}
 use mathlib.Core.Bool.{_&&_}
-use Prim.Native.Nat.{ℕ, _+_, _-_, _*_, _≤_, _<_}
+use Prim.Native.Nat.{ℕ, _-_, _≤_, _<_}
 use native.Mathlib.Omega.{arith}
 use lib.Dec.{T, leb, leb→le}
-use Rattle.letters.specs.Marks.{MedialGroup, medialGroups, Vowel, vowels, ToneMark, no-tone, dot, visarga}
+use Rattle.letters.specs.Marks.{MedialGroup, Vowel, ToneMark, no-tone, dot, visarga}
 use Rattle.letters.specs.Weights.{isFinalLetter, finalNumber, medialSet, vowelWeight, vowelTall, toneWeight}
 use Rattle.formula.proofs.Classes.{within-bounds, head-bounds}
 use Rattle.formula.proofs.Lists.{both-left, both-right}

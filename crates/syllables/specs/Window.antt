@@ -11,7 +11,7 @@ use Rattle.formula.specs.Syllable.{isNoFinal}
 use Rattle.formula.specs.Row.{Row}
 use Rattle.formula.specs.Packed.{packedTop, packedBelow}
 use Rattle.formula.specs.declared.Window.{Window}
-use Rattle.rows.specs.Kept.{endOf}
+use Rattle.rows.specs.Machine.{endOf}
 
 -- what the value x begins a syllable with, what it makes of the syllable that it ends, and the link of a final that it makes
 unfoldable pub begunBy : ℕ → ℕ

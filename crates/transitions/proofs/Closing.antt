@@ -5,7 +5,6 @@ use mathlib.Core.Bool.{Bool, true, false, not, _&&_, _||_}
 use mathlib.Core.List.{[], _∷_}
 use mathlib.Core.Option.{Option, none, some}
 use Prim.Native.Nat.{ℕ}
-use native.Mathlib.Omega.{arith}
 use lib.Dec.{T, eqb, eqb→eq}
 use Rattle.letters.specs.Choice.{pick}
 use Rattle.letters.specs.Marks.{neither, MedialGroup, group, Vowel, no-vowel, ToneMark, no-tone, dot, visarga}
@@ -13,7 +12,7 @@ use Rattle.letters.specs.Weights.{isFinalLetter}
 use Rattle.formula.proofs.Lists.{both-left, both-right}
 use Rattle.formula.specs.Syllable.{Final, no-final, plain, stacked, kinzi, great-sa, syllable, bare, carriesMarks, carriesFinal, isNoMedial, isNoVowel, isNoTone}
 use Rattle.formula.specs.Row.{Row}
-use Rattle.rows.specs.Kept.{vowelAnd, when, KeptOk, isOpen, close, killed, stepKiller, stepStacker}
+use Rattle.rows.specs.Machine.{vowelAnd, when, KeptOk, isOpen, close, killed, stepKiller, stepStacker}
 use Rattle.rows.proofs.Sound.{apart}
 use Rattle.rows.proofs.Complete.{is-true}
 use Rattle.transitions.specs.State.{State, done, plain-final, nga-final, waiting, head-stays, head-closes, head-nga, headState, medialState, vowelState, finalState, toneState, isOpenTop, stateOf}

@@ -20,7 +20,7 @@ use Rattle.letters.proofs.Table.{upTo, below}
 use Rattle.formula.proofs.Lists.{both-left, both-right}
 use Rattle.formula.specs.Syllable.{carriesMarks, carriesFinal}
 use Rattle.formula.specs.Row.{Row}
-use Rattle.rows.specs.Kept.{endOf, KeptOk, isNotGreatSa, step}
+use Rattle.rows.specs.Machine.{endOf, KeptOk, isNotGreatSa, step}
 use Rattle.transitions.specs.State.{State, done, plain-final, nga-final, waiting, head-stays, head-closes, head-nga, after-ya-ra, after-wa, after-ha, with-e, with-e-aa, with-i, with-u, with-vowel, stateOf, stateNumber}
 use Rattle.transitions.specs.Transition.{Transition, refuse, to, transition, byteOf, Makes, begins, begins-great-sa, adds-medial, adds-vowel, adds-tone, makes-kinzi, closes, Agrees}
 use Rattle.transitions.specs.Tables.{stateAt, entry, amountOf, entryOf, gainOf, classIn, classOf, examples, rulesAt, rulesIn, rulesOf, nextBy, gainBy}

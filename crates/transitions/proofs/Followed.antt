@@ -17,7 +17,7 @@ use Rattle.formula.proofs.Classes.{inClass, kind-class, head-of, within-bounds}
 use Rattle.formula.proofs.Lists.{both-left, both-right}
 use Rattle.formula.specs.Syllable.{Final, no-final, plain, stacked, kinzi, great-sa, syllable, bare, carriesMarks, carriesFinal, isNoTone, isClosed}
 use Rattle.formula.specs.Row.{Row}
-use Rattle.rows.specs.Kept.{toneOf, when, onto, endOf, KeptOk, isNotGreatSa, admits, stepHead, stepTone, stepGreatSa, act, step}
+use Rattle.rows.specs.Machine.{toneOf, when, onto, endOf, KeptOk, isNotGreatSa, admits, stepHead, stepTone, stepGreatSa, act, step}
 use Rattle.transitions.specs.State.{State, done, head-stays, headState, begunState, toneState, isOpenTop, stateOf}
 use Rattle.transitions.specs.Transition.{refuse, to, isOpenState, takesHead, onHead, onTone, onGreatSa, transition, byteOf, begins, begins-great-sa, adds-tone, Agrees}
 use Rattle.transitions.proofs.Tested.{in-class}

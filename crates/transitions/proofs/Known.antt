@@ -6,13 +6,13 @@ use mathlib.Core.List.{[], _∷_}
 use Prim.Native.Nat.{ℕ}
 use lib.Dec.{T, eqb}
 use Rattle.letters.specs.Choice.{pick}
-use Rattle.letters.specs.Marks.{neither, MedialGroup, group, medialGroups, Vowel, no-vowel, vowels, ToneMark, no-tone, dot, visarga}
+use Rattle.letters.specs.Marks.{neither, MedialGroup, group, Vowel, no-vowel, vowels, ToneMark, no-tone, dot, visarga}
 use Rattle.letters.specs.Weights.{isFinalLetter}
 use Rattle.formula.proofs.Lists.{both-left, both-right, every}
 use Rattle.formula.proofs.Pieces.{each-vowel, each-medial}
 use Rattle.formula.specs.Syllable.{Final, no-final, plain, stacked, kinzi, great-sa, syllable, carriesMarks, carriesFinal, isNoMedial, isNoVowel, isNoFinal, isNoTone, isClosed, takesTone, isSyllable}
 use Rattle.formula.specs.Row.{Row}
-use Rattle.rows.specs.Kept.{endOf, KeptOk, isNotGreatSa, isOpen, admits}
+use Rattle.rows.specs.Machine.{endOf, KeptOk, isNotGreatSa, isOpen, admits}
 use Rattle.rows.proofs.Sound.{apart}
 use Rattle.rows.proofs.Complete.{is-true, final-consonant}
 use Rattle.transitions.specs.State.{State, done, plain-final, nga-final, waiting, head-stays, head-closes, head-nga, after-ya-ra, after-wa, after-ha, with-e, with-e-aa, with-i, with-u, with-vowel, headState, begunState, medialState, vowelState, finalState, toneState, isOpenTop, stateOf}

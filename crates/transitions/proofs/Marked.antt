@@ -14,7 +14,7 @@ use Rattle.letters.specs.Weights.{medialSet}
 use Rattle.formula.proofs.Lists.{both, both-left, both-right}
 use Rattle.formula.specs.Syllable.{Final, no-final, syllable, carriesMarks, carriesFinal, isNoVowel, isSyllable}
 use Rattle.formula.specs.Row.{Row}
-use Rattle.rows.specs.Kept.{medialAnd, vowelAnd, when, onto, KeptOk, isOpen, stepMedial, stepVowel}
+use Rattle.rows.specs.Machine.{medialAnd, vowelAnd, when, onto, KeptOk, isOpen, stepMedial, stepVowel}
 use Rattle.rows.proofs.Complete.{is-true}
 use Rattle.formula.proofs.Classes.{within-bounds}
 use Rattle.formula.proofs.Classes.{mark-bounds}

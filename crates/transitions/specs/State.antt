@@ -1,15 +1,15 @@
 -- The state of a reading: all that the next value asks of the row read so far, one of fifteen. A device of proofs and of inner contracts:
 -- no public promise cites it. Assumes nothing.
 use mathlib.Core.Bool.{Bool, true, false, _&&_}
-use mathlib.Core.List.{List, [], _∷_}
+use mathlib.Core.List.{[], _∷_}
 use Prim.Native.Nat.{ℕ}
 use lib.Dec.{eqb}
 use Rattle.letters.specs.Choice.{pick}
 use Rattle.letters.specs.Marks.{neither, ya, ra, MedialGroup, group, Vowel, no-vowel, vowel-aa, vowel-i, vowel-ii, vowel-u, vowel-uu, vowel-e, vowel-ai, vowel-e-aa, vowel-e-aa-killer, vowel-am, vowel-i-u, vowel-u-am, ToneMark, no-tone, dot, visarga}
 use Rattle.letters.specs.Weights.{isFinalLetter}
-use Rattle.formula.specs.Syllable.{Final, no-final, plain, stacked, kinzi, great-sa, Syllable, syllable, carriesMarks, carriesFinal}
+use Rattle.formula.specs.Syllable.{Final, no-final, plain, stacked, kinzi, great-sa, syllable, carriesMarks, carriesFinal}
 use Rattle.formula.specs.Row.{Row}
-use Rattle.rows.specs.Kept.{isOpen}
+use Rattle.rows.specs.Machine.{isOpen}
 
 pub data State : Type 0 where
   -- no syllable, or one that takes nothing more

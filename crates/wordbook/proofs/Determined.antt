@@ -14,7 +14,7 @@ use Rattle.entries.specs.Entries.{entries}
 use Rattle.lookup.specs.Outcome.{foundOutcome, checkOf, findOf}
 use Rattle.lookup.specs.declared.plan.Found.{Found}
 use Rattle.lookup.proofs.Answers.{found-once}
-use Rattle.keeping.specs.Written.{bytesAdded, bytesRemoved}
+use Rattle.book_change.specs.Written.{bytesAdded, bytesRemoved}
 use Rattle.ranking.specs.Rank.{rankOf}
 use Rattle.wordbook.specs.Calls.{WordRefused, empty, refused, CallAnswers, word-refused, word-stored, AddPromise, RemovePromise}
 use Rattle.wordbook.proofs.Laws.{word-clash}

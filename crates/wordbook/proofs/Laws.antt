@@ -10,8 +10,8 @@ use Rattle.storage.specs.Stored.{storedForm}
 use Rattle.normaliser.proofs.Determined.{stored-not-refused}
 use Rattle.entries.specs.Entries.{entries}
 use Rattle.lookup.specs.Outcome.{finds, findOf}
-use Rattle.keeping.specs.Written.{AddRight, RemoveRight}
-use Rattle.keeping.proofs.Laws.{Bytes, Added, added, find-added, find-others, Removed, removed, find-removed, find-kept}
+use Rattle.book_change.specs.Written.{AddRight, RemoveRight}
+use Rattle.book_change.proofs.Laws.{Bytes, Added, added, find-added, find-others, Removed, removed, find-removed, find-kept}
 use Rattle.wordbook.specs.Calls.{WordRefused, empty, refused, WordStored, CallAnswers, word-refused, word-stored, AddPromise, RemovePromise}
 use Rattle.wordbook.proofs.Stored.{stored-storable}
 

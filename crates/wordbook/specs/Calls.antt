@@ -9,7 +9,7 @@ use Rattle.storage.specs.Stored.{storedForm}
 use Rattle.normaliser.specs.Normal.{StoreRefusedWith, Stores}
 use Rattle.entries.specs.Entries.{entries}
 use Rattle.lookup.specs.Outcome.{addOf, removeOf}
-use Rattle.keeping.specs.Written.{bytesAdded, bytesRemoved}
+use Rattle.book_change.specs.Written.{bytesAdded, bytesRemoved}
 
 -- "Tests run in the order 1, 7, 8, 2, 3 or 4": the refusals of a word that is handed in with a book
 pub data WordRefused (word : List ℕ) : ℕ → ℕ → Type 0 where

@@ -1,8 +1,8 @@
 // The word book: the calls on a book in a lent buffer, for every buffer and every word.
+use book_check::open::Opening;
+use book_check::open::open_book;
 use formula::Word;
 use lookup::plan::Found;
-use opening::open::Opening;
-use opening::open::open_book;
 use refusals::Counted;
 use refusals::Refusal;
 ghost use mathlib.Core.Path.{_≡_};
@@ -45,7 +45,7 @@ pub fn add(book: &mut [u8], word: &[u16], stock: u32) -> Counted
     let mut values = [0; Word::LIMIT];
     match enter(word, &mut values) {
         Counted::Refused(refusal) => Counted::Refused(refusal),
-        Counted::Count(count) => keeping::change::add(book, &values[..count], stock),
+        Counted::Count(count) => book_change::change::add(book, &values[..count], stock),
     }
 }
 
@@ -56,7 +56,7 @@ pub fn remove(book: &mut [u8], word: &[u16]) -> Counted
     let mut values = [0; Word::LIMIT];
     match enter(word, &mut values) {
         Counted::Refused(refusal) => Counted::Refused(refusal),
-        Counted::Count(count) => keeping::change::remove(book, &values[..count]),
+        Counted::Count(count) => book_change::change::remove(book, &values[..count]),
     }
 }
 

@@ -1,7 +1,6 @@
 -- `normaliser::normalise` meets its contract: a row of syllables is its own stored form, and any other word is stored first.
 -- Assumes nothing.
 use mathlib.Core.Path.{refl, sym, subst}
-use Prim.Native.Nat.{ℕ}
 use lib.ListN.{length}
 use lib.Seq.{length-take-le}
 use borrow.Author.Needs.{needs}

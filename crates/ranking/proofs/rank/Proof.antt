@@ -5,8 +5,8 @@ use Prim.Native.Nat.{ℕ, _<_}
 use native.Mathlib.Omega.{arith}
 use denote.Ref.{now}
 use Rattle.entries.specs.Entries.{Entries, entryAt, entries}
-use Rattle.opening.specs.Opening.{openingOf, Told}
-use Rattle.opening.specs.declared.open.Opening.{Opening}
+use Rattle.book_check.specs.Opening.{openingOf, Says}
+use Rattle.book_check.specs.declared.open.Opening.{Opening}
 use Rattle.lookup.specs.Outcome.{finds}
 use Rattle.ranking.specs.Rank.{rankOf}
 use Rattle.ranking.proofs.Answers.{too-high, counted-below, found-there, start-within}
@@ -24,8 +24,8 @@ enum-known-live : tie.Need-enum-known-live
 enum-known-live c = search needs
 
 -- what opening the buffer told
-told : (c : tie.After-open-book) (opening : Opening) → c .open-book .result ≡ opening → Told (now (c .before .before .args .book)) opening
-told c opening e = subst (Told (now (c .before .before .args .book))) e (c .open-book .ensures .told)
+told : (c : tie.After-open-book) (opening : Opening) → c .open-book .result ≡ opening → Says (now (c .before .before .args .book)) opening
+told c opening e = subst (Says (now (c .before .before .args .book))) e (c .open-book .ensures .told)
 
 -- and that it is the definition's answer
 answered : (c : tie.After-open-book) (opening : Opening) → c .open-book .result ≡ opening

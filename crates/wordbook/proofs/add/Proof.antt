@@ -14,7 +14,7 @@ use Rattle.storage.specs.Stored.{storedForm}
 use Rattle.entries.specs.Entries.{entries}
 use Rattle.entries.specs.Change.{Storable}
 use Rattle.lookup.specs.Outcome.{addOf}
-use Rattle.keeping.specs.Written.{AddRight}
+use Rattle.book_change.specs.Written.{AddRight}
 use Rattle.wordbook.specs.Calls.{WordRefused, FormAt, EnteredFor, CallAnswers, word-refused, word-stored}
 use Rattle.wordbook.proofs.Stored.{stored-storable}
 use Rattle.wordbook.proofs.add.Statement.{statement}

@@ -12,7 +12,7 @@ use Rattle.refusals.specs.declared.Counted.{Counted}
 use Rattle.storage.specs.Stored.{storedForm}
 use Rattle.entries.specs.Entries.{entries}
 use Rattle.lookup.specs.Outcome.{removeOf}
-use Rattle.keeping.specs.Written.{RemoveRight}
+use Rattle.book_change.specs.Written.{RemoveRight}
 use Rattle.wordbook.specs.Calls.{WordRefused, FormAt, EnteredFor, CallAnswers, word-refused, word-stored}
 use Rattle.wordbook.proofs.remove.Statement.{statement}
 use Rattle.wordbook.proofs.remove.Tie as tie

@@ -4,7 +4,7 @@ use borrow.Author.Needs.{needs}
 use mathlib.Core.Path.{sym, ap, subst}
 use denote.Ref.{now}
 use Rattle.entries.specs.Entries.{Entries}
-use Rattle.opening.specs.Opening.{Told}
+use Rattle.book_check.specs.Opening.{Says}
 use Rattle.lookup.specs.Look.{lookOf}
 use Rattle.lookup.proofs.look.look_up.Statement.{statement}
 use Rattle.lookup.proofs.look.look_up.Tie as tie
@@ -19,13 +19,13 @@ enum-known-free : tie.Need-enum-known-free
 enum-known-free c = search needs
 
 locate-requires : tie.Need-locate-requires
-locate-requires c κs = subst (Told (now (c .before .before .before .before .before .before .args .book))) (c .before .free .given .1) (c .before .before .before .open-book .ensures .told)
+locate-requires c κs = subst (Says (now (c .before .before .before .before .before .before .args .book))) (c .before .free .given .1) (c .before .before .before .open-book .ensures .told)
 
 returns : tie.Need-returns
 returns c =
     let s = c .before .before .before .before .before .before .args in
     record {
-      answer = ap (λ (e : Entries). lookOf e (now (s .word))) (sym (subst (Told (now (s .book))) (c .before .place .given .1) (c .before .before .before .open-book .ensures .told)));
+      answer = ap (λ (e : Entries). lookOf e (now (s .word))) (sym (subst (Says (now (s .book))) (c .before .place .given .1) (c .before .before .before .open-book .ensures .told)));
       within = tt;
     }
 

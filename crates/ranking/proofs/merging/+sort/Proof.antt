@@ -8,7 +8,7 @@ use native.Mathlib.Omega.{arith}
 use lib.ListN.{length, length-drop}
 use lib.Seq.{length-take-le}
 use denote.Ref.{now}
-use Rattle.filing.specs.Filing.{AllKeyed}
+use Rattle.book_keys.specs.Filing.{AllKeyed}
 use Rattle.ranking.specs.Sorting.{goesBefore, partsMerged}
 use Rattle.ranking.proofs.Ordered.{goes-transitive, goes-level}
 use Rattle.ranking.proofs.Keyed.{keyed-take, keyed-drop, keyed-halves, part-sortable}

@@ -4,7 +4,7 @@ use mathlib.Core.Path.{sym, _∙_}
 use native.Mathlib.Omega.{arith}
 use denote.Ref.{now}
 use Rattle.ranking.specs.Sorting.{goesBefore}
-use Rattle.filing.proofs.Live.{keyed-at}
+use Rattle.book_keys.proofs.Live.{keyed-at}
 use Rattle.ranking.proofs.Turns.{next-second, next-first, next-less}
 use borrow.Author.Needs.{needs}
 use Rattle.ranking.proofs.merging.is_second_next.Statement.{statement}

@@ -1,0 +1,165 @@
+-- The live records of a book: their starts lie apart by their records, so that each key stands where no later one is put.
+-- Assumes nothing.
+use mathlib.Core.Path.{_≡_, refl, sym, ap, subst, _∙_}
+use mathlib.Core.Bool.{Bool, true, false}
+use mathlib.Core.List.{List, [], _∷_, _++_, map}
+use Prim.Native.Nat.{ℕ, zero, suc, _+_, _*_, _≤_, _<_}
+use native.Mathlib.Nat.{le-of-suc-le-suc}
+use native.Mathlib.Omega.{arith}
+use lib.Dec.{T}
+use lib.ListN.{length, getD, take, drop}
+use lib.Seq.{sets, length-sets, take-take}
+use Rattle.memory.proofs.Stores.{sets-before, sets-there}
+use Rattle.letters.specs.Choice.{pick}
+use Rattle.letters.proofs.Tests.{of-true}
+use Rattle.recogniser.specs.Answer.{Readable}
+use Rattle.entries.specs.Limits.{bookLimit}
+use Rattle.entries.specs.Entries.{Entry, wordAt, entryAt, isFramed}
+use Rattle.entries.specs.Book.{endOf, IsBook}
+use Rattle.entries.specs.Map.{counted, liveCount}
+use Rattle.entries.specs.Rank.{insert, sortedOnto}
+use Rattle.entries.proofs.Ranked.{AllLive}
+use Rattle.entries.proofs.Records.{framed-true, framed-is}
+use Rattle.entries.proofs.Walk.{Walk, walk-start, Here, here}
+use Rattle.book_keys.specs.Filing.{rowOf, keptKey, keyRoom, HasKey, AllKeyed, liveOnes, startOf, withKeys}
+use Rattle.book_keys.proofs.Rows.{key-within}
+
+abbrev pub liveStarts : List Entry → List ℕ
+liveStarts list = map startOf (liveOnes list)
+
+pub live-count : (list : List Entry) → length (liveOnes list) ≡ liveCount list
+unfolding liveOnes pick
+live-count [] = refl
+live-count (x ∷ list) = go (x .live) (live-count list)
+  where
+    go : (t : Bool) → length (liveOnes list) ≡ liveCount list → length (pick t (x ∷ liveOnes list) (liveOnes list)) ≡ counted t (liveCount list)
+    go true h = ap suc h
+    go false h = h
+
+pub live-all : (list : List Entry) → AllLive (liveOnes list)
+unfolding liveOnes pick
+live-all [] = tt
+live-all (x ∷ list) = go (x .live) refl (live-all list)
+  where
+    go : (t : Bool) → x .live ≡ t → AllLive (liveOnes list) → AllLive (pick t (x ∷ liveOnes list) (liveOnes list))
+    go true e h = (of-true (x .live) e, h)
+    go false e h = h
+
+-- removed entries have no part in the order
+pub sorted-live : (test : Entry → Entry → Bool) (done list : List Entry) → sortedOnto test done (liveOnes list) ≡ sortedOnto test done list
+unfolding sortedOnto liveOnes pick
+sorted-live test done [] = refl
+sorted-live test done (x ∷ list) =
+    go (x .live) refl (sorted-live test (pick (x .live) (insert test x done) done) list)
+  where
+    go : (t : Bool) → x .live ≡ t
+        → sortedOnto test (pick (x .live) (insert test x done) done) (liveOnes list) ≡ sortedOnto test (pick (x .live) (insert test x done) done) list
+        → sortedOnto test done (pick t (x ∷ liveOnes list) (liveOnes list)) ≡ sortedOnto test (pick (x .live) (insert test x done) done) list
+    go true e h = h
+    go false e h = ap (λ (u : Bool). sortedOnto test (pick u (insert test x done) done) (liveOnes list)) (sym e) ∙ h
+
+-- a walk over all of a book
+whole : (b : List ℕ) (list : List Entry) → IsBook b list → Walk b 0 (endOf 0 list) list [] list
+whole b list k = walk-start b (endOf 0 list) (record { list = list; is-book = k; end = refl })
+
+-- the word of the entry at a place of a walk is readable
+pub here-readable : (b : List ℕ) (at free : ℕ) (list seen : List Entry) (x : Entry) (rest : List Entry) → Here b at free list seen x rest
+    → Readable (wordAt b at)
+here-readable b at free list seen x rest h = subst (λ (e : Entry). Readable (e .word)) (sym (h .is)) (h .good .readable)
+
+entries-ahead : (b : List ℕ) (at free : ℕ) (list seen rest : List Entry) → Walk b at free list seen rest
+    → map (entryAt b) (liveStarts rest) ≡ liveOnes rest
+unfolding liveOnes pick
+entries-ahead b at free list seen [] w = refl
+entries-ahead b at free list seen (x ∷ rest) w =
+    let h : Here b at free list seen x rest = here b at free list seen x rest w in
+    go (x .live) (ap (λ (e : Entry). entryAt b (e .start)) (sym (h .is)) ∙ h .is)
+    (entries-ahead b (at + 7 + getD b (at + 2) 0) free list (seen ++ (x ∷ [])) rest (h .next))
+  where
+    go : (t : Bool) → entryAt b (x .start) ≡ x → map (entryAt b) (liveStarts rest) ≡ liveOnes rest
+        → map (entryAt b) (map startOf (pick t (x ∷ liveOnes rest) (liveOnes rest))) ≡ pick t (x ∷ liveOnes rest) (liveOnes rest)
+    go true e h = λ i. e i ∷ h i
+    go false e h = h
+
+-- the buffer has each live entry of a book at its start
+pub entries-back : (b : List ℕ) (list : List Entry) → IsBook b list → map (entryAt b) (map startOf (liveOnes list)) ≡ liveOnes list
+entries-back b list k = entries-ahead b 0 (endOf 0 list) list [] list (whole b list k)
+
+-- records with readable words stand at these starts, from a place on and each behind the one before
+abbrev pub Spaced : List ℕ → ℕ → List ℕ → Type 0
+Spaced b at [] = Unit {0}
+Spaced b at (s ∷ starts) = (at ≤ s) × T (isFramed b s) × Readable (wordAt b s) × Spaced b (s + 7 + getD b (s + 2) 0) starts
+
+spaced-before : (b : List ℕ) (at from : ℕ) (starts : List ℕ) → from ≤ at → Spaced b at starts → Spaced b from starts
+spaced-before b at from [] h s = tt
+spaced-before b at from (x ∷ starts) h s = let l = s .0 in (omega arith, s .1, s .2, s .3)
+
+spaced-ahead : (b : List ℕ) (at free : ℕ) (list seen rest : List Entry) → Walk b at free list seen rest → Spaced b at (liveStarts rest)
+unfolding liveOnes pick
+spaced-ahead b at free list seen [] w = tt
+spaced-ahead b at free list seen (x ∷ rest) w =
+    let h : Here b at free list seen x rest = here b at free list seen x rest w in
+    go (x .live) (ap startOf (h .is)) (framed-is b at (h .frame)) (here-readable b at free list seen x rest h)
+    (spaced-ahead b (at + 7 + getD b (at + 2) 0) free list (seen ++ (x ∷ [])) rest (h .next))
+  where
+    go : (t : Bool) → at ≡ x .start → T (isFramed b at) → Readable (wordAt b at) → Spaced b (at + 7 + getD b (at + 2) 0) (liveStarts rest)
+        → Spaced b at (map startOf (pick t (x ∷ liveOnes rest) (liveOnes rest)))
+    go true e f r s =
+        subst (λ (p : ℕ). (at ≤ p) × T (isFramed b p) × Readable (wordAt b p) × Spaced b (p + 7 + getD b (p + 2) 0) (liveStarts rest)) e
+        (omega arith, f, r, s)
+    go false e f r s = spaced-before b (at + 7 + getD b (at + 2) 0) at (liveStarts rest) (omega arith) s
+
+pub spaced-of-book : (b : List ℕ) (list : List Entry) → IsBook b list → Spaced b 0 (liveStarts list)
+spaced-of-book b list k = spaced-ahead b 0 (endOf 0 list) list [] list (whole b list k)
+
+pub keys-length : (b keys starts : List ℕ) → length (withKeys b keys starts) ≡ length keys
+unfolding withKeys
+keys-length b keys [] = refl
+keys-length b keys (s ∷ starts) =
+    keys-length b (sets keys (5 * s) (keptKey (rowOf (wordAt b s)))) starts ∙ length-sets keys (5 * s) (keptKey (rowOf (wordAt b s)))
+
+-- keys of records from a place on leave what stands before their room
+keys-before : (b keys : List ℕ) (at q : ℕ) (starts : List ℕ) → q ≤ 5 * at → Spaced b at starts → take q (withKeys b keys starts) ≡ take q keys
+unfolding withKeys
+keys-before b keys at q [] h s = refl
+keys-before b keys at q (x ∷ starts) h s =
+    let l = s .0 in
+    keys-before b (sets keys (5 * x) (keptKey (rowOf (wordAt b x)))) (x + 7 + getD b (x + 2) 0) q starts (omega arith) (s .3)
+    ∙ sets-before (keptKey (rowOf (wordAt b x))) keys (5 * x) q (omega arith)
+
+-- a part of the front
+part-of-front : (l : List ℕ) (p n q : ℕ) → p + n ≤ q → take n (drop p (take q l)) ≡ take n (drop p l)
+part-of-front l zero n q h = take-take n q l (omega arith)
+part-of-front l (suc p) n zero h = let z : ⊥ = omega arith in absurd z
+part-of-front [] (suc p) n (suc q) h = refl
+part-of-front (x ∷ l) (suc p) n (suc q) h = part-of-front l p n q (omega arith)
+
+-- a key that ends before a place is kept when keys of records from there on are put
+kept-on : (b keys : List ℕ) (at next : ℕ) (starts key : List ℕ) → 5 * at + length key ≤ 5 * next → Spaced b next starts
+    → take (length key) (drop (5 * at) keys) ≡ key → take (length key) (drop (5 * at) (withKeys b keys starts)) ≡ key
+kept-on b keys at next starts key h s e =
+    sym (part-of-front (withKeys b keys starts) (5 * at) (length key) (5 * next) h)
+    ∙ ap (λ (l : List ℕ). take (length key) (drop (5 * at) l)) (keys-before b keys next (5 * next) starts (omega arith) s)
+    ∙ part-of-front keys (5 * at) (length key) (5 * next) h ∙ e
+
+pub all-keyed : (b keys : List ℕ) (at : ℕ) (starts : List ℕ) → length b ≤ bookLimit → length keys ≡ keyRoom → Spaced b at starts
+    → AllKeyed b (withKeys b keys starts) starts
+unfolding withKeys
+all-keyed b keys at [] short room s = tt
+all-keyed b keys at (x ∷ starts) short room s =
+    let key : List ℕ = keptKey (rowOf (wordAt b x)) in
+    let within = key-within b x short (framed-true b x (s .1)) (s .2) in
+    let next : ℕ = x + 7 + getD b (x + 2) 0 in (
+      record {
+        framed = s .1;
+        readable = s .2;
+        kept = kept-on b (sets keys (5 * x) key) x next starts key (within .0) (s .3) (sets-there key keys (5 * x) (omega (arith, within .1)));
+      },
+      all-keyed b (sets keys (5 * x) key) next starts short (length-sets keys (5 * x) key ∙ room) (s .3),
+    )
+
+-- the key of the start at a place of the list
+pub keyed-at : (b keys starts : List ℕ) (k : ℕ) → AllKeyed b keys starts → k < length starts → HasKey b keys (getD starts k 0)
+keyed-at b keys [] k a h = let z : ⊥ = omega arith in absurd z
+keyed-at b keys (s ∷ starts) zero a h = a .0
+keyed-at b keys (s ∷ starts) (suc k) a h = keyed-at b keys starts k (a .1) (le-of-suc-le-suc h)

@@ -1,0 +1,75 @@
+-- The row of a readable word is the only one that gives it, with at most as many syllables as the word has values; and what its kept key tells.
+-- Assumes nothing.
+use mathlib.Core.Path.{_≡_, refl, sym, ap, subst, _∙_}
+use mathlib.Core.List.{List, [], _∷_}
+use Prim.Native.Nat.{ℕ, suc, _+_, _*_, _≤_}
+use native.Mathlib.Nat.{add-zero}
+use native.Mathlib.Omega.{arith}
+use lib.ListN.{length, getD, take, drop}
+use lib.Seq.{getD-take, getD-drop, take-nil, drop-drop}
+use Rattle.formula.specs.Syllable.{no-final}
+use Rattle.formula.specs.Row.{Row, Gives}
+use Rattle.recogniser.specs.Answer.{Readable}
+use Rattle.recogniser.proofs.Counted.{row-bound}
+use Rattle.weighing.specs.Keys.{keyOf}
+use Rattle.weighing.proofs.Laws.{key-used}
+use Rattle.entries.specs.Limits.{bookLimit}
+use Rattle.recogniser.proofs.Decided.{decide}
+use Rattle.entries.specs.Entries.{wordAt}
+use Rattle.entries.proofs.Records.{Framed, framed-true, length-word}
+use Rattle.book_keys.specs.Filing.{decidedRow, rowOf, keptKey, keyRoom, HasKey}
+
+pub row-is : (word : List ℕ) → Readable word → (row : Row) → Gives row word → rowOf word ≡ row
+unfolding rowOf
+row-is word r row g = go (decide word)
+  where
+    go : (d : Dec (Readable word)) → decidedRow d ≡ row
+    go (yes s) = sym (s .only row g)
+    go (no n) = absurd (n r)
+
+pub row-gives : (word : List ℕ) → Readable word → Gives (rowOf word) word
+row-gives word r = subst (λ (row : Row). Gives row word) (sym (row-is word r (r .row) (r .gives))) (r .gives)
+
+pub row-fits : (word : List ℕ) → Readable word → length (rowOf word) ≤ length word
+row-fits word r = omega (arith, row-bound no-final (rowOf word), ap length (row-gives word r .joined))
+
+pub kept-length : (row : Row) → length (keptKey row) ≡ 1 + 5 * length row
+unfolding keptKey
+kept-length row = omega (arith, key-used row)
+
+-- the key of the record at a place ends before that of the record behind it, within the room for keys
+pub key-within : (b : List ℕ) (at : ℕ) → length b ≤ bookLimit → Framed b at → Readable (wordAt b at)
+    → (5 * at + length (keptKey (rowOf (wordAt b at))) ≤ 5 * (at + 7 + getD b (at + 2) 0))
+    × (5 * at + length (keptKey (rowOf (wordAt b at))) ≤ keyRoom)
+key-within b at s f r =
+    let k = kept-length (rowOf (wordAt b at)) in
+    let n = length-word b at (f .room) in
+    let m = row-fits (wordAt b at) r in
+    let o = f .room in
+    (omega arith, omega arith)
+
+-- behind the first of a part
+part-behind : (l : List ℕ) (n : ℕ) → drop 1 (take (suc n) l) ≡ take n (drop 1 l)
+part-behind [] n = sym (take-nil n)
+part-behind (x ∷ l) n = refl
+
+-- what a kept key tells: the number of syllables, and behind it the weights
+module _ (b keys : List ℕ) (at : ℕ) (h : HasKey b keys at) where
+  pub key-count : getD keys (5 * at) 0 ≡ length (rowOf (wordAt b at))
+  unfolding keptKey
+  key-count =
+      let row : Row = rowOf (wordAt b at) in
+      ap (λ (k : ℕ). getD keys k 0) (sym (add-zero (5 * at))) ∙ sym (getD-drop (5 * at) keys 0 0)
+      ∙ sym (getD-take (suc (length (keyOf row))) (drop (5 * at) keys) 0 0 (omega arith)) ∙ ap (λ (l : List ℕ). getD l 0 0) (h .kept)
+
+  pub key-weights : take (5 * length (rowOf (wordAt b at))) (drop (5 * at + 1) keys) ≡ keyOf (rowOf (wordAt b at))
+  unfolding keptKey
+  key-weights =
+      let row : Row = rowOf (wordAt b at) in
+      ap (λ (l : List ℕ). take (5 * length row) l) (sym (drop-drop 1 (5 * at) keys))
+      ∙ ap (λ (n : ℕ). take n (drop 1 (drop (5 * at) keys))) (sym (key-used row))
+      ∙ sym (part-behind (drop (5 * at) keys) (length (keyOf row))) ∙ ap (drop 1) (h .kept)
+
+  pub key-ends : length b ≤ bookLimit → 5 * at + (1 + 5 * length (rowOf (wordAt b at))) ≤ keyRoom
+  key-ends s =
+      omega (arith, key-within b at s (framed-true b at (h .framed)) (h .readable) .1, kept-length (rowOf (wordAt b at)))

@@ -1,0 +1,88 @@
+-- Document 01, "The word book" and "Weights": which of two records stands before the other in word order, and how the keys that tell it are kept.
+-- Assumes nothing.
+use mathlib.Core.Path.{_≡_}
+use mathlib.Core.Bool.{Bool, true, false}
+use mathlib.Core.List.{List, [], _∷_, map}
+use Prim.Native.Nat.{ℕ, _≤_}
+use lib.Dec.{T}
+use lib.ListN.{length, take, drop}
+use lib.Seq.{sets}
+use Rattle.letters.specs.Choice.{pick}
+use Rattle.formula.specs.Row.{Row}
+use Rattle.recogniser.specs.Answer.{Readable}
+use Rattle.weighing.specs.Keys.{keyOf, usedBytes}
+use Rattle.weighing.specs.Order.{Filed, filed, order}
+use Rattle.weighing.specs.declared.order.Order.{Order}
+use Rattle.weighing.specs.declared.order.Order.the-variants.{Less, Equal, Greater}
+use Rattle.recogniser.proofs.Decided.{decide}
+use Rattle.entries.specs.Entries.{Entry, wordAt, isFramed}
+use Rattle.entries.specs.Book.{IsBook}
+use Rattle.entries.specs.Map.{liveCount}
+
+abbrev pub decidedRow : {word : List ℕ} → Dec (Readable word) → Row
+decidedRow (yes readable) = readable .row
+decidedRow (no none) = []
+
+-- the row of a readable word; no row for another word
+unfoldable pub rowOf : List ℕ → Row
+rowOf word = decidedRow (decide word)
+
+-- what an entry is filed by
+abbrev pub fileOf : Entry → Filed
+fileOf entry = filed (rowOf (entry .word)) (entry .word)
+
+abbrev pub isLess : Order → Bool
+isLess Less = true
+isLess Equal = false
+isLess Greater = false
+
+-- "before it in word order"
+unfoldable pub before : Entry → Entry → Bool
+before first second = isLess (order (fileOf first) (fileOf second))
+
+-- how a key is kept: the number of syllables, then the weights, five bytes a syllable
+unfoldable pub keptKey : Row → List ℕ
+keptKey row = length row ∷ keyOf row
+
+-- the record at a place has a readable word, whose key stands from byte 5 times the place on
+pub record HasKey (bytes keys : List ℕ) (at : ℕ) : Type 0 where
+  pub framed : T (isFramed bytes at)
+  pub readable : Readable (wordAt bytes at)
+  pub kept : take (length (keptKey (rowOf (wordAt bytes at)))) (drop (usedBytes at) keys) ≡ keptKey (rowOf (wordAt bytes at))
+
+-- each of these starts has its key
+abbrev pub AllKeyed : List ℕ → List ℕ → List ℕ → Type 0
+AllKeyed bytes keys [] = Unit {0}
+AllKeyed bytes keys (start ∷ starts) = HasKey bytes keys start × AllKeyed bytes keys starts
+
+-- the live entries of a list, in the list's order
+unfoldable pub liveOnes : List Entry → List Entry
+liveOnes [] = []
+liveOnes (entry ∷ entries) = pick (entry .live) (entry ∷ liveOnes entries) (liveOnes entries)
+
+abbrev pub startOf : Entry → ℕ
+startOf entry = entry .start
+
+-- the bytes for keys: five for each byte of a book
+abbrev pub keyRoom : ℕ
+keyRoom = 81920
+
+-- the most live records of a book: each has at least eight bytes
+abbrev pub mostLive : ℕ
+mostLive = 2048
+
+-- the keys of the records at these starts, kept one after the other
+unfoldable pub withKeys : List ℕ → List ℕ → List ℕ → List ℕ
+withKeys bytes keys [] = keys
+withKeys bytes keys (start ∷ starts) = withKeys bytes (sets keys (usedBytes start) (keptKey (rowOf (wordAt bytes start)))) starts
+
+-- the promise of `file_records`: the starts of the live records in their order, with the key of each; all else that is lent stays
+pub record FiledRight (bytes keys-before starts-before keys starts : List ℕ) (count : ℕ) : Type 0 where
+  pub live : (list : List Entry) → IsBook bytes list → count ≡ liveCount list
+  pub filed : (list : List Entry) → IsBook bytes list → take count starts ≡ map startOf (liveOnes list)
+  pub keyed : AllKeyed bytes keys (take count starts)
+  pub few : count ≤ mostLive
+  pub key-room : length keys ≡ keyRoom
+  pub start-room : length starts ≡ mostLive
+  pub other-starts : drop count starts ≡ drop count starts-before
+  pub all-keys : keys ≡ withKeys bytes keys-before (take count starts)

@@ -1,0 +1,74 @@
+-- Every call's number tells all of its outcome: unpacked, it is the outcome's numbers, of which none is cut. By the promises alone.
+-- Assumes nothing.
+use mathlib.Core.Path.{_≡_, sym, ap, subst, _∙_}
+use mathlib.Core.List.{List}
+use Prim.Native.Nat.{ℕ}
+use Rattle.recogniser.specs.Answer.{Answers}
+use Rattle.reading.specs.Records.{HasRecord}
+use Rattle.reading.specs.Parts.{PartAnswers}
+use Rattle.normaliser.specs.Normal.{NormaliseRight}
+use Rattle.writing.specs.Write.{WriteRight}
+use Rattle.spelling.specs.Spell.{Lists, SpellRight}
+use Rattle.collation.specs.Comparison.{CompareAnswers}
+use Rattle.entries.specs.Entries.{entries}
+use Rattle.lookup.specs.Outcome.{checkOf}
+use Rattle.book_change.proofs.Laws.{Bytes}
+use Rattle.ranking.specs.Rank.{rankOf}
+use Rattle.wordbook.specs.Calls.{AddPromise, RemovePromise}
+use Rattle.packing.specs.Packing.{pack, unpack, Packed}
+use Rattle.packing.specs.Answers.{outcomeNumbers, bytesNumbers, RecordGivenRight, recordNumbers, compareNumbers, FindAnswers}
+use Rattle.packing.proofs.Laws.{unpack-pack, packed-unpacked, RecordBits, record-bits}
+use Rattle.packing.proofs.WordFits.{read-fits, record-fits, record-small, part-fits, normalise-fits, write-fits, spell-fits, compare-fits}
+use Rattle.packing.proofs.BookFits.{check-fits, rank-fits, find-fits, add-fits, remove-fits}
+use Rattle.interface.specs.Outputs.{KeyWritten, DecodeWritten}
+use Rattle.interface.proofs.OutputFits.{key-fits, decode-fits}
+
+module _ (word : List ℕ) (n : ℕ) where
+  pub read-unpacked : (p : Packed (Answers word) outcomeNumbers n) → unpack n ≡ outcomeNumbers (p .outcome)
+  read-unpacked p = packed-unpacked (Answers word) outcomeNumbers (read-fits word) n p
+
+  pub record-unpacked : (number : ℕ) (p : Packed (RecordGivenRight word number) recordNumbers n) → unpack n ≡ recordNumbers (p .outcome)
+  record-unpacked number p = packed-unpacked (RecordGivenRight word number) recordNumbers (record-fits word number) n p
+
+  -- the low 56 bits are the seven bytes, the head lowest, where there is such a syllable
+  pub record-bits-unpacked : (number : ℕ) (bytes : List ℕ) → HasRecord word number bytes → n ≡ pack (bytesNumbers bytes) → RecordBits n bytes
+  record-bits-unpacked number bytes r e = subst (λ (m : ℕ). RecordBits m bytes) (sym e) (record-bits bytes (record-small word number bytes r))
+
+  pub part-unpacked : (number : ℕ) (p : Packed (PartAnswers word number) outcomeNumbers n) → unpack n ≡ outcomeNumbers (p .outcome)
+  part-unpacked number p = packed-unpacked (PartAnswers word number) outcomeNumbers (part-fits word number) n p
+
+  pub spell-unpacked : (before after : Lists) (p : Packed (SpellRight word before after) outcomeNumbers n) → unpack n ≡ outcomeNumbers (p .outcome)
+  spell-unpacked before after p = packed-unpacked (SpellRight word before after) outcomeNumbers (spell-fits word before after) n p
+
+  pub normalise-unpacked : (before after : List ℕ) (p : Packed (NormaliseRight word before after) outcomeNumbers n) → unpack n ≡ outcomeNumbers (p .outcome)
+  normalise-unpacked before after p = packed-unpacked (NormaliseRight word before after) outcomeNumbers (normalise-fits word before after) n p
+
+  pub key-unpacked : (before after : List ℕ) (p : Packed (KeyWritten word before after) outcomeNumbers n) → unpack n ≡ outcomeNumbers (p .outcome)
+  key-unpacked before after p = packed-unpacked (KeyWritten word before after) outcomeNumbers (key-fits word before after) n p
+
+  pub compare-unpacked : (other : List ℕ) (p : Packed (CompareAnswers word other) compareNumbers n) → unpack n ≡ compareNumbers (p .outcome)
+  compare-unpacked other p = packed-unpacked (CompareAnswers word other) compareNumbers (compare-fits word other) n p
+
+module _ (bytes before after : List ℕ) (n : ℕ) where
+  pub write-unpacked : (p : Packed (WriteRight bytes before after) outcomeNumbers n) → unpack n ≡ outcomeNumbers (p .outcome)
+  write-unpacked p = packed-unpacked (WriteRight bytes before after) outcomeNumbers (write-fits bytes before after) n p
+
+  pub decode-unpacked : (p : Packed (DecodeWritten bytes before after) outcomeNumbers n) → unpack n ≡ outcomeNumbers (p .outcome)
+  decode-unpacked p = packed-unpacked (DecodeWritten bytes before after) outcomeNumbers (decode-fits bytes before after) n p
+
+module _ (book : List ℕ) (small : Bytes book) (n : ℕ) where
+  pub check-unpacked : n ≡ pack (outcomeNumbers (checkOf (entries book))) → unpack n ≡ outcomeNumbers (checkOf (entries book))
+  check-unpacked e = ap unpack e ∙ unpack-pack (outcomeNumbers (checkOf (entries book))) (check-fits book small)
+
+  pub rank-unpacked : (rank : ℕ) → n ≡ pack (outcomeNumbers (rankOf (entries book) rank)) → unpack n ≡ outcomeNumbers (rankOf (entries book) rank)
+  rank-unpacked rank e = ap unpack e ∙ unpack-pack (outcomeNumbers (rankOf (entries book) rank)) (rank-fits book small rank)
+
+  pub find-unpacked : (word : List ℕ) (p : Packed (FindAnswers book word) outcomeNumbers n) → unpack n ≡ outcomeNumbers (p .outcome)
+  find-unpacked word p = packed-unpacked (FindAnswers book word) outcomeNumbers (find-fits book small word) n p
+
+  pub add-unpacked : (word : List ℕ) (stock : ℕ) (after : List ℕ) (p : Packed (AddPromise word stock book after) outcomeNumbers n)
+      → unpack n ≡ outcomeNumbers (p .outcome)
+  add-unpacked word stock after p = packed-unpacked (AddPromise word stock book after) outcomeNumbers (add-fits book small word stock after) n p
+
+  pub remove-unpacked : (word after : List ℕ) (p : Packed (RemovePromise word book after) outcomeNumbers n) → unpack n ≡ outcomeNumbers (p .outcome)
+  remove-unpacked word after p = packed-unpacked (RemovePromise word book after) outcomeNumbers (remove-fits book small word after) n p
