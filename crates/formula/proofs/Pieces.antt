@@ -1,7 +1,6 @@
--- A test that passes at every vowel or medial group of the lists passes at any; two tests that pass and fail together are one.
+-- A test that passes at every vowel or medial group of the lists passes at any.
 -- Assumes nothing.
-use mathlib.Core.Path.{_≡_, refl}
-use mathlib.Core.Bool.{Bool, true, false, not}
+use mathlib.Core.Bool.{Bool, true, false}
 use lib.Dec.{T}
 use Rattle.letters.specs.Marks.{neither, ya, ra, MedialGroup, group, medialGroups, Vowel, no-vowel, vowel-aa, vowel-i, vowel-ii, vowel-u, vowel-uu, vowel-e, vowel-ai, vowel-e-aa, vowel-e-aa-killer, vowel-am, vowel-i-u, vowel-u-am, vowels}
 use Rattle.formula.proofs.Lists.{every, every-all, All}
@@ -44,14 +43,3 @@ each-medial f t m = go (every-all f (λ (g : MedialGroup). T (f g)) (λ (g : Med
     go a (group neither true true) = a .1 .1 .1 .1 .1 .1 .1 .1 .1 .0
     go a (group ya true true) = a .1 .1 .1 .1 .1 .1 .1 .1 .1 .1 .0
     go a (group ra true true) = a .1 .1 .1 .1 .1 .1 .1 .1 .1 .1 .1 .0
-
--- two tests that pass and fail together
-abbrev pub alike : Bool → Bool → Bool
-alike true b = b
-alike false b = not b
-
-pub alike-same : (a b : Bool) → T (alike a b) → a ≡ b
-alike-same true true t = refl
-alike-same true false t = absurd t
-alike-same false true t = absurd t
-alike-same false false t = refl

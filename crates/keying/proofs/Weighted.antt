@@ -1,7 +1,7 @@
 -- The weights of a packed syllable are the formula's: its parts give a head's value and a set of medials back, a final weighs its number, and a
 -- head that is an independent vowel carries no vowel. Assumes nothing.
 use mathlib.Core.Path.{_≡_, refl, ap}
-use mathlib.Core.Bool.{Bool, true, false, _&&_, _||_}
+use mathlib.Core.Bool.{Bool, true, false, _||_}
 use mathlib.Core.List.{List, [], _∷_}
 use Prim.Native.Nat.{ℕ, suc, _+_, _-_, _≤_}
 use native.Mathlib.Omega.{arith}
@@ -16,14 +16,13 @@ use Rattle.letters.specs.declared.weight.Weighed.{Weighed}
 use Rattle.letters.specs.declared.weight.Weighed.the-variants.{Weight, Nothing}
 use Rattle.letters.proofs.Written.{medial-written}
 use Rattle.formula.proofs.Classes.{head-bounds}
-use Rattle.formula.proofs.Lists.{both-right}
 use Rattle.formula.specs.Syllable.{Final, no-final, plain, stacked, kinzi, great-sa, Syllable, syllable, carriesMarks, isNoMedial, isNoVowel, isSyllable}
 use Rattle.formula.specs.Record.{finalNumberOf}
 use Rattle.formula.specs.Packed.{packed}
 use Rattle.formula.specs.Weighing.{finalWeightOf, weightsOf}
-use Rattle.letters.proofs.Tests.{or-left, or-right}
+use Rattle.letters.proofs.Tests.{is-true, either, or-both-right}
 use Rattle.rows.proofs.Sound.{apart}
-use Rattle.rows.proofs.Complete.{is-true, low, high, either}
+use Rattle.rows.proofs.Complete.{low, high}
 use Rattle.syllables.specs.Parts.{headPart, medialPart, finalPart, vowelPart, tonePart}
 use Rattle.syllables.proofs.Parted.{parted}
 use Rattle.keying.specs.Weights.{weightsBy}
@@ -64,9 +63,6 @@ vowel-weighs h v marks = go (within 0x1023 0x1027 h) (within 0x1029 0x102A h) (l
     go false true l k = let m = k tt in omega (arith, none (omega arith))
     go false false l k = omega arith
 
-without-vowel : (a b c : Bool) → T (a || (b && c)) → T (a || c)
-without-vowel a b c = either (T (a || c)) a (b && c) (or-left a c) (λ t. or-right a c (both-right b c t))
-
 -- the weights of a packed syllable are those of the syllable
 pub weights-packed : (s : Syllable) → T (isSyllable s) → weightsBy (packed s) ≡ weightsOf s
 unfolding weightsBy weightsOf
@@ -82,7 +78,7 @@ weights-packed (syllable h m v f t) ok =
       p .letter,
       final-weighs f,
       p .vowel,
-      vowel-weighs h v (without-vowel (carriesMarks h) (isNoMedial m) (isNoVowel v) (a .marks)),
+      vowel-weighs h v (or-both-right (carriesMarks h) (isNoMedial m) (isNoVowel v) (a .marks)),
       p .tone,
     )
 

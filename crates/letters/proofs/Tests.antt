@@ -3,7 +3,7 @@
 use mathlib.Core.Path.{_≡_, refl, ap, sym, subst}
 use mathlib.Core.Logic.{_⊎_, inl, inr}
 use mathlib.Core.Bool.{Bool, true, false, not, _&&_, _||_}
-use lib.Dec.{T}
+use lib.Dec.{T, T-not}
 use Rattle.letters.specs.Choice.{pick}
 
 pub is-true : (a : Bool) → T a → a ≡ true
@@ -58,6 +58,16 @@ or-second a b e t = either (T b) a b (λ s. absurd (subst T e s)) (λ s. s) t
 
 pub or-false : (a : Bool) → T (a || false) → T a
 or-false a t = either (T a) a false (λ s. s) (λ s. absurd s) t
+
+pub or-not : (a b : Bool) → T (a || not b) → a ≡ false → b ≡ false
+or-not a b t e = is-false b (T-not b (or-second a (not b) e t))
+
+-- one, or each of two others
+pub or-both-left : (a b c : Bool) → T (a || (b && c)) → T (a || b)
+or-both-left a b c t = either (T (a || b)) a (b && c) (or-left a b) (λ s. or-right a b (both-left b c s)) t
+
+pub or-both-right : (a b c : Bool) → T (a || (b && c)) → T (a || c)
+or-both-right a b c t = either (T (a || c)) a (b && c) (or-left a c) (λ s. or-right a c (both-right b c s)) t
 
 -- the second passes where the first does
 abbrev pub implies : Bool → Bool → Bool

@@ -109,7 +109,7 @@ final-inside kinzi rest i a = record { none-begins = refl; is-apart = tt }
 final-inside great-sa rest i a = record { none-begins = refl; is-apart = a }
 
 -- what holds of the head and of 103F holds of the head as it is written
-on-head : (P : ℕ → Type 0) (f : Final) (h : ℕ) → P h → P 0x103F → P (headText f h)
+pub on-head : (P : ℕ → Type 0) (f : Final) (h : ℕ) → P h → P 0x103F → P (headText f h)
 on-head P no-final h p q = p
 on-head P (plain c) h p q = p
 on-head P (stacked c) h p q = p

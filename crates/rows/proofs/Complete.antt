@@ -13,8 +13,7 @@ use Rattle.letters.specs.Marks.{neither, ya, ra, MedialGroup, group, medialText
 use Rattle.letters.specs.Weights.{isHead, isFinalLetter}
 use Rattle.letters.specs.declared.kind.Kind.{Kind}
 use Rattle.letters.specs.declared.kind.Kind.the-variants.{Consonant, IndependentVowel, Medial, VowelMark, Tone, Killer, Stacker, GreatSa, Digit, Stop, Sign, Foreign}
-pub use Rattle.letters.proofs.Tests.{is-true, either}
-use Rattle.letters.proofs.Tests.{or-false, pick-true, on-pick}
+use Rattle.letters.proofs.Tests.{is-true, either, or-false, or-both-left, or-both-right, pick-true, on-pick}
 use Rattle.formula.proofs.Lists.{both, both-left, both-right}
 use Rattle.formula.specs.Syllable.{Final, no-final, plain, stacked, kinzi, great-sa, Syllable, syllable, bare, headOf, finalOf, carriesMarks, carriesFinal, isNoMedial, isNoVowel, isNoFinal, isNoTone, isClosed, isFinal, takesTone, isSyllable, follows, finalText, headText, part}
 use Rattle.formula.specs.Row.{Row, isRowAfter, IsRow, joinAfter, join}
@@ -263,15 +262,6 @@ tone-run h m v (stacked c) visarga a q i = absurd i
 tone-run h m v kinzi visarga a q i = absurd i
 tone-run h m v great-sa visarga a q i = absurd i
 
--- each of two tests behind an alternative
-or-first : (b c d : Bool) → T (b || (c && d)) → T (b || c)
-or-first true c d t = tt
-or-first false c d t = both-left c d t
-
-or-second : (b c d : Bool) → T (b || (c && d)) → T (b || d)
-or-second true c d t = tt
-or-second false c d t = both-right c d t
-
 -- a syllable's part
 part-run : (s : Syllable) (a : Row) → KeptOk a → T (follows (endOf a) (headOf s)) → T (isSyllable s)
     → run (part (endOf a) s) (clear a) ≡ some (clear (s ∷ a))
@@ -279,12 +269,12 @@ part-run (syllable h m v f t) a k q i =
     let p = apart h m v f t i in
     then-step (headText (endOf a) h) (medialText m ++ (vowelText v ++ (finalText f ++ toneText t))) (clear a) (bare h ∷ a) _ (head-run a h k (p .head) q)
     (then-run (medialText m) (vowelText v ++ (finalText f ++ toneText t)) (bare h ∷ a) (syllable h m no-vowel no-final no-tone ∷ a) _
-    (medial-run h m a (or-first (carriesMarks h) (isNoMedial m) (isNoVowel v) (p .marks)))
+    (medial-run h m a (or-both-left (carriesMarks h) (isNoMedial m) (isNoVowel v) (p .marks)))
     (then-run (vowelText v) (finalText f ++ toneText t) (syllable h m no-vowel no-final no-tone ∷ a) (syllable h m v no-final no-tone ∷ a) _
-    (vowel-run h m v a (or-second (carriesMarks h) (isNoMedial m) (isNoVowel v) (p .marks)))
+    (vowel-run h m v a (or-both-right (carriesMarks h) (isNoMedial m) (isNoVowel v) (p .marks)))
     (then-run (finalText f) (toneText t) (syllable h m v no-final no-tone ∷ a) (syllable h m v (unGreatSa f) no-tone ∷ a) _
-    (final-run h m v f a (or-first (carriesFinal h) (isNoFinal f) (isNoTone t) (p .closing)) (p .final))
-    (tone-run h m v f t a (or-second (carriesFinal h) (isNoFinal f) (isNoTone t) (p .closing)) (p .tone)))))
+    (final-run h m v f a (or-both-left (carriesFinal h) (isNoFinal f) (isNoTone t) (p .closing)) (p .final))
+    (tone-run h m v f t a (or-both-right (carriesFinal h) (isNoFinal f) (isNoTone t) (p .closing)) (p .tone)))))
 
 -- the parts of `isRowAfter`
 pub record First (f : Final) (s : Syllable) (r : Row) : Type 0 where

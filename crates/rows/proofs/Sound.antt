@@ -12,8 +12,7 @@ use Rattle.letters.specs.Weights.{isHead, isFinalLetter}
 use Rattle.letters.specs.declared.kind.Kind.{Kind}
 use Rattle.letters.specs.declared.kind.Kind.the-variants.{Consonant, IndependentVowel, Medial, VowelMark, Tone, Killer, Stacker, GreatSa, Digit, Stop, Sign, Foreign}
 use Rattle.formula.proofs.Classes.{inClass, kind-class, head-of}
-use Rattle.letters.proofs.Tests.{or-left}
-use Rattle.letters.proofs.Tests.{or-right, or-false}
+use Rattle.letters.proofs.Tests.{or-left, or-right, or-false}
 use Rattle.formula.proofs.Lists.{both, both-left, both-right, sameList, sameList-equal}
 use Rattle.formula.specs.Syllable.{Final, no-final, plain, stacked, kinzi, great-sa, Syllable, syllable, bare, headOf, finalOf, carriesMarks, carriesFinal, isNoMedial, isNoVowel, isNoFinal, isNoTone, isClosed, isFinal, takesTone, isSyllable, follows, finalText, headText, part}
 use Rattle.formula.specs.Row.{Row, isRowAfter, IsRow, joinAfter, join, Gives}

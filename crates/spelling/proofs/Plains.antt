@@ -10,6 +10,7 @@ use lib.ListN.{length, length-append}
 use Rattle.letters.specs.Choice.{pick}
 use Rattle.letters.specs.Weights.{isFinalLetter}
 use Rattle.letters.specs.Marks.{MedialGroup, Vowel, ToneMark}
+use Rattle.letters.proofs.Tests.{either}
 use Rattle.formula.proofs.Lists.{both-left}
 use Rattle.formula.specs.Syllable.{Final, no-final, plain, stacked, kinzi, great-sa, Syllable, syllable, finalOf, carriesFinal, isNoFinal, isNoTone, isSyllable, part}
 use Rattle.formula.specs.Row.{Row, isRowAfter}
@@ -17,7 +18,7 @@ use Rattle.formula.specs.Record.{recordOf}
 use Rattle.formula.specs.Packed.{packed}
 use Rattle.formula.specs.Spelled.{spelledOf, spelled}
 use Rattle.rows.proofs.Sound.{apart, reclosed}
-use Rattle.rows.proofs.Complete.{either, first}
+use Rattle.rows.proofs.Complete.{first}
 use Rattle.reading.specs.Records.{bytesBy}
 use Rattle.reading.proofs.Recorded.{bytes-packed}
 use Rattle.syllable_text.specs.Decode.{syllableOf}

@@ -6,7 +6,7 @@ use mathlib.Core.List.{List, [], _∷_}
 use Prim.Native.Nat.{ℕ, zero, suc, _+_, _/_, _%_, _≤_, _<_}
 use native.Mathlib.Decide.{decLt}
 use native.Mathlib.Omega.{arith}
-use lib.Dec.{T, eqb, eqb→eq, leb, ltb, ltb→lt, not-T, T-not}
+use lib.Dec.{T, eqb, eqb→eq, ltb, ltb→lt, not-T, T-not}
 use lib.ListN.{length, getD}
 use borrow.Author.Tests.{eqb-true, ltb-true, le-ltb}
 use Rattle.letters.specs.Choice.{pick}
@@ -15,8 +15,8 @@ use Rattle.letters.proofs.Counted.{on-chart}
 use Rattle.letters.proofs.Picks.{and-no-right}
 use Rattle.letters.proofs.Table.{at}
 use Rattle.letters.proofs.Tests.{either, is-true, implies, implied}
+use Rattle.formula.proofs.Classes.{OnChart, inside}
 use Rattle.formula.proofs.Lists.{every, both-left, both-right}
-use Rattle.rows.proofs.Complete.{low, high}
 use Rattle.storage.specs.Stored.{isRunMark, storageOrder, placeIn, rank, goesBehind}
 use Rattle.storage.specs.Putting.{rankTable}
 
@@ -60,25 +60,16 @@ unfolding rank isRunMark
 rank-mark x h = on-list isRunMark storageOrder x tt h
 
 -- all marks stand on the chart
-abbrev OnChart : ℕ → Type 0
-OnChart x = (0x1000 ≤ x) × (x ≤ 0x104F)
-
-range-on-chart : (a b x : ℕ) → OnChart a → OnChart b → T (leb a x && leb x b) → OnChart x
-range-on-chart a b x l h t =
-    let least : a ≤ x = low a b x t in
-    let most : x ≤ b = high a b x t in
-    (omega arith, omega arith)
-
 value-on-chart : (a x : ℕ) → OnChart a → T (eqb x a) → OnChart x
 value-on-chart a x l t = rw (eqb→eq x a t) l
 
 mark-on-chart : (x : ℕ) → T (isRunMark x) → OnChart x
 unfolding isRunMark
 mark-on-chart x t =
-    either (OnChart x) (isMedial x) _ (range-on-chart 0x103B 0x103E x (omega arith, omega arith) (omega arith, omega arith))
+    either (OnChart x) (isMedial x) _ (inside 0x103B 0x103E x tt)
     (either (OnChart x) (isVowelMark x) _
-    (either (OnChart x) (within 0x102B 0x1032 x) (eqb x 0x1036) (range-on-chart 0x102B 0x1032 x (omega arith, omega arith) (omega arith, omega arith)) (value-on-chart 0x1036 x (omega arith, omega arith)))
-    (either (OnChart x) (isKiller x) (isTone x) (value-on-chart 0x103A x (omega arith, omega arith)) (range-on-chart 0x1037 0x1038 x (omega arith, omega arith) (omega arith, omega arith)))) t
+    (either (OnChart x) (within 0x102B 0x1032 x) (eqb x 0x1036) (inside 0x102B 0x1032 x tt) (value-on-chart 0x1036 x (omega arith, omega arith)))
+    (either (OnChart x) (isKiller x) (isTone x) (value-on-chart 0x103A x (omega arith, omega arith)) (inside 0x1037 0x1038 x tt))) t
 
 -- a mark of the chart has a place in the order
 ranked : ℕ → Bool

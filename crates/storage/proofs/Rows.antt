@@ -8,15 +8,17 @@ use native.Mathlib.Omega.{arith}
 use lib.Dec.{T, eqb, eqb→eq, leb, leb→le, not-T}
 use Rattle.letters.specs.Choice.{pick}
 use Rattle.letters.specs.Letters.{isConsonant}
-use Rattle.letters.specs.Marks.{neither, ya, ra, MedialGroup, group, medialText, Vowel, no-vowel, vowel-aa, vowel-i, vowel-ii, vowel-u, vowel-uu, vowel-e, vowel-ai, vowel-e-aa, vowel-e-aa-killer, vowel-am, vowel-i-u, vowel-u-am, vowelText, ToneMark, no-tone, dot, visarga, toneText}
+use Rattle.letters.specs.Marks.{MedialGroup, medialText, Vowel, no-vowel, vowelText, ToneMark, no-tone, dot, visarga, toneText}
 use Rattle.letters.specs.Weights.{isHead, isFinalLetter}
 use Rattle.letters.proofs.Picks.{or-no}
 use Rattle.letters.proofs.Tests.{or-left, or-second, is-true}
 use Rattle.formula.proofs.Lists.{both-left, both-right}
+use Rattle.formula.proofs.Pieces.{each-vowel, each-medial}
 use Rattle.formula.specs.Syllable.{Final, no-final, plain, stacked, kinzi, great-sa, syllable, carriesMarks, carriesFinal, isNoMedial, isNoVowel, isNoFinal, isNoTone, isFinal, finalText, headText}
 use Rattle.formula.specs.Row.{Row, isRowAfter, IsRow, joinAfter, join, Gives}
 use Rattle.rows.proofs.Sound.{Parts, apart, no-medial-text, no-vowel-text, no-final-text, no-tone-text}
 use Rattle.rows.proofs.Complete.{final-consonant, first}
+use Rattle.rows.proofs.Begin.{on-head}
 use Rattle.storage.specs.Stored.{isRunMark, rank, storedForm}
 use Rattle.storage.specs.Putting.{firstRank}
 use Rattle.storage.proofs.Ranks.{is-false, no-mark, no-mark-rank, behind-apart}
@@ -53,37 +55,11 @@ piece-above low (x ∷ piece) high rest t a =
 -- "in that order": medials, vowels and tones climb, each above the ones before
 medial-climbs : (m : MedialGroup) → T (climbs 0 (medialText m) 4)
 unfolding climbs rank isRunMark pick
-medial-climbs (group neither false false) = tt
-medial-climbs (group neither false true) = tt
-medial-climbs (group neither true false) = tt
-medial-climbs (group neither true true) = tt
-medial-climbs (group ya false false) = tt
-medial-climbs (group ya false true) = tt
-medial-climbs (group ya true false) = tt
-medial-climbs (group ya true true) = tt
-medial-climbs (group ra false false) = tt
-medial-climbs (group ra false true) = tt
-medial-climbs (group ra true false) = tt
-medial-climbs (group ra true true) = tt
+medial-climbs = each-medial (λ (m : MedialGroup). climbs 0 (medialText m) 4) tt
 
 vowel-climbs : (v : Vowel) → T (climbs 4 (vowelText v) 14)
 unfolding climbs rank isRunMark pick
-vowel-climbs no-vowel = tt
-vowel-climbs (vowel-aa true) = tt
-vowel-climbs (vowel-aa false) = tt
-vowel-climbs vowel-i = tt
-vowel-climbs vowel-ii = tt
-vowel-climbs vowel-u = tt
-vowel-climbs vowel-uu = tt
-vowel-climbs vowel-e = tt
-vowel-climbs vowel-ai = tt
-vowel-climbs (vowel-e-aa true) = tt
-vowel-climbs (vowel-e-aa false) = tt
-vowel-climbs (vowel-e-aa-killer true) = tt
-vowel-climbs (vowel-e-aa-killer false) = tt
-vowel-climbs vowel-am = tt
-vowel-climbs vowel-i-u = tt
-vowel-climbs vowel-u-am = tt
+vowel-climbs = each-vowel (λ (v : Vowel). climbs 4 (vowelText v) 14) tt
 
 tone-climbs : (t : ToneMark) → T (climbs 14 (toneText t) 16)
 unfolding climbs rank isRunMark pick
@@ -135,14 +111,6 @@ unfolding isRunMark
 great-sa-after x =
     let same = same-before x 0x103F refl refl in
     record { in-order = behind-apart x 0x103F refl; no-vowel = same .0; no-letter = same .1 }
-
--- what holds of the head and of 103F holds of the head as it is written
-on-head : (P : ℕ → Type 0) (f : Final) (h : ℕ) → P h → P 0x103F → P (headText f h)
-on-head P no-final h p q = p
-on-head P (plain c) h p q = p
-on-head P (stacked c) h p q = p
-on-head P kinzi h p q = p
-on-head P great-sa h p q = q
 
 -- what a syllable has after its head, before the next one
 marks-above : (m : MedialGroup) (v : Vowel) (f : Final) (t : ToneMark) (rest : List ℕ) → T (isFinal f) → Above 16 rest

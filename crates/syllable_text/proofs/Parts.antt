@@ -9,10 +9,10 @@ use lib.Dec.{T, eqb, leb, eqb→eq, leb→le}
 use borrow.Author.Tests.{eq-eqb, ne-eqb, le-leb}
 use Rattle.letters.specs.Choice.{pick}
 use Rattle.letters.proofs.Table.{below}
-use Rattle.letters.specs.Letters.{isConsonant, isIndependentVowel, isDigit, isStop, isSign, within}
 use Rattle.letters.specs.Marks.{neither, ya, ra, MedialGroup, group, Vowel, no-vowel, vowel-aa, vowel-i, vowel-ii, vowel-u, vowel-uu, vowel-e, vowel-ai, vowel-e-aa, vowel-e-aa-killer, vowel-am, vowel-i-u, vowel-u-am, ToneMark, no-tone, dot, visarga}
 use Rattle.letters.specs.Weights.{isHead, isFinalLetter, medialWeight, vowelWeight, vowelTall, toneWeight}
 use Rattle.letters.proofs.Tests.{either, implies, implied}
+use Rattle.formula.proofs.Classes.{head-bounds}
 use Rattle.formula.proofs.Lists.{both, both-left, both-right}
 use Rattle.formula.specs.Syllable.{Final, no-final, plain, stacked, kinzi, great-sa, carriesMarks, carriesFinal, isNoMedial, isNoVowel, isNoFinal, isNoTone, isClosed, isFinal}
 use Rattle.formula.specs.Record.{finalNumberOf, linkOf}
@@ -80,13 +80,7 @@ module _ (head medial vowel tall letter link tone : ℕ) where
 
 -- a head's value is at least 1000
 pub head-least : (h : ℕ) → T (isHead h) → 0x1000 ≤ h
-head-least h =
-    let from : (a b : ℕ) → 0x1000 ≤ a → T (within a b h) → 0x1000 ≤ h = λ a b l t. let g : a ≤ h = low a b h t in omega arith in
-    either (0x1000 ≤ h) (isConsonant h) _ (from 0x1000 0x1021 (omega arith))
-    (either (0x1000 ≤ h) (isIndependentVowel h) _
-    (either (0x1000 ≤ h) (within 0x1023 0x1027 h) _ (from 0x1023 0x1027 (omega arith)) (from 0x1029 0x102A (omega arith)))
-    (either (0x1000 ≤ h) (isDigit h) _ (from 0x1040 0x1049 (omega arith))
-    (either (0x1000 ≤ h) (isStop h) (isSign h) (from 0x104A 0x104B (omega arith)) (from 0x104C 0x104F (omega arith)))))
+head-least h t = head-bounds h t .0
 
 -- a medial group by its weight, which is one of the twelve
 pub record MedialRead (m : MedialGroup) : Type 0 where

@@ -9,17 +9,18 @@ use lib.Dec.{T, eqb, eqb→eq}
 use Rattle.letters.specs.Choice.{pick}
 use Rattle.letters.specs.Marks.{neither, MedialGroup, group, Vowel, no-vowel, ToneMark, no-tone, dot, visarga}
 use Rattle.letters.specs.Weights.{isFinalLetter}
+use Rattle.letters.proofs.Picks.{and-no-right}
+use Rattle.letters.proofs.Tests.{is-true, or-second, or-false}
 use Rattle.formula.proofs.Lists.{both-left, both-right}
 use Rattle.formula.specs.Syllable.{Final, no-final, plain, stacked, kinzi, great-sa, syllable, bare, carriesMarks, carriesFinal, isNoMedial, isNoVowel, isNoTone}
 use Rattle.formula.specs.Row.{Row}
 use Rattle.rows.specs.Machine.{vowelAnd, when, KeptOk, isOpen, close, killed, stepKiller, stepStacker}
 use Rattle.rows.proofs.Sound.{apart}
-use Rattle.rows.proofs.Complete.{is-true}
 use Rattle.transitions.specs.State.{State, done, plain-final, nga-final, waiting, head-stays, head-closes, head-nga, headState, medialState, vowelState, finalState, toneState, isOpenTop, stateOf}
 use Rattle.transitions.specs.Transition.{Transition, refuse, to, is, isOpenState, onKiller, onStacker, vowelByte, finalBy, Makes, adds-vowel, makes-kinzi, closes, Agrees}
 use Rattle.transitions.specs.Tables.{same}
 use Rattle.transitions.proofs.Tested.{each-open, same-equal}
-use Rattle.transitions.proofs.Known.{and-false, carried, opened, letter-marks, open-state}
+use Rattle.transitions.proofs.Known.{carried, opened, letter-marks, open-state}
 use Rattle.transitions.proofs.Marked.{changed, grown, gained, Follows, if-marked, on-open, refused, shut}
 
 -- 103A and 1039 on a head alone: it is the final g of the syllable before, where that is open and the letter may be one
@@ -81,7 +82,7 @@ no-letter h e = go (isFinalLetter h) refl
     go false i = refl
 
 no-closing : (c o n u l : Bool) → (c && o) ≡ false → (c ≡ false → l ≡ false) → ((n && (u && o)) && l) ≡ false
-no-closing false o n u l e f = and-false (n && (u && o)) l (f refl)
+no-closing false o n u l e f = and-no-right (n && (u && o)) l (f refl)
 no-closing true o true true l e f = rw e refl
 no-closing true o true false l e f = refl
 no-closing true o false u l e f = refl
@@ -101,9 +102,6 @@ not-bare : (n u l : Bool) → (n && u) ≡ false → ((n && (u && true)) && l) �
 not-bare true true l e = absurd (subst T e tt)
 not-bare true false l e = refl
 not-bare false u l e = refl
-
-at-marks : (b c : Bool) → b ≡ false → T (b || c) → T c
-at-marks b c e t = rw e at t
 
 killed-marked : (x h : ℕ) (m : MedialGroup) (v : Vowel) (a : Row) (o : Option Vowel) → T (carriesMarks h) → (isNoMedial m && isNoVowel v) ≡ false
     → T (grown vowelByte v o)
@@ -139,7 +137,7 @@ module _ (x : ℕ) (y : x ≡ 0x103A) where
       (on-open x 3 onKiller _ h (group neither false false) no-vowel a (λ (b : Bool). when (isFinalLetter h) (close (plain h) a)) c refl
       (close-followed x 3 onKiller h (plain h) (isFinalLetter h) killer-stays (killer-moves (isFinalLetter h) (eqb h 0x1004)) (λ s. refl)
       (λ l. l) (killer-named h) a))
-      (λ e. let r = at-marks (isNoMedial m && isNoVowel v) _ e (killer-right m v (isOpenTop a) h) in
+      (λ e. let r = or-second (isNoMedial m && isNoVowel v) _ e (killer-right m v (isOpenTop a) h) in
       on-open x 3 onKiller _ h m v a (λ (b : Bool). killed (vowelAnd 0x103A v) (syllable h m v no-final no-tone) a) c
       (same-equal _ _ (both-right (grown vowelByte v (vowelAnd 0x103A v)) _ r))
       (killed-marked x h m v a (vowelAnd 0x103A v) c e (both-left (grown vowelByte v (vowelAnd 0x103A v)) _ r)))
@@ -176,7 +174,7 @@ stacker-open x y h m v a c =
     (close-followed x 2 onStacker h (stacked h) (isFinalLetter h && not (eqb h 0x1004)) stacker-stays
     (stacker-moves (isFinalLetter h) (eqb h 0x1004)) (λ s. refl) (both-left (isFinalLetter h) (not (eqb h 0x1004))) (rw y refl) a))
     (λ e. on-open x 2 onStacker refuse h m v a (λ (b : Bool). stepStacker (syllable h m v no-final no-tone ∷ a)) c
-    (same-equal _ _ (at-marks (isNoMedial m && isNoVowel v) _ e (stacker-right m v (isOpenTop a) h)))
+    (same-equal _ _ (or-second (isNoMedial m && isNoVowel v) _ e (stacker-right m v (isOpenTop a) h)))
     (rw (not-bare (isNoMedial m) (isNoVowel v) (isFinalLetter h && not (eqb h 0x1004)) e) refl))
 
 -- and after a tone, a stacked final, kinzi or 103F
@@ -220,10 +218,6 @@ kinzi-followed x c h m v d t a i e = go (eqb d 0x1004) refl c e t
     go true q true e visarga = refl
     go false q true e visarga = refl
     go p q false e t = absurd (subst T (sym e) i)
-
-or-false : (b : Bool) → T (b || false) → T b
-or-false true t = tt
-or-false false t = t
 
 pub stacker-followed : (x : ℕ) → x ≡ 0x1039 → (kept : Row) → KeptOk kept → Follows x 2 onStacker stepStacker kept
 unfolding pick

@@ -1,7 +1,7 @@
 -- The tables are the transitions: values of one class do the same, which is computed at each value of the chart and each state.
 -- Assumes nothing.
 use mathlib.Core.Path.{_≡_, refl, ap, sym, subst, _∙_}
-use mathlib.Core.Bool.{Bool, true, false, not, _&&_, _||_}
+use mathlib.Core.Bool.{Bool, not, _&&_, _||_}
 use mathlib.Core.List.{List, [], _∷_}
 use mathlib.Core.Option.{Option, none, some}
 use Prim.Native.Nat.{ℕ, zero, suc, _+_, _*_, _/_, _%_, _^_, _≤_, _<_}
@@ -10,6 +10,7 @@ use native.Mathlib.Nat.{le-of-suc-le-suc, not-suc-le-zero}
 use native.Mathlib.Omega.{arith}
 use lib.Dec.{T, eqb, leb, eqb→eq, leb→le}
 use lib.ListN.{length, getD}
+use borrow.Author.Tests.{ne-eqb}
 use Rattle.letters.specs.Choice.{pick}
 use Rattle.letters.specs.Letters.{kindOf, isAdmitted}
 use Rattle.letters.specs.declared.kind.Kind.{Kind}
@@ -17,6 +18,7 @@ use Rattle.letters.specs.declared.kind.Kind.the-variants.{Foreign}
 use Rattle.letters.proofs.Arms.{inArms, InNone, in-none}
 use Rattle.letters.proofs.Counted.{on-chart, unadmitted-foreign, below-foreign, above-foreign}
 use Rattle.letters.proofs.Table.{upTo, below}
+use Rattle.letters.proofs.Tests.{or-second, or-not}
 use Rattle.formula.proofs.Lists.{both-left, both-right}
 use Rattle.formula.specs.Syllable.{carriesMarks, carriesFinal}
 use Rattle.formula.specs.Row.{Row}
@@ -45,17 +47,13 @@ unfolding entryOf
 foreign-entry q x e = ap (λ (k : Kind). entry (transition k x (stateAt q))) e
 
 -- a value that no arm has is foreign, where the arms have every admitted value
-unadmitted : (a b : Bool) → T (a || not b) → a ≡ false → b ≡ false
-unadmitted a true t e = absurd (rw e at t)
-unadmitted a false t e = refl
-
 pub none-foreign : (arms : List (List ℕ)) → T (upTo (λ (i : ℕ). inArms arms (0x1000 + i) || not (isAdmitted (0x1000 + i))) 80) → (x : ℕ)
     → InNone arms x → classOf x ≡ 3
 none-foreign arms t x n =
     chart-or-foreign (λ (y : ℕ). InNone arms y → classOf y ≡ 3)
     (λ y l h m. foreign-class y
     (unadmitted-foreign y
-    (unadmitted (inArms arms y) (isAdmitted y) (on-chart (λ (z : ℕ). inArms arms z || not (isAdmitted z)) t y l h) (in-none arms y m))))
+    (or-not (inArms arms y) (isAdmitted y) (on-chart (λ (z : ℕ). inArms arms z || not (isAdmitted z)) t y l h) (in-none arms y m))))
     (λ y e m. foreign-class y e) x n
 
 -- a class that no arm has is none of the 23
@@ -138,19 +136,12 @@ next-entry q x h =
     (λ y l u. eqb→eq (entryIn (classOf y) q) (entryOf q y) (both-left (eqb (entryIn (classOf y) q) (entryOf q y)) _ (tested-at q y h l u)))
     (λ y e. ap (λ (k : ℕ). entryIn k q) (foreign-class y e) ∙ eqb→eq (entryIn 3 q) 96 (refusing q h) ∙ sym (foreign-entry q y e)) x
 
-or-not : (a b : ℕ) → (a ≡ b → ⊥) → (c : Bool) → T (eqb a b || c) → T c
-or-not a b n c t = go (eqb a b) (λ (i : T (eqb a b)). n (eqb→eq a b i)) t
-  where
-    go : (p : Bool) → (T p → ⊥) → T (p || c) → T c
-    go true f t = absurd (f tt)
-    go false f t = t
-
 -- and so is what it adds
 pub next-gain : (q x : ℕ) → q < 15 → (entryOf q x ≡ 96 → ⊥) → gainBy q (rulesOf x) ≡ gainOf q x
 next-gain q x h n =
     chart-or-foreign (λ (y : ℕ). (entryOf q y ≡ 96 → ⊥) → gainIn (classOf y) q ≡ gainOf q y)
     (λ y l u m. eqb→eq (gainIn (classOf y) q) (gainOf q y)
-    (or-not (entryOf q y) 96 m _ (both-right (eqb (entryIn (classOf y) q) (entryOf q y)) _ (tested-at q y h l u))))
+    (or-second (eqb (entryOf q y) 96) _ (ne-eqb (entryOf q y) 96 m) (both-right (eqb (entryIn (classOf y) q) (entryOf q y)) _ (tested-at q y h l u))))
     (λ y e m. absurd (m (foreign-entry q y e))) x n
 
 pub makes-length : {x byte d a : ℕ} {kept b : Row} → Makes x byte d a kept b → length b + 1 ≡ length kept + d

@@ -13,6 +13,7 @@ use Rattle.letters.specs.Marks.{MedialGroup, Vowel, ToneMark, no-tone, dot, vis
 use Rattle.letters.specs.Weights.{isHead, toneWeight}
 use Rattle.letters.specs.declared.kind.Kind.{Kind}
 use Rattle.letters.specs.declared.kind.Kind.the-variants.{Consonant, IndependentVowel, Medial, VowelMark, Tone, Killer, Stacker, GreatSa, Digit, Stop, Sign, Foreign}
+use Rattle.letters.proofs.Picks.{and-no-right}
 use Rattle.formula.proofs.Classes.{inClass, kind-class, head-of, within-bounds}
 use Rattle.formula.proofs.Lists.{both-left, both-right}
 use Rattle.formula.specs.Syllable.{Final, no-final, plain, stacked, kinzi, great-sa, syllable, bare, carriesMarks, carriesFinal, isNoTone, isClosed}
@@ -21,7 +22,7 @@ use Rattle.rows.specs.Machine.{toneOf, when, onto, endOf, KeptOk, isNotGreatSa,
 use Rattle.transitions.specs.State.{State, done, head-stays, headState, begunState, toneState, isOpenTop, stateOf}
 use Rattle.transitions.specs.Transition.{refuse, to, isOpenState, takesHead, onHead, onTone, onGreatSa, transition, byteOf, begins, begins-great-sa, adds-tone, Agrees}
 use Rattle.transitions.proofs.Tested.{in-class}
-use Rattle.transitions.proofs.Known.{admits-is, and-false, known, open-is}
+use Rattle.transitions.proofs.Known.{admits-is, known, open-is}
 use Rattle.transitions.proofs.Marked.{Follows, medial-followed, vowel-followed}
 use Rattle.transitions.proofs.Closing.{killer-followed, stacker-followed}
 
@@ -38,7 +39,7 @@ head-followed x byte kept h k n =
 -- 103F
 great-sa-shut : (y h : ℕ) (m : MedialGroup) (v : Vowel) (t : ToneMark) (a : Row)
     → headState (isOpenTop (syllable h m v great-sa t ∷ a)) y ≡ head-stays
-great-sa-shut y h m v t a = ap (λ (b : Bool). headState b y) (and-false (carriesFinal h) false refl)
+great-sa-shut y h m v t a = ap (λ (b : Bool). headState b y) (and-no-right (carriesFinal h) false refl)
 
 module _ (x byte : ℕ) (y : x ≡ 0x103F) where
   great-sa-on : (p q : Bool) (h : ℕ) (m : MedialGroup) (v : Vowel) (t : ToneMark) (a : Row) → p ≡ q
@@ -52,7 +53,7 @@ module _ (x byte : ℕ) (y : x ≡ 0x103F) where
   great-sa-no : (p c : Bool) (kept : Row) (o : Option Row) → p ≡ (c && false)
       → Agrees x byte (pick p (to 2 0 head-stays) refuse) kept (when (c && false) o)
   unfolding pick
-  great-sa-no p c kept o e = let z = and-false c false refl in rw (e ∙ z, z) refl
+  great-sa-no p c kept o e = let z = and-no-right c false refl in rw (e ∙ z, z) refl
 
   great-sa-followed : (kept : Row) → Follows x byte onGreatSa stepGreatSa kept
   unfolding pick

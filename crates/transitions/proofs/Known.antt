@@ -8,13 +8,14 @@ use lib.Dec.{T, eqb}
 use Rattle.letters.specs.Choice.{pick}
 use Rattle.letters.specs.Marks.{neither, MedialGroup, group, Vowel, no-vowel, vowels, ToneMark, no-tone, dot, visarga}
 use Rattle.letters.specs.Weights.{isFinalLetter}
+use Rattle.letters.proofs.Tests.{is-true}
 use Rattle.formula.proofs.Lists.{both-left, both-right, every}
 use Rattle.formula.proofs.Pieces.{each-vowel, each-medial}
 use Rattle.formula.specs.Syllable.{Final, no-final, plain, stacked, kinzi, great-sa, syllable, carriesMarks, carriesFinal, isNoMedial, isNoVowel, isNoFinal, isNoTone, isClosed, takesTone, isSyllable}
 use Rattle.formula.specs.Row.{Row}
 use Rattle.rows.specs.Machine.{endOf, KeptOk, isNotGreatSa, isOpen, admits}
 use Rattle.rows.proofs.Sound.{apart}
-use Rattle.rows.proofs.Complete.{is-true, final-consonant}
+use Rattle.rows.proofs.Complete.{final-consonant}
 use Rattle.transitions.specs.State.{State, done, plain-final, nga-final, waiting, head-stays, head-closes, head-nga, after-ya-ra, after-wa, after-ha, with-e, with-e-aa, with-i, with-u, with-vowel, headState, begunState, medialState, vowelState, finalState, toneState, isOpenTop, stateOf}
 use Rattle.transitions.specs.Transition.{is, isOpenState, takesHead, takesToneState}
 use Rattle.transitions.proofs.Tested.{each-open}
@@ -126,10 +127,6 @@ pub carried : (c : Bool) (s : State) → T c → s ≡ pick c s done
 unfolding pick
 carried true s i = refl
 carried false s i = absurd i
-
-pub and-false : (c d : Bool) → d ≡ false → (c && d) ≡ false
-and-false true d e = e
-and-false false d e = refl
 
 -- what carries marks carries a final too, and a final letter carries both
 pub marks-final : (h : ℕ) → T (carriesMarks h) → T (carriesFinal h)

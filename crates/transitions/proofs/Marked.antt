@@ -11,18 +11,18 @@ use Rattle.letters.specs.Choice.{pick}
 use Rattle.letters.specs.Letters.{isMedial, isVowelMark}
 use Rattle.letters.specs.Marks.{MedialGroup, Vowel, ToneMark, no-tone}
 use Rattle.letters.specs.Weights.{medialSet}
+use Rattle.letters.proofs.Picks.{and-no-right}
+use Rattle.letters.proofs.Tests.{is-true}
 use Rattle.formula.proofs.Lists.{both, both-left, both-right}
 use Rattle.formula.specs.Syllable.{Final, no-final, syllable, carriesMarks, carriesFinal, isNoVowel, isSyllable}
 use Rattle.formula.specs.Row.{Row}
 use Rattle.rows.specs.Machine.{medialAnd, vowelAnd, when, onto, KeptOk, isOpen, stepMedial, stepVowel}
-use Rattle.rows.proofs.Complete.{is-true}
-use Rattle.formula.proofs.Classes.{within-bounds}
-use Rattle.formula.proofs.Classes.{mark-bounds}
+use Rattle.formula.proofs.Classes.{within-bounds, mark-bounds}
 use Rattle.transitions.specs.State.{State, done, plain-final, nga-final, waiting, with-vowel, headState, medialState, vowelState, isOpenTop, stateOf}
 use Rattle.transitions.specs.Transition.{Transition, refuse, to, isOpenState, onMedial, onVowel, onKiller, vowelByte, Makes, adds-medial, adds-vowel, Agrees}
 use Rattle.transitions.specs.Tables.{same}
 use Rattle.transitions.proofs.Tested.{each-open, everywhere, in-class, same-equal}
-use Rattle.transitions.proofs.Known.{and-false, known, open-state, unmarked-state}
+use Rattle.transitions.proofs.Known.{known, open-state, unmarked-state}
 
 -- a mark that changes a piece of the last syllable, whose byte grows from w v to w n
 abbrev pub changed : {A : Type 0} → (A → ℕ) → A → (A → State) → Option A → Transition
@@ -135,7 +135,7 @@ medial-open x h m v no-final no-tone a i c o =
     (both-left (grown medialSet m (medialAnd x m)) _ r))
 
 not-marked : (c p o : Bool) → (c && o) ≡ false → (c && (p && o)) ≡ false
-not-marked true p o e = and-false p o e
+not-marked true p o e = and-no-right p o e
 not-marked false p o e = refl
 
 pub medial-followed : (x : ℕ) (kept : Row) → KeptOk kept → T (isMedial x) → Follows x 1 (onMedial x) (stepMedial x) kept

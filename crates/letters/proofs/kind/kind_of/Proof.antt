@@ -1,18 +1,18 @@
 -- `letters::kind::kind_of` meets its contract: all values of an arm have its kind, and a value of the chart that no arm has is not admitted.
 -- Assumes nothing.
 use mathlib.Core.Path.{_≡_, refl, sym}
-use mathlib.Core.Bool.{Bool, true, false, not, _||_}
+use mathlib.Core.Bool.{Bool, not, _||_}
 use mathlib.Core.List.{List, [], _∷_, reverse}
 use Prim.Native.Nat.{ℕ, _<_}
 use native.Mathlib.Decide.{decLt}
 use native.Mathlib.Omega.{arith}
-use lib.Dec.{T}
 use lib.ListN.{getD}
 use Rattle.letters.specs.Choice.{pick}
 use Rattle.letters.specs.Letters.{kindOf, isAdmitted}
 use Rattle.letters.specs.declared.kind.Kind.the-variants.{Foreign}
 use Rattle.letters.proofs.Arms.{same-at, inArms, InNone, in-none}
 use Rattle.letters.proofs.Counted.{on-chart, unadmitted-foreign, below-foreign, above-foreign}
+use Rattle.letters.proofs.Tests.{or-not}
 use Rattle.letters.proofs.kind.kind_of.Statement.{statement}
 use Rattle.letters.proofs.kind.kind_of.Tie as tie
 
@@ -51,10 +51,6 @@ arm n = getD arms n []
 covered : ℕ → Bool
 covered x = inArms (reverse arms) x || not (isAdmitted x)
 
-unadmitted : (a b : Bool) → T (a || not b) → a ≡ false → b ≡ false
-unadmitted a true t e = absurd (rw e at t)
-unadmitted a false t e = refl
-
 none-foreign : (x : ℕ) → InNone (reverse arms) x → kindOf x ≡ Foreign
 unfolding arms covered
 none-foreign x n = go (decLt x 0x1000) (decLt 0x104F x)
@@ -64,7 +60,7 @@ none-foreign x n = go (decLt x 0x1000) (decLt 0x104F x)
     go (no l) (yes h) = above-foreign x h
     go (no l) (no h) =
         unadmitted-foreign x
-        (unadmitted (inArms (reverse arms) x) (isAdmitted x) (on-chart covered tt x (omega arith) (omega arith)) (in-none (reverse arms) x n))
+        (or-not (inArms (reverse arms) x) (isAdmitted x) (on-chart covered tt x (omega arith) (omega arith)) (in-none (reverse arms) x n))
 
 returns : tie.Need-returns
 unfolding pick arms arm
