@@ -5,17 +5,17 @@ use mathlib.Core.Bool.{Bool, true, false, _||_}
 use mathlib.Core.List.{List, [], _∷_}
 use Prim.Native.Nat.{ℕ, suc, _+_, _-_, _≤_}
 use native.Mathlib.Omega.{arith}
-use lib.Dec.{T}
-use lib.ListN.{set}
+use lib.Dec.{T, eqb, eqb→eq}
+use lib.ListN.{getD, set}
 use lib.Seq.{sets}
 use Rattle.letters.specs.Choice.{pick}
 use Rattle.letters.specs.Letters.{within, isConsonant}
-use Rattle.letters.specs.Marks.{Vowel, no-vowel}
-use Rattle.letters.specs.Weights.{isHead, headWeight, headWeighed, independentVowelWeight, independentVowelWeighed, medialSetWeight, vowelWeight, weightOr}
+use Rattle.letters.specs.Marks.{MedialGroup, Vowel, no-vowel}
+use Rattle.letters.specs.Weights.{isHead, headWeight, headWeighed, independentVowelWeight, independentVowelWeighed, medialSet, medialWeight, medialTable, vowelWeight, weightOr}
 use Rattle.letters.specs.declared.weight.Weighed.{Weighed}
 use Rattle.letters.specs.declared.weight.Weighed.the-variants.{Weight, Nothing}
-use Rattle.letters.proofs.Written.{medial-written}
 use Rattle.formula.proofs.Classes.{head-bounds}
+use Rattle.formula.proofs.Pieces.{each-medial}
 use Rattle.formula.specs.Syllable.{Final, no-final, plain, stacked, kinzi, great-sa, Syllable, syllable, carriesMarks, isNoMedial, isNoVowel, isSyllable}
 use Rattle.formula.specs.Record.{finalNumberOf}
 use Rattle.formula.specs.Packed.{packed}
@@ -63,6 +63,11 @@ vowel-weighs h v marks = go (within 0x1023 0x1027 h) (within 0x1029 0x102A h) (l
     go false true l k = let m = k tt in omega (arith, none (omega arith))
     go false false l k = omega arith
 
+-- the table has the weight of each group
+medial-looked : (m : MedialGroup) → getD medialTable (medialSet m) 0 ≡ medialWeight m
+unfolding pick
+medial-looked m = eqb→eq _ _ (each-medial (λ (n : MedialGroup). eqb (getD medialTable (medialSet n) 0) (medialWeight n)) tt m)
+
 -- the weights of a packed syllable are those of the syllable
 pub weights-packed : (s : Syllable) → T (isSyllable s) → weightsBy (packed s) ≡ weightsOf s
 unfolding weightsBy weightsOf
@@ -74,7 +79,7 @@ weights-packed (syllable h m v f t) ok =
       head-back h (a .head),
       head-weighs h (a .head),
       p .medials,
-      medial-written m,
+      medial-looked m,
       p .letter,
       final-weighs f,
       p .vowel,
@@ -83,12 +88,12 @@ weights-packed (syllable h m v f t) ok =
     )
 
 -- the five weights, each looked up by its part
-pub looked-up : (packed h m v : ℕ) (w g i : Weighed) (head medial letter vowel tone : ℕ) → h ≡ headPart packed → w ≡ headWeighed (0x1000 + h)
-    → head ≡ weightOr w 0 → m ≡ medialPart packed → g ≡ medialSetWeight m → medial ≡ weightOr g 0 → letter ≡ finalPart packed
+pub looked-up : (packed h m v : ℕ) (w i : Weighed) (head medial letter vowel tone : ℕ) → h ≡ headPart packed → w ≡ headWeighed (0x1000 + h)
+    → head ≡ weightOr w 0 → m ≡ medialPart packed → medial ≡ getD medialTable m 0 → letter ≡ finalPart packed
     → i ≡ independentVowelWeighed (0x1000 + h) → v ≡ vowelPart packed → vowel ≡ weightOr i v → tone ≡ tonePart packed
     → head ∷ medial ∷ letter ∷ vowel ∷ tone ∷ [] ≡ weightsBy packed
 unfolding weightsBy
-looked-up packed h m v w g i head medial letter vowel tone a b c d e f j k l n o = cc
+looked-up packed h m v w i head medial letter vowel tone a b c d e f j k l n = cc
 
 -- five stores one after the other
 pub stores-five : (l : List ℕ) (at head medial final vowel tone packed : ℕ) → head ∷ medial ∷ final ∷ vowel ∷ tone ∷ [] ≡ weightsBy packed

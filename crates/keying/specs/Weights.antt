@@ -2,14 +2,15 @@
 -- Inner contracts cite it; no public promise does. Assumes nothing.
 use mathlib.Core.List.{List, [], _∷_}
 use Prim.Native.Nat.{ℕ, _+_}
-use Rattle.letters.specs.Weights.{headWeighed, independentVowelWeighed, medialSetWeight, weightOr}
+use lib.ListN.{getD}
+use Rattle.letters.specs.Weights.{headWeighed, independentVowelWeighed, medialTable, weightOr}
 use Rattle.syllables.specs.Parts.{headPart, medialPart, finalPart, vowelPart, tonePart}
 
 -- head, medial, final, vowel, tone; a head that is an I has a vowel weight in the place of the vowel that it can't carry
 unfoldable pub weightsBy : ℕ → List ℕ
 weightsBy packed =
     weightOr (headWeighed (0x1000 + headPart packed)) 0
-    ∷ weightOr (medialSetWeight (medialPart packed)) 0
+    ∷ getD medialTable (medialPart packed) 0
     ∷ finalPart packed
     ∷ weightOr (independentVowelWeighed (0x1000 + headPart packed)) (vowelPart packed)
     ∷ tonePart packed

@@ -144,3 +144,27 @@ toneWeighed x = pick (eqb x 0x1037) (Weight 1) (pick (eqb x 0x1038) (Weight 2) N
 abbrev pub weightOr : Weighed → ℕ → ℕ
 weightOr (Weight n) other = n
 weightOr Nothing other = other
+
+-- the entry of a set of medials in the table of the sixteen sets: its weight, or 255 for a set that is no group's
+abbrev pub medialEntry : ℕ → ℕ
+medialEntry set = weightOr (medialSetWeight set) 255
+
+abbrev pub medialTable : List ℕ
+medialTable =
+    medialEntry 0
+    ∷ medialEntry 1
+    ∷ medialEntry 2
+    ∷ medialEntry 3
+    ∷ medialEntry 4
+    ∷ medialEntry 5
+    ∷ medialEntry 6
+    ∷ medialEntry 7
+    ∷ medialEntry 8
+    ∷ medialEntry 9
+    ∷ medialEntry 10
+    ∷ medialEntry 11
+    ∷ medialEntry 12
+    ∷ medialEntry 13
+    ∷ medialEntry 14
+    ∷ medialEntry 15
+    ∷ []

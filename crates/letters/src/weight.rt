@@ -2,7 +2,7 @@
 ghost use mathlib.Core.Path.{_≡_};
 ghost use Rattle.letters.specs.Choice.{pick};
 ghost use Rattle.letters.specs.Letters.{within};
-ghost use Rattle.letters.specs.Weights.{headWeighed, independentVowelWeighed, medialSetWeight, finalNumbered, finalWeighed, vowelOfMark, vowelWith, toneWeighed, weightOr};
+ghost use Rattle.letters.specs.Weights.{headWeighed, independentVowelWeighed, medialSetWeight, finalNumbered, finalWeighed, vowelOfMark, vowelWith, toneWeighed, weightOr, medialTable};
 
 const FIRST_CONSONANT: u16 = 0x1000;
 
@@ -119,6 +119,13 @@ pub fn independent_vowel_weight(x: u16) -> Weighed
         return Weighed::Weight((x - FIRST_LATE_VOWEL) as u8 + 8);
     }
     Weighed::Nothing
+}
+
+// The table of the sets of medials, for callers that look many up: a constant array is stored wherever it is named.
+pub fn medial_weights() -> [u8; 16]
+    ensures { λ r. ⌜ r ≡ medialTable ⌝ }
+{
+    MEDIAL_WEIGHTS
 }
 
 // The weight of a set of medials, the empty one too; a set with Y and R is no group's.

@@ -1,6 +1,7 @@
 // The part of a word that a syllable is, by number.
 use crate::scan::scan_word;
 use formula::Word;
+use memory::casts::wide;
 use recogniser::walk::answer_at;
 use refusals::Counted;
 use refusals::Refusal;
@@ -8,12 +9,6 @@ ghost use mathlib.Core.Path.{_≡_};
 ghost use Prim.Native.Nat.{_<_, _≤_};
 ghost use Rattle.formula.specs.Limits.{limit};
 ghost use Rattle.reading.specs.Parts.{endBy, PartAnswers, partOutcomeOf, PartRight};
-
-fn wide(x: u8) -> usize
-    ensures { λ r. ⌜ r ≡ x ⌝ }
-{
-    x as usize
-}
 
 // Where the syllable `number` ends: where the next one begins, or at the word's end.
 fn end_of(starts: &[u8; Word::LIMIT], count: usize, number: usize, end: usize) -> usize

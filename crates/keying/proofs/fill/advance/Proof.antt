@@ -10,7 +10,7 @@ window-after-requires : tie.Need-window-after-requires
 window-after-requires c κs = search needs
 
 put-last-requires : tie.Need-put-last-requires
-put-last-requires c κs = c .before .before .before .pre .room
+put-last-requires c κs = let s = c .before .before .before in (s .pre .0 .room, s .pre .1)
 
 returns : tie.Need-returns
 returns c =

@@ -21,22 +21,25 @@ use Rattle.keying.proofs.fill.fill.Statement.{statement}
 use Rattle.keying.proofs.fill.fill.Tie as tie
 
 abbrev Inv-loop : tie.InvT-loop
-Inv-loop word bytes₀ window₀ state₀ at₀ bytes window state at = (at ≤ length word) × Filled word at state window bytes
+Inv-loop word bytes₀ medials window₀ state₀ at₀ bytes window state at = (at ≤ length word) × Filled word at state window bytes
 
 abbrev μ-loop : tie.MeasureT-loop
-μ-loop word bytes₀ window₀ state₀ at₀ bytes window state at = length word - at
+μ-loop word bytes₀ medials window₀ state₀ at₀ bytes window state at = length word - at
 
 returns : tie.Need-returns Inv-loop μ-loop
 returns c =
     let s = c .before .before in
     record { answers = too-long (omega (arith, c .if1 .taken)); key = s .pre; size = ap length (s .pre) }
 
+medial-weights-requires : tie.Need-medial-weights-requires Inv-loop μ-loop
+medial-weights-requires c κs = search needs
+
 unread-requires : tie.Need-unread-requires Inv-loop μ-loop
 unread-requires c κs = search needs
 
 loop-holds : tie.Need-loop-holds Inv-loop μ-loop
 loop-holds c =
-    let s = c .before .before .before in
+    let s = c .before .before .before .before in
     let word = s .args .word .now in (
       omega arith,
       subst (λ (w : Window). Filled word 0 0 w (s .args .bytes .now)) (sym (c .unread .ensures))
@@ -57,7 +60,7 @@ next-requires c κs = let l = c .before .before .before in let b = small (l .loo
 
 -- the entry is what the value does at the state
 entered : (c : tie.After-next Inv-loop μ-loop) → let l = c .before .before .before .before in
-    c .next .result ≡ entryOf (l .loop .state) (getD (l .before .before .before .before .args .word .now) (l .loop .at) 0)
+    c .next .result ≡ entryOf (l .loop .state) (getD (l .before .before .before .before .before .args .word .now) (l .loop .at) 0)
 entered c =
     let l = c .before .before .before .before in
     c .next .ensures ∙ ap (nextBy (l .loop .state)) (c .before .rules-of .ensures) ∙ next-entry (l .loop .state) _ (small (l .loop .inv .1))
@@ -67,8 +70,8 @@ answer-at-requires c κs =
     let n = c .before .before in
     let i = n .before .before .before in
     let l = i .before in
-    let word = l .before .before .before .before .args .word .now in
-    stopped-short (l .loop .inv .1) (l .before .before .if1 .left) (i .loop-test .taken)
+    let word = l .before .before .before .before .before .args .word .now in
+    stopped-short (l .loop .inv .1) (l .before .before .before .if1 .left) (i .loop-test .taken)
     (walk-refused word (l .loop .at) (l .loop .state) (l .loop .window .count) (l .loop .inv .1 .walked) (n .next .result) (entered n) (c .before .if2 .taken))
 
 returns-2 : tie.Need-returns-2 Inv-loop μ-loop
@@ -76,11 +79,11 @@ returns-2 c =
     let n = c .before .before .before in
     let i = n .before .before .before in
     let l = i .before in
-    let word = l .before .before .before .before .args .word .now in
+    let word = l .before .before .before .before .before .args .word .now in
     record {
       answers = c .answer-at .ensures;
       key =
-          key-short (l .loop .inv .1) (l .before .before .if1 .left) (i .loop-test .taken)
+          key-short (l .loop .inv .1) (l .before .before .before .if1 .left) (i .loop-test .taken)
           (walk-refused word (l .loop .at) (l .loop .state) (l .loop .window .count) (l .loop .inv .1 .walked) (n .next .result) (entered n) (c .before .before .if2 .taken))
           (outcomeOf (c .answer-at .result));
       size = refl;
@@ -91,7 +94,7 @@ gain-requires c κs = let l = c .before .before .before .before .before .before 
 
 -- the gain is what the value adds at the state
 gained : (c : tie.After-gain Inv-loop μ-loop) → let l = c .before .before .before .before .before .before .before in
-    c .gain .result ≡ gainOf (l .loop .state) (getD (l .before .before .before .before .args .word .now) (l .loop .at) 0)
+    c .gain .result ≡ gainOf (l .loop .state) (getD (l .before .before .before .before .before .args .word .now) (l .loop .at) 0)
 gained c =
     let e = c .before .before in
     let n = e .before in
@@ -101,11 +104,15 @@ gained c =
 
 advance-requires : tie.Need-advance-requires Inv-loop μ-loop
 advance-requires c κs =
-    let e = c .before .before in
+    let g = c .before in
+    let e = g .before .before in
     let n = e .before in
     let i = n .before .before .before in
-    let l = i .before in
-    fits (l .loop .inv .1) (n .next .result) (entered n) (e .if2 .left) (i .loop-test .taken) (l .before .before .if1 .left) (c .gain .result) (gained c)
+    let l = i .before in (
+      fits (l .loop .inv .1) (n .next .result) (entered n) (e .if2 .left) (i .loop-test .taken) (l .before .before .before .if1 .left) (g .gain .result)
+          (gained g),
+      l .before .before .medial-weights .ensures,
+    )
 
 cast-state : tie.Need-cast-state Inv-loop μ-loop
 cast-state c = omega arith
@@ -118,46 +125,45 @@ loop-less c = omega arith
 
 loop-again : tie.Need-loop-again Inv-loop μ-loop
 loop-again c =
-    let g = c .before in
+    let g = c .before .before in
     let e = g .before .before in
     let n = e .before in
     let i = n .before .before .before in
     let l = i .before in (
       omega arith,
-      next (l .loop .inv .1) (n .next .result) (entered n) (e .if2 .left) (i .loop-test .taken) (l .before .before .if1 .left) (g .gain .result)
+      next (l .loop .inv .1) (n .next .result) (entered n) (e .if2 .left) (i .loop-test .taken) (l .before .before .before .if1 .left) (g .gain .result)
           (gained g) (c .advance .result) (c .advance .last .0) (c .advance .ensures),
     )
 
 answer-at-requires-2 : tie.Need-answer-at-requires-2 Inv-loop μ-loop
 answer-at-requires-2 c κs =
     let l = c .before in
-    stopped-end (l .loop .inv .1) (l .before .before .if1 .left) (l .loop .inv .0) (c .loop-test .left)
+    stopped-end (l .loop .inv .1) (l .before .before .before .if1 .left) (l .loop .inv .0) (c .loop-test .left)
 
 enum-told : tie.Need-enum-told Inv-loop μ-loop
 enum-told c = search needs
 
 put-last-requires : tie.Need-put-last-requires Inv-loop μ-loop
 put-last-requires c κs =
-    let l = c .before .before .before .before .before in
+    let l = c .before .before .before .before .before .before in
     let b = within (l .loop .inv .1) in
-    let i = l .loop .inv .0 in
-    omega (arith, l .before .before .if1 .left)
+    let i = l .loop .inv .0 in (omega (arith, l .before .before .before .if1 .left), l .before .before .medial-weights .ensures)
 
 returns-3 : tie.Need-returns-3 Inv-loop μ-loop
 returns-3 c =
-    let t = c .before .before in
+    let t = c .before .before .before in
     let a = t .before .before in
     let e = a .before in
     let l = e .before in
-    let word = l .before .before .before .before .args .word .now in
+    let word = l .before .before .before .before .before .args .word .now in
     record {
       answers = a .answer-at2 .ensures;
       key =
           subst (λ (k : Counted). KeyIfRead word (outcomeOf k) (c .put-last .last .0)) (sym (t .enum-told .given .1))
           (λ row g. c .put-last .ensures
-          ∙ key-whole (l .loop .inv .1) (l .before .before .if1 .left) (l .loop .inv .0) (e .loop-test .left) row g);
+          ∙ key-whole (l .loop .inv .1) (l .before .before .before .if1 .left) (l .loop .inv .0) (e .loop-test .left) row g);
       size =
-          ap length (c .put-last .ensures) ∙ size-whole (l .loop .inv .1) (l .before .before .if1 .left) (l .loop .inv .0) (e .loop-test .left);
+          ap length (c .put-last .ensures) ∙ size-whole (l .loop .inv .1) (l .before .before .before .if1 .left) (l .loop .inv .0) (e .loop-test .left);
     }
 
 enum-told-2 : tie.Need-enum-told-2 Inv-loop μ-loop
@@ -167,7 +173,8 @@ returns-4 : tie.Need-returns-4 Inv-loop μ-loop
 returns-4 c =
     let t = c .before in
     let a = t .before .before in
-    let word = a .before .before .before .before .before .before .args .word .now in
+    let l = a .before .before in
+    let word = l .before .before .before .before .before .args .word .now in
     record {
       answers = a .answer-at2 .ensures;
       key = subst (λ (k : Counted). KeyIfRead word (outcomeOf k) (zeros keyLimit)) (sym (t .enum-told2 .given .1)) refl;
@@ -181,6 +188,7 @@ fill-spec =
     Inv-loop
     μ-loop
     returns
+    medial-weights-requires
     unread-requires
     loop-holds
     mul-x

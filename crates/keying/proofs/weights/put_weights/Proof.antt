@@ -1,5 +1,9 @@
 -- `keying::weights::put_weights` meets its contract: its stores are those of the five weights one after the other.
 -- Assumes nothing.
+use mathlib.Core.Path.{ap, _∙_}
+use mathlib.Core.List.{List}
+use Prim.Native.Nat.{ℕ}
+use lib.ListN.{getD}
 use borrow.Author.Needs.{needs}
 use Rattle.keying.proofs.Weighted.{looked-up, stores-five}
 use Rattle.keying.proofs.weights.put_weights.Statement.{statement}
@@ -23,11 +27,11 @@ weight-or-requires c κs = search needs
 medials-requires : tie.Need-medials-requires
 medials-requires c κs = search needs
 
-medial-weight-requires : tie.Need-medial-weight-requires
-medial-weight-requires c κs = search needs
+cast-medial : tie.Need-cast-medial
+cast-medial c = search needs
 
-weight-or-requires-2 : tie.Need-weight-or-requires-2
-weight-or-requires-2 c κs = search needs
+element-copy-out-medial : tie.Need-element-copy-out-medial
+element-copy-out-medial c = search needs
 
 letter-requires : tie.Need-letter-requires
 letter-requires c κs = search needs
@@ -38,8 +42,8 @@ independent-vowel-weight-requires c κs = search needs
 vowel-requires : tie.Need-vowel-requires
 vowel-requires c κs = search needs
 
-weight-or-requires-3 : tie.Need-weight-or-requires-3
-weight-or-requires-3 c κs = search needs
+weight-or-requires-2 : tie.Need-weight-or-requires-2
+weight-or-requires-2 c κs = search needs
 
 tone-requires : tie.Need-tone-requires
 tone-requires c κs = search needs
@@ -76,7 +80,8 @@ returns c =
     let vowel = c .before in
     let letter = vowel .before .before .before in
     let medial = letter .before in
-    let head = medial .before .before .before in
+    let medials = medial .before in
+    let head = medials .before in
     let s = head .before .before .before in
     stores-five (s .args .bytes .now) (s .args .at) _ _ _ _ _ (s .args .packed)
     (looked-up
@@ -86,22 +91,20 @@ returns c =
     _
     _
     _
-    _
     (head .weight-or .result)
-    (medial .weight-or2 .result)
+    _
     (letter .letter .result)
-    (vowel .weight-or3 .result)
+    (vowel .weight-or2 .result)
     (c .tone .result)
     (head .before .before .head .ensures)
     (head .before .head-weight .ensures)
     (head .weight-or .ensures)
-    (medial .before .before .medials .ensures)
-    (medial .before .medial-weight .ensures)
-    (medial .weight-or2 .ensures)
+    (medials .medials .ensures)
+    (ap (λ (l : List ℕ). getD l (medials .medials .result) 0) (s .pre .1))
     (letter .letter .ensures)
     (vowel .before .before .independent-vowel-weight .ensures)
     (vowel .before .vowel .ensures)
-    (vowel .weight-or3 .ensures)
+    (vowel .weight-or2 .ensures)
     (c .tone .ensures))
 
 pub put-weights-spec : {M : Type 1} → statement M
@@ -114,12 +117,12 @@ put-weights-spec =
     head-weight-requires
     weight-or-requires
     medials-requires
-    medial-weight-requires
-    weight-or-requires-2
+    cast-medial
+    element-copy-out-medial
     letter-requires
     independent-vowel-weight-requires
     vowel-requires
-    weight-or-requires-3
+    weight-or-requires-2
     tone-requires
     element-write-bytes
     add-bytes

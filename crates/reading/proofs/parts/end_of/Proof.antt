@@ -18,7 +18,7 @@ wide-requires c κs = search needs
 
 returns : tie.Need-returns
 unfolding endBy pick
-returns c = rw (lt-ltb _ _ (c .before .before .if1 .taken)) (c .wide .ensures)
+returns c = rw (lt-ltb _ _ (c .before .before .if1 .taken)) (c .wide .ensures .0)
 
 returns-2 : tie.Need-returns-2
 unfolding endBy pick

@@ -65,7 +65,7 @@ sub-t11 c =
     let s = a .before .scan-word in
     from-to (a .before .before .before .before .args .word .now) (s .result .at) (s .result .state) (s .result .count) (s .ensures .stopped) (s .result .starts) (s .ensures .starts-of)
     (e .before .before .answer2 .given .0 .0) (reads (e .before)) (a .before .before .before .before .args .number) (e .if2 .left)
-    (w .wide .result) (c .end-of .result) (w .wide .ensures) (c .end-of .ensures)
+    (w .wide .result) (c .end-of .result) (w .wide .ensures .0) (c .end-of .ensures)
 
 returns-4 : tie.Need-returns-4
 returns-4 c =
@@ -75,7 +75,7 @@ returns-4 c =
     let s = a .before .scan-word in
     part-placed (a .before .before .before .before .args .word .now) (s .result .at) (s .result .state) (s .result .count) (s .ensures .stopped) (s .result .starts) (s .ensures .starts-of)
     (e .before .before .answer2 .given .0 .0) (reads (e .before)) (a .before .before .before .before .args .number) (e .if2 .left)
-    (w .wide .result) (c .end-of .result) (w .wide .ensures) (c .end-of .ensures)
+    (w .wide .result) (c .end-of .result) (w .wide .ensures .0) (c .end-of .ensures)
 
 pub part-place-spec : {M : Type 1} → statement M
 part-place-spec =
