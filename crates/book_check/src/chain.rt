@@ -8,7 +8,7 @@ ghost use mathlib.Core.List.{List};
 ghost use Prim.Native.Nat.{_+_, _≤_, _<_};
 ghost use lib.ListN.{length, take, drop};
 ghost use Rattle.entries.specs.Limits.{bookLimit};
-ghost use Rattle.formula.proofs.Lists.{sameList};
+ghost use Rattle.formula.specs.Lists.{sameList};
 ghost use Rattle.entries.specs.Entries.{Entry, wordAt, holds};
 ghost use Rattle.book_check.specs.Chain.{hashOf, buckets, Chained, Ready};
 

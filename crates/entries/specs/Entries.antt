@@ -8,7 +8,7 @@ use lib.Dec.{eqb, leb}
 use lib.ListN.{length, getD, take, drop}
 use Rattle.letters.specs.Choice.{pick}
 use Rattle.formula.specs.Limits.{limit}
-use Rattle.formula.proofs.Lists.{sameList}
+use Rattle.formula.specs.Lists.{sameList}
 use Rattle.entries.specs.Limits.{bookLimit, headSize}
 use Rattle.entries.specs.Readable.{isReadable}
 

@@ -4,7 +4,7 @@ use mathlib.Core.List.{List, [], _∷_}
 use mathlib.Core.Option.{Option, none, some}
 use Prim.Native.Nat.{ℕ, suc}
 use Rattle.letters.specs.Choice.{pick}
-use Rattle.formula.proofs.Lists.{sameList}
+use Rattle.formula.specs.Lists.{sameList}
 use Rattle.entries.specs.Entries.{Entry}
 
 -- the live entry with the word

@@ -1,7 +1,7 @@
--- Equality of lists of numbers as a test that computes, for tables of examples.
+-- What a test over a whole list says of each element, and that lists which pass the test of being the same are equal.
 -- Assumes nothing.
 use mathlib.Core.Path.{_≡_, refl}
-use mathlib.Core.Bool.{Bool, true, false, _&&_}
+use mathlib.Core.Bool.{Bool}
 use mathlib.Core.List.{List, [], _∷_}
 use Prim.Native.Nat.{ℕ, zero, suc, _<_}
 use native.Mathlib.Nat.{le-of-suc-le-suc, not-suc-le-zero}
@@ -9,11 +9,7 @@ use native.Mathlib.Omega.{arith}
 use lib.Dec.{T, eqb, eqb→eq}
 use lib.ListN.{length, getD}
 pub use Rattle.letters.proofs.Tests.{both, both-left, both-right}
-
--- the test f passes at each element
-abbrev pub every : {A : Type 0} → (A → Bool) → List A → Bool
-every f [] = true
-every f (x ∷ xs) = f x && every f xs
+pub use Rattle.formula.specs.Lists.{every, sameBy, sameList, sameLists}
 
 -- P holds of each element
 abbrev pub All : {A : Type 0} → (A → Type 0) → List A → Type 0
@@ -36,28 +32,14 @@ at-every f [] g = tt
 at-every f (x ∷ xs) g = both (f x) (every f xs) (g 0 (omega arith)) (at-every f xs (λ k h. g (suc k) (omega arith)))
 
 module _ {A : Type 0} (same : A → A → Bool) where
-  -- two lists whose elements pass the test pairwise
-  abbrev pub sameBy : List A → List A → Bool
-  sameBy [] [] = true
-  sameBy [] (y ∷ ys) = false
-  sameBy (x ∷ xs) [] = false
-  sameBy (x ∷ xs) (y ∷ ys) = same x y && sameBy xs ys
-
-  pub sameBy-equal : ((x y : A) → T (same x y) → x ≡ y) → (xs ys : List A) → T (sameBy xs ys) → xs ≡ ys
+  pub sameBy-equal : ((x y : A) → T (same x y) → x ≡ y) → (xs ys : List A) → T (sameBy same xs ys) → xs ≡ ys
   sameBy-equal f [] [] t = refl
   sameBy-equal f [] (y ∷ ys) t = absurd t
   sameBy-equal f (x ∷ xs) [] t = absurd t
   sameBy-equal f (x ∷ xs) (y ∷ ys) t =
-      let e : x ≡ y = f x y (both-left (same x y) (sameBy xs ys) t) in
-      let d : xs ≡ ys = sameBy-equal f xs ys (both-right (same x y) (sameBy xs ys) t) in
+      let e : x ≡ y = f x y (both-left (same x y) (sameBy same xs ys) t) in
+      let d : xs ≡ ys = sameBy-equal f xs ys (both-right (same x y) (sameBy same xs ys) t) in
       rw (e, d)
-
--- lists of numbers, and lists of those
-abbrev pub sameList : List ℕ → List ℕ → Bool
-sameList = sameBy eqb
-
-abbrev pub sameLists : List (List ℕ) → List (List ℕ) → Bool
-sameLists = sameBy sameList
 
 pub sameList-equal : (xs ys : List ℕ) → T (sameList xs ys) → xs ≡ ys
 sameList-equal = sameBy-equal eqb eqb→eq

@@ -14,12 +14,7 @@ ghost use Rattle.keying.specs.Weights.{weightsBy};
 
 // Puts the five weights of a packed syllable at a place of a key, in the order in which they are compared. A head that is an I has a vowel weight,
 // and a final weighs its number, whichever form it has. The table of medials is lent, so that it is stored once a word.
-pub(crate) fn put_weights(
-    bytes: &mut [u8; Word::KEY],
-    at: usize,
-    packed: u64,
-    medials: &[u8; 16],
-)
+pub(crate) fn put_weights(bytes: &mut [u8; Word::KEY], at: usize, packed: u64, medials: &[u8; 16])
     requires { ⌜ (at + weightCount ≤ keyLimit) × (now medials ≡ medialTable) ⌝ }
     ensures { λ _. ⌜ now (bytes .exit) ≡ sets (now (bytes .entry)) at (weightsBy packed) ⌝ }
 {

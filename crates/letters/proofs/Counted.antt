@@ -3,23 +3,18 @@
 use mathlib.Core.Path.{_≡_, refl, ap, sym, subst, _∙_}
 use mathlib.Core.Bool.{Bool, true, false, not, _&&_, _||_}
 use mathlib.Core.List.{List, [], _∷_, map}
-use Prim.Native.Nat.{ℕ, zero, suc, _+_, _-_, _≤_, _<_}
+use Prim.Native.Nat.{ℕ, _+_, _-_, _≤_, _<_}
 use native.Mathlib.Decide.{decLt}
 use native.Mathlib.Omega.{arith}
 use lib.Dec.{T, eqb, leb, ltb, leb→le}
 use borrow.Author.Tests.{le-leb, lt-leb, ne-eqb}
 use Rattle.letters.specs.Choice.{pick}
 use Rattle.letters.specs.Letters.{within, kindOf, isAdmitted}
-use Rattle.letters.specs.Weights.{bitIf}
 use Rattle.letters.specs.declared.kind.Kind.{Kind}
 use Rattle.letters.specs.declared.kind.Kind.the-variants.{Consonant, IndependentVowel, Medial, VowelMark, Tone, Killer, Stacker, GreatSa, Digit, Stop, Sign, Foreign}
 use Rattle.letters.proofs.Picks.{and-yes, and-no-left, and-no-right, or-no}
 use Rattle.letters.proofs.Table.{upTo, below}
-
--- n numbers from a on
-abbrev pub upFrom : ℕ → ℕ → List ℕ
-upFrom a zero = []
-upFrom a (suc n) = a ∷ upFrom (suc a) n
+pub use Rattle.letters.specs.Counting.{upFrom, count}
 
 -- the 80 values 1000 to 104F
 abbrev pub chart : List ℕ
@@ -45,11 +40,6 @@ kindNumber Digit = 8
 kindNumber Stop = 9
 kindNumber Sign = 10
 kindNumber Foreign = 11
-
--- how many of the values pass the test
-abbrev pub count : (ℕ → Bool) → List ℕ → ℕ
-count f [] = 0
-count f (x ∷ xs) = bitIf (f x) 1 + count f xs
 
 pub class-counts :
     map (λ (n : ℕ). count (λ (x : ℕ). eqb (kindNumber (kindOf x)) n) chart) (upFrom 0 11)

@@ -3,3 +3,4 @@ pub mod Letters
 pub mod Kinds
 pub mod Marks
 pub mod Weights
+pub mod Counting

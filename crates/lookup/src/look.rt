@@ -11,7 +11,7 @@ ghost use mathlib.Core.List.{map};
 ghost use Prim.Native.Nat.{_+_, _≤_, _<_};
 ghost use lib.Dec.{T, eqb};
 ghost use lib.ListN.{length, getD, take, drop};
-ghost use Rattle.formula.proofs.Lists.{sameList};
+ghost use Rattle.formula.specs.Lists.{sameList};
 ghost use Rattle.entries.specs.Limits.{bookLimit, headSize};
 ghost use Rattle.entries.specs.Entries.{valueOf, wordAt, entryAt, isFramed};
 ghost use Rattle.entries.specs.Book.{Opened};

@@ -10,7 +10,7 @@ use Rattle.letters.specs.Kinds.{byKind}
 use Rattle.letters.specs.Marks.{MedialGroup, medialGroups, medialText, Vowel, vowels, vowelText, ToneMark, toneMarks, toneText}
 use Rattle.letters.specs.Weights.{isFinalLetter}
 use Rattle.letters.specs.declared.kind.Kind.{Kind}
-use Rattle.formula.proofs.Lists.{sameList}
+use Rattle.formula.specs.Lists.{sameList}
 use Rattle.formula.specs.Syllable.{Final, no-final, plain, stacked, kinzi, great-sa, Syllable, syllable, bare, headOf, finalOf, carriesMarks, carriesFinal, isNoMedial, isNoVowel, isNoFinal, isNoTone, isClosed, isSyllable, follows, part}
 use Rattle.formula.specs.Row.{Row}
 

@@ -6,7 +6,7 @@ use mathlib.Core.List.{List, [], _∷_, map}
 use Prim.Native.Nat.{ℕ, _+_, _≤_, _<_}
 use lib.ListN.{length, drop}
 use Rattle.letters.specs.Choice.{pick}
-use Rattle.letters.proofs.Counted.{upFrom}
+use Rattle.letters.specs.Counting.{upFrom}
 use Rattle.formula.specs.Limits.{limit}
 use Rattle.storage.specs.Stored.{isRunMark, rank, insert, makesLongVowel, makesLetter}
 use Rattle.storage.specs.declared.Front.{Front}

@@ -5,8 +5,8 @@ use mathlib.Core.Bool.{Bool, true, not, _&&_}
 use mathlib.Core.List.{List, [], _∷_, _++_}
 use Prim.Native.Nat.{ℕ}
 use lib.Dec.{T, eqb, leb}
-use Rattle.letters.proofs.Counted.{count}
-use Rattle.formula.proofs.Lists.{every}
+use Rattle.letters.specs.Counting.{count}
+use Rattle.formula.specs.Lists.{every}
 use Rattle.storage.specs.Stored.{isRunMark, rank}
 
 -- no value of these comes before x in the storage order, by the first of them

@@ -1,6 +1,6 @@
 -- `keying::weights::put_weights` meets its contract: its stores are those of the five weights one after the other.
 -- Assumes nothing.
-use mathlib.Core.Path.{ap, _∙_}
+use mathlib.Core.Path.{ap}
 use mathlib.Core.List.{List}
 use Prim.Native.Nat.{ℕ}
 use lib.ListN.{getD}
