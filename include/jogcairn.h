@@ -1,7 +1,7 @@
 /*
  * Jogcairn: Myanmar (Burmese) words, their syllables, their dictionary order, and a word book in a buffer that the caller lends.
  *
- * Link with the archive that `rt staticlib interface` writes, target/staticlib/libinterface.a (x86-64 Linux).
+ * Link with the archive that `scripts/archive` writes, target/libjogcairn.a (x86-64 Linux).
  *
  * A word is a list of 16-bit code values. Any list of any length may be handed in: what is no word is refused. A list goes in as a
  * pointer and the number of its elements, never of its bytes. Nothing is kept between calls, nothing is allocated, and calls from several

@@ -54,6 +54,25 @@ impl Key {
         Ok(Key(key[..5 * count].into()))
     }
 
+    /// The key that has these used bytes, five a syllable, as [`as_bytes`](Key::as_bytes) gave them;
+    /// nothing for bytes that no key has so: a length that is no multiple of five or is over 320, or
+    /// a head that weighs 0.
+    ///
+    /// ```
+    /// use jogcairn::Key;
+    ///
+    /// let key = Key::of(&[0x1000, 0x102C])?;
+    /// assert_eq!(Key::from_bytes(key.as_bytes()), Some(key));
+    /// assert_eq!(Key::from_bytes(&[13, 0, 0, 1]), None);
+    /// assert_eq!(Key::from_bytes(&[0, 0, 0, 1, 0]), None);
+    /// # Ok::<(), jogcairn::Refusal>(())
+    /// ```
+    pub fn from_bytes(bytes: &[u8]) -> Option<Key> {
+        let (rows, rest) = bytes.as_chunks::<5>();
+        let whole = rest.is_empty() && bytes.len() <= KEY_SIZE;
+        (whole && rows.iter().all(|row| row[0] != 0)).then(|| Key(bytes.into()))
+    }
+
     /// The used bytes, five a syllable.
     ///
     /// ```
@@ -83,6 +102,12 @@ impl Key {
     /// ```
     pub fn rows(&self) -> impl ExactSizeIterator<Item = [u8; 5]> + '_ {
         self.0.as_chunks().0.iter().copied()
+    }
+}
+
+impl AsRef<[u8]> for Key {
+    fn as_ref(&self) -> &[u8] {
+        &self.0
     }
 }
 

@@ -65,7 +65,7 @@ pub use key::{key_into, Key};
 pub use line::{decode, decode_into};
 pub use reading::{part, read, record, Syllable, Syllables};
 pub use record::{Link, Record};
-pub use refusal::{Reason, Refusal};
+pub use refusal::{Reason, Refusal, UnknownNumber};
 pub use spelling::{spell, spell_into, Spelled, SpelledLengths};
 pub use storage::{normalise, normalise_into};
 pub use word::Word;

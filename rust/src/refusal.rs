@@ -70,6 +70,34 @@ impl Reason {
     }
 }
 
+/// The reason that has a refusal's number.
+///
+/// ```
+/// use jogcairn::{Reason, UnknownNumber};
+///
+/// assert_eq!(Reason::try_from(14), Ok(Reason::BookFull));
+/// assert_eq!(Reason::try_from(9), Err(UnknownNumber(9)));
+/// ```
+impl TryFrom<u8> for Reason {
+    type Error = UnknownNumber;
+
+    fn try_from(number: u8) -> Result<Reason, UnknownNumber> {
+        Reason::of_number(number).ok_or(UnknownNumber(number))
+    }
+}
+
+/// A number that no refusal has.
+#[derive(Clone, Copy, Debug, PartialEq, Eq, Hash)]
+pub struct UnknownNumber(pub u8);
+
+impl fmt::Display for UnknownNumber {
+    fn fmt(&self, f: &mut fmt::Formatter<'_>) -> fmt::Result {
+        write!(f, "no refusal has the number {}", self.0)
+    }
+}
+
+impl Error for UnknownNumber {}
+
 /// A refused input: why, and where. A refusal changes nothing that was lent.
 ///
 /// ```

@@ -109,6 +109,28 @@ impl TryFrom<&[u16]> for Word {
     }
 }
 
+/// The stored word as text.
+///
+/// ```
+/// use jogcairn::Word;
+///
+/// let fan: Word = "ပန်ကာ".parse()?;
+/// assert_eq!(String::from(&fan), "ပန်ကာ");
+/// assert_eq!(String::from(fan), "ပန်ကာ");
+/// # Ok::<(), jogcairn::Refusal>(())
+/// ```
+impl From<&Word> for String {
+    fn from(word: &Word) -> String {
+        word.to_string()
+    }
+}
+
+impl From<Word> for String {
+    fn from(word: Word) -> String {
+        word.to_string()
+    }
+}
+
 /// Decodes and stores a line of text.
 impl FromStr for Word {
     type Err = Refusal;
