@@ -34,7 +34,7 @@ static void print_values(const uint16_t *values, size_t count)
 static void print_refusal(uint64_t answer, const uint16_t *word)
 {
     printf("refusal %u, place %" PRIu32, jogcairn_tag(answer), jogcairn_first(answer));
-    if (jogcairn_tag(answer) == JOGCAIRN_BROKEN) {
+    if (jogcairn_tag(answer) == JOGCAIRN_NO_CONTINUATION) {
         printf(", right as far as ");
         print_values(word, jogcairn_first(answer));
     }

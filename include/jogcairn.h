@@ -43,19 +43,19 @@ extern "C" {
 
 /* The refusals. Each has a place, which is the first number of the answer. */
 enum jogcairn_refusal {
-    JOGCAIRN_TOO_LONG = 1,        /* more than 64 values, or a line over 192 bytes; place 64 */
-    JOGCAIRN_FOREIGN = 2,         /* a foreign value; place: the first, in the word as handed in */
-    JOGCAIRN_BROKEN = 3,          /* no continuation makes it a word; place: the length of its longest beginning that has one */
-    JOGCAIRN_UNFINISHED = 4,      /* no word, but some continuation makes it one; place: its length */
-    JOGCAIRN_NO_ROOM = 5,         /* an output is too short; place: the elements needed */
-    JOGCAIRN_NO_ROW = 6,          /* records that no word has, or of a word over 64 values; place 0 */
-    JOGCAIRN_FAULTY_LINE = 7,     /* bytes that are no Myanmar value in UTF-8; place: the first such byte */
-    JOGCAIRN_EMPTY = 8,           /* the empty word, in calls on a book; place 0 */
-    JOGCAIRN_NOT_A_BOOK = 11,     /* place: the first byte where the buffer stops being a book; 16384 where it is too long */
-    JOGCAIRN_ALREADY_LIVE = 12,   /* add: the word is there already; place: the start of its record */
-    JOGCAIRN_NOT_LIVE = 13,       /* find, remove: the word is not there; place 0 */
-    JOGCAIRN_BOOK_FULL = 14,      /* add: the record does not fit behind the others; place: the first free byte */
-    JOGCAIRN_RANK_TOO_HIGH = 15   /* rank: so many live records there are not; place: how many there are */
+    JOGCAIRN_TOO_LONG = 1,          /* more than 64 values, or a line over 192 bytes; place 64 */
+    JOGCAIRN_FOREIGN = 2,           /* a foreign value; place: the first, in the word as handed in */
+    JOGCAIRN_NO_CONTINUATION = 3,   /* no continuation makes it a word; place: the length of its longest beginning that has one */
+    JOGCAIRN_UNFINISHED = 4,        /* no word, but some continuation makes it one; place: its length */
+    JOGCAIRN_OUTPUT_TOO_SHORT = 5,  /* an output is too short; place: the elements needed */
+    JOGCAIRN_NO_SUCH_ROW = 6,       /* records that no word has, or of a word over 64 values; place 0 */
+    JOGCAIRN_FAULTY_LINE = 7,       /* bytes that are no Myanmar value in UTF-8; place: the first such byte */
+    JOGCAIRN_EMPTY_WORD = 8,        /* the empty word, in calls on a book; place 0 */
+    JOGCAIRN_NOT_A_BOOK = 11,       /* place: the first byte where the buffer stops being a book; 16384 where it is too long */
+    JOGCAIRN_ALREADY_LIVE = 12,     /* add: the word is there already; place: the start of its record */
+    JOGCAIRN_NOT_LIVE = 13,         /* find, remove: the word is not there; place 0 */
+    JOGCAIRN_BOOK_FULL = 14,        /* add: the record does not fit behind the others; place: the first free byte */
+    JOGCAIRN_RANK_TOO_HIGH = 15     /* rank: so many live records there are not; place: how many there are */
 };
 
 static inline unsigned jogcairn_tag(uint64_t answer)
