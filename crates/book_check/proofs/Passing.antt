@@ -171,7 +171,7 @@ zeros-stray n r e q = ap (λ (t : Bool). pick t e (wrong r)) (ne-eqb r n (λ z. 
 
 -- the answer, with what it tells of a buffer of bytes
 pub says-right : (b : List ℕ) (k : Opening) → ((i : ℕ) → getD b i 0 < 256) → k ≡ openingOf (entries b) → OpenRight b k
-says-right b k small e = record { answer = e; told = subst (Says b) (sym e) (go (entries b) refl (sound b small)) }
+says-right b k small e = record { answer = e; opened = subst (Says b) (sym e) (go (entries b) refl (sound b small)) }
   where
     go : (x : Entries) → entries b ≡ x → Sound b x → Says b (openingOf x)
     go (book es f) q s = record { list = es; is-book = s .0; end = s .1 }

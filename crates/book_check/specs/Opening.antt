@@ -20,4 +20,4 @@ Says bytes (Wrong place) = entries bytes ≡ wrong place
 -- the promise of `open_book`
 pub record OpenRight (bytes : List ℕ) (opening : Opening) : Type 0 where
   pub answer : opening ≡ openingOf (entries bytes)
-  pub told : Says bytes opening
+  pub opened : Says bytes opening

@@ -1,4 +1,4 @@
--- The pass that files the live records of a book: the starts of those that are passed are collected, and their keys are kept.
+-- The pass that files the live records of a book: the starts of those that are passed are collected, and their keys are filed.
 -- Assumes nothing.
 use mathlib.Core.Path.{_≡_, refl, sym, ap, subst, _∙_}
 use mathlib.Core.Bool.{Bool, true, false}
@@ -17,7 +17,7 @@ use Rattle.entries.specs.Map.{liveCount}
 use Rattle.entries.specs.Book.{endOf, IsBook, Opened}
 use Rattle.entries.proofs.Agree.{only}
 use Rattle.entries.proofs.Walk.{Walk, walk-start, Turn, turn, walk-end, walk-seen, free-within}
-use Rattle.book_keys.specs.Filing.{rowOf, keptKey, keyRoom, mostLive, AllKeyed, liveOnes, startOf, withKeys, FiledRight}
+use Rattle.book_keys.specs.Filing.{rowOf, filedKey, keyRoom, mostLive, AllKeyed, liveOnes, startOf, withKeys, FiledRight}
 use Rattle.book_keys.proofs.Live.{liveStarts, live-count, here-readable, Spaced, spaced-of-book, keys-length, all-keyed}
 
 -- at a place: the live records among those that are passed are filed
@@ -68,10 +68,10 @@ live-snoc (y ∷ seen) x = go (y .live) (live-snoc seen x)
     go false h = h
 
 keys-snoc : (b keys starts : List ℕ) (s : ℕ)
-    → withKeys b keys (starts ++ (s ∷ [])) ≡ sets (withKeys b keys starts) (5 * s) (keptKey (rowOf (wordAt b s)))
+    → withKeys b keys (starts ++ (s ∷ [])) ≡ sets (withKeys b keys starts) (5 * s) (filedKey (rowOf (wordAt b s)))
 unfolding withKeys
 keys-snoc b keys [] s = refl
-keys-snoc b keys (x ∷ starts) s = keys-snoc b (sets keys (5 * x) (keptKey (rowOf (wordAt b x)))) starts s
+keys-snoc b keys (x ∷ starts) s = keys-snoc b (sets keys (5 * x) (filedKey (rowOf (wordAt b x)))) starts s
 
 starts-snoc : (starts list : List ℕ) (s : ℕ) → sets starts 0 (list ++ (s ∷ [])) ≡ set (sets starts 0 list) (length list) s
 starts-snoc starts list s =
@@ -98,7 +98,7 @@ module _ (b : List ℕ) (free : ℕ) (keys-before starts-before keys starts : Li
         ∙ ap (λ (x : Entry). liveStarts (c .seen) ++ pick (x .live) (x .start ∷ []) []) (sym (t .stands .is))
         ∙ ap (λ (u : Bool). liveStarts (c .seen) ++ pick u (at ∷ []) []) e
 
-    pub collect-live : getD b (at + 1) 0 ≡ 0x57 → (keys-after starts-after : List ℕ) → keys-after ≡ sets keys (5 * at) (keptKey (rowOf (wordAt b at)))
+    pub collect-live : getD b (at + 1) 0 ≡ 0x57 → (keys-after starts-after : List ℕ) → keys-after ≡ sets keys (5 * at) (filedKey (rowOf (wordAt b at)))
         → starts-after ≡ set starts live at
         → Collected b free keys-before starts-before keys-after starts-after (live + 1) (at + 7 + getD b (at + 2) 0)
     unfolding pick
@@ -116,7 +116,7 @@ module _ (b : List ℕ) (free : ℕ) (keys-before starts-before keys starts : Li
               q ∙ (λ i. set (c .starts-are i) (c .count i) at) ∙ sym (starts-snoc starts-before (liveStarts (c .seen)) at)
               ∙ ap (sets starts-before 0) (sym e);
           keys-are =
-              p ∙ ap (λ (l : List ℕ). sets l (5 * at) (keptKey (rowOf (wordAt b at)))) (c .keys-are)
+              p ∙ ap (λ (l : List ℕ). sets l (5 * at) (filedKey (rowOf (wordAt b at)))) (c .keys-are)
               ∙ sym (keys-snoc b keys-before (liveStarts (c .seen)) at) ∙ ap (withKeys b keys-before) (sym e);
         }
 

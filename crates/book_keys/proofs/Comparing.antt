@@ -1,4 +1,4 @@
--- Two kept keys compare as the rows of weights do, and bytes of words as their values; so the records are in word order.
+-- Two filed keys compare as the rows of weights do, and bytes of words as their values; so the records are in word order.
 -- Assumes nothing.
 use mathlib.Core.Path.{_≡_, refl, sym, ap, _∙_}
 use mathlib.Core.Bool.{Bool}

@@ -21,7 +21,7 @@ use Rattle.entries.specs.Rank.{insert, sortedOnto}
 use Rattle.entries.proofs.Ranked.{AllLive}
 use Rattle.entries.proofs.Records.{framed-true, framed-is}
 use Rattle.entries.proofs.Walk.{Walk, walk-start, Here, here}
-use Rattle.book_keys.specs.Filing.{rowOf, keptKey, keyRoom, HasKey, AllKeyed, liveOnes, startOf, withKeys}
+use Rattle.book_keys.specs.Filing.{rowOf, filedKey, keyRoom, HasKey, AllKeyed, liveOnes, startOf, withKeys}
 use Rattle.book_keys.proofs.Rows.{key-within}
 
 abbrev pub liveStarts : List Entry → List ℕ
@@ -116,7 +116,7 @@ pub keys-length : (b keys starts : List ℕ) → length (withKeys b keys starts)
 unfolding withKeys
 keys-length b keys [] = refl
 keys-length b keys (s ∷ starts) =
-    keys-length b (sets keys (5 * s) (keptKey (rowOf (wordAt b s)))) starts ∙ length-sets keys (5 * s) (keptKey (rowOf (wordAt b s)))
+    keys-length b (sets keys (5 * s) (filedKey (rowOf (wordAt b s)))) starts ∙ length-sets keys (5 * s) (filedKey (rowOf (wordAt b s)))
 
 -- keys of records from a place on leave what stands before their room
 keys-before : (b keys : List ℕ) (at q : ℕ) (starts : List ℕ) → q ≤ 5 * at → Spaced b at starts → take q (withKeys b keys starts) ≡ take q keys
@@ -124,8 +124,8 @@ unfolding withKeys
 keys-before b keys at q [] h s = refl
 keys-before b keys at q (x ∷ starts) h s =
     let l = s .0 in
-    keys-before b (sets keys (5 * x) (keptKey (rowOf (wordAt b x)))) (x + 7 + getD b (x + 2) 0) q starts (omega arith) (s .3)
-    ∙ sets-before (keptKey (rowOf (wordAt b x))) keys (5 * x) q (omega arith)
+    keys-before b (sets keys (5 * x) (filedKey (rowOf (wordAt b x)))) (x + 7 + getD b (x + 2) 0) q starts (omega arith) (s .3)
+    ∙ sets-before (filedKey (rowOf (wordAt b x))) keys (5 * x) q (omega arith)
 
 -- a part of the front
 part-of-front : (l : List ℕ) (p n q : ℕ) → p + n ≤ q → take n (drop p (take q l)) ≡ take n (drop p l)
@@ -134,10 +134,10 @@ part-of-front l (suc p) n zero h = let z : ⊥ = omega arith in absurd z
 part-of-front [] (suc p) n (suc q) h = refl
 part-of-front (x ∷ l) (suc p) n (suc q) h = part-of-front l p n q (omega arith)
 
--- a key that ends before a place is kept when keys of records from there on are put
-kept-on : (b keys : List ℕ) (at next : ℕ) (starts key : List ℕ) → 5 * at + length key ≤ 5 * next → Spaced b next starts
+-- a key that ends before a place stays when keys of records from there on are put
+key-stays : (b keys : List ℕ) (at next : ℕ) (starts key : List ℕ) → 5 * at + length key ≤ 5 * next → Spaced b next starts
     → take (length key) (drop (5 * at) keys) ≡ key → take (length key) (drop (5 * at) (withKeys b keys starts)) ≡ key
-kept-on b keys at next starts key h s e =
+key-stays b keys at next starts key h s e =
     sym (part-of-front (withKeys b keys starts) (5 * at) (length key) (5 * next) h)
     ∙ ap (λ (l : List ℕ). take (length key) (drop (5 * at) l)) (keys-before b keys next (5 * next) starts (omega arith) s)
     ∙ part-of-front keys (5 * at) (length key) (5 * next) h ∙ e
@@ -147,13 +147,13 @@ pub all-keyed : (b keys : List ℕ) (at : ℕ) (starts : List ℕ) → length b 
 unfolding withKeys
 all-keyed b keys at [] short room s = tt
 all-keyed b keys at (x ∷ starts) short room s =
-    let key : List ℕ = keptKey (rowOf (wordAt b x)) in
+    let key : List ℕ = filedKey (rowOf (wordAt b x)) in
     let within = key-within b x short (framed-true b x (s .1)) (s .2) in
     let next : ℕ = x + 7 + getD b (x + 2) 0 in (
       record {
         framed = s .1;
         readable = s .2;
-        kept = kept-on b (sets keys (5 * x) key) x next starts key (within .0) (s .3) (sets-there key keys (5 * x) (omega (arith, within .1)));
+        key-there = key-stays b (sets keys (5 * x) key) x next starts key (within .0) (s .3) (sets-there key keys (5 * x) (omega (arith, within .1)));
       },
       all-keyed b (sets keys (5 * x) key) next starts short (length-sets keys (5 * x) key ∙ room) (s .3),
     )

@@ -1,4 +1,4 @@
--- The row of a readable word is the only one that gives it, with at most as many syllables as the word has values; and what its kept key tells.
+-- The row of a readable word is the only one that gives it, with at most as many syllables as the word has values; and what its filed key tells.
 -- Assumes nothing.
 use mathlib.Core.Path.{_≡_, refl, sym, ap, subst, _∙_}
 use mathlib.Core.List.{List, [], _∷_}
@@ -17,7 +17,7 @@ use Rattle.entries.specs.Limits.{bookLimit}
 use Rattle.recogniser.proofs.Decided.{decide}
 use Rattle.entries.specs.Entries.{wordAt}
 use Rattle.entries.proofs.Records.{Framed, framed-true, length-word}
-use Rattle.book_keys.specs.Filing.{decidedRow, rowOf, keptKey, keyRoom, HasKey}
+use Rattle.book_keys.specs.Filing.{decidedRow, rowOf, filedKey, keyRoom, HasKey}
 
 pub row-is : (word : List ℕ) → Readable word → (row : Row) → Gives row word → rowOf word ≡ row
 unfolding rowOf
@@ -33,16 +33,16 @@ row-gives word r = subst (λ (row : Row). Gives row word) (sym (row-is word r (r
 pub row-fits : (word : List ℕ) → Readable word → length (rowOf word) ≤ length word
 row-fits word r = omega (arith, row-bound no-final (rowOf word), ap length (row-gives word r .joined))
 
-pub kept-length : (row : Row) → length (keptKey row) ≡ 1 + 5 * length row
-unfolding keptKey
-kept-length row = omega (arith, key-used row)
+pub filed-key-length : (row : Row) → length (filedKey row) ≡ 1 + 5 * length row
+unfolding filedKey
+filed-key-length row = omega (arith, key-used row)
 
 -- the key of the record at a place ends before that of the record behind it, within the room for keys
 pub key-within : (b : List ℕ) (at : ℕ) → length b ≤ bookLimit → Framed b at → Readable (wordAt b at)
-    → (5 * at + length (keptKey (rowOf (wordAt b at))) ≤ 5 * (at + 7 + getD b (at + 2) 0))
-    × (5 * at + length (keptKey (rowOf (wordAt b at))) ≤ keyRoom)
+    → (5 * at + length (filedKey (rowOf (wordAt b at))) ≤ 5 * (at + 7 + getD b (at + 2) 0))
+    × (5 * at + length (filedKey (rowOf (wordAt b at))) ≤ keyRoom)
 key-within b at s f r =
-    let k = kept-length (rowOf (wordAt b at)) in
+    let k = filed-key-length (rowOf (wordAt b at)) in
     let n = length-word b at (f .room) in
     let m = row-fits (wordAt b at) r in
     let o = f .room in
@@ -53,23 +53,23 @@ part-behind : (l : List ℕ) (n : ℕ) → drop 1 (take (suc n) l) ≡ take n (d
 part-behind [] n = sym (take-nil n)
 part-behind (x ∷ l) n = refl
 
--- what a kept key tells: the number of syllables, and behind it the weights
+-- what a filed key tells: the number of syllables, and behind it the weights
 module _ (b keys : List ℕ) (at : ℕ) (h : HasKey b keys at) where
   pub key-count : getD keys (5 * at) 0 ≡ length (rowOf (wordAt b at))
-  unfolding keptKey
+  unfolding filedKey
   key-count =
       let row : Row = rowOf (wordAt b at) in
       ap (λ (k : ℕ). getD keys k 0) (sym (add-zero (5 * at))) ∙ sym (getD-drop (5 * at) keys 0 0)
-      ∙ sym (getD-take (suc (length (keyOf row))) (drop (5 * at) keys) 0 0 (omega arith)) ∙ ap (λ (l : List ℕ). getD l 0 0) (h .kept)
+      ∙ sym (getD-take (suc (length (keyOf row))) (drop (5 * at) keys) 0 0 (omega arith)) ∙ ap (λ (l : List ℕ). getD l 0 0) (h .key-there)
 
   pub key-weights : take (5 * length (rowOf (wordAt b at))) (drop (5 * at + 1) keys) ≡ keyOf (rowOf (wordAt b at))
-  unfolding keptKey
+  unfolding filedKey
   key-weights =
       let row : Row = rowOf (wordAt b at) in
       ap (λ (l : List ℕ). take (5 * length row) l) (sym (drop-drop 1 (5 * at) keys))
       ∙ ap (λ (n : ℕ). take n (drop 1 (drop (5 * at) keys))) (sym (key-used row))
-      ∙ sym (part-behind (drop (5 * at) keys) (length (keyOf row))) ∙ ap (drop 1) (h .kept)
+      ∙ sym (part-behind (drop (5 * at) keys) (length (keyOf row))) ∙ ap (drop 1) (h .key-there)
 
   pub key-ends : length b ≤ bookLimit → 5 * at + (1 + 5 * length (rowOf (wordAt b at))) ≤ keyRoom
   key-ends s =
-      omega (arith, key-within b at s (framed-true b at (h .framed)) (h .readable) .1, kept-length (rowOf (wordAt b at)))
+      omega (arith, key-within b at s (framed-true b at (h .framed)) (h .readable) .1, filed-key-length (rowOf (wordAt b at)))

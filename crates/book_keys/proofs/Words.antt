@@ -19,7 +19,7 @@ use Rattle.recogniser.proofs.Counted.{count-limit}
 use Rattle.weighing.specs.Keys.{usedBytes, keyLimit, zeros, keyOf}
 use Rattle.weighing.proofs.Laws.{key-used}
 use Rattle.keying.specs.Filled.{KeyIfRead, FillRight}
-use Rattle.book_keys.specs.Filing.{rowOf, keptKey}
+use Rattle.book_keys.specs.Filing.{rowOf, filedKey}
 use Rattle.book_keys.proofs.Rows.{row-gives}
 
 module _ (word : List ℕ) (readable : Readable word) (answer : Counted) (key : List ℕ) (right : FillRight word answer key) where
@@ -44,8 +44,8 @@ module _ (word : List ℕ) (readable : Readable word) (answer : Counted) (key : 
     pub filled-count : n ≡ length (rowOf word)
     filled-count = sym (ap length (reads .only (rowOf word) gives) ∙ reads .count)
 
-    pub filled-key : n ∷ take (usedBytes n) key ≡ keptKey (rowOf word)
-    unfolding keptKey
+    pub filled-key : n ∷ take (usedBytes n) key ≡ filedKey (rowOf word)
+    unfolding filedKey
     filled-key =
         let row = rowOf word in
         let filled = subst (λ (a : Counted). KeyIfRead word (outcomeOf a) key) e (right .key) row gives in

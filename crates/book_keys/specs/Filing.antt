@@ -1,4 +1,4 @@
--- Document 01, "The word book" and "Weights": which of two records stands before the other in word order, and how the keys that tell it are kept.
+-- Document 01, "The word book" and "Weights": which of two records stands before the other in word order, and how the keys that tell it are filed.
 -- Assumes nothing.
 use mathlib.Core.Path.{_≡_}
 use mathlib.Core.Bool.{Bool, true, false}
@@ -40,15 +40,15 @@ isLess Greater = false
 unfoldable pub before : Entry → Entry → Bool
 before first second = isLess (order (fileOf first) (fileOf second))
 
--- how a key is kept: the number of syllables, then the weights, five bytes a syllable
-unfoldable pub keptKey : Row → List ℕ
-keptKey row = length row ∷ keyOf row
+-- how a key is filed: the number of syllables, then the weights, five bytes a syllable
+unfoldable pub filedKey : Row → List ℕ
+filedKey row = length row ∷ keyOf row
 
 -- the record at a place has a readable word, whose key stands from byte 5 times the place on
 pub record HasKey (bytes keys : List ℕ) (at : ℕ) : Type 0 where
   pub framed : T (isFramed bytes at)
   pub readable : Readable (wordAt bytes at)
-  pub kept : take (length (keptKey (rowOf (wordAt bytes at)))) (drop (usedBytes at) keys) ≡ keptKey (rowOf (wordAt bytes at))
+  pub key-there : take (length (filedKey (rowOf (wordAt bytes at)))) (drop (usedBytes at) keys) ≡ filedKey (rowOf (wordAt bytes at))
 
 -- each of these starts has its key
 abbrev pub AllKeyed : List ℕ → List ℕ → List ℕ → Type 0
@@ -71,10 +71,10 @@ keyRoom = 81920
 abbrev pub mostLive : ℕ
 mostLive = 2048
 
--- the keys of the records at these starts, kept one after the other
+-- the keys of the records at these starts, filed one after the other
 unfoldable pub withKeys : List ℕ → List ℕ → List ℕ → List ℕ
 withKeys bytes keys [] = keys
-withKeys bytes keys (start ∷ starts) = withKeys bytes (sets keys (usedBytes start) (keptKey (rowOf (wordAt bytes start)))) starts
+withKeys bytes keys (start ∷ starts) = withKeys bytes (sets keys (usedBytes start) (filedKey (rowOf (wordAt bytes start)))) starts
 
 -- the promise of `file_records`: the starts of the live records in their order, with the key of each; all else that is lent stays
 pub record FiledRight (bytes keys-before starts-before keys starts : List ℕ) (count : ℕ) : Type 0 where

@@ -20,7 +20,7 @@ ghost use Rattle.weighing.specs.Keys.{usedBytes};
 ghost use Rattle.entries.specs.Limits.{bookLimit};
 ghost use Rattle.entries.specs.Entries.{wordAt, isFramed};
 ghost use Rattle.entries.specs.Book.{Opened};
-ghost use Rattle.book_keys.specs.Filing.{rowOf, keptKey, keyRoom, mostLive, FiledRight};
+ghost use Rattle.book_keys.specs.Filing.{rowOf, filedKey, keyRoom, mostLive, FiledRight};
 
 // The bytes for the keys of a book: those of the record at a start stand from 5 times the start on.
 pub const KEY_ROOM: usize = 81920;
@@ -28,7 +28,7 @@ pub const KEY_ROOM: usize = 81920;
 // The most live records of a book.
 pub const MOST_LIVE: usize = 2048;
 
-// A start as it is kept.
+// A start in 16 bits.
 fn start_of(at: usize) -> u16
     requires { ⌜ at < bookLimit ⌝ }
     ensures { λ r. ⌜ r ≡ at ⌝ }
@@ -46,10 +46,10 @@ fn put_key(keys: &mut [u8], from: usize, key: &[u8], count: usize)
     put_bytes(&key[..used], keys, from + 1);
 }
 
-// Keeps the key of the record at a place, whose word is readable.
-fn keep_key(book: &[u8], at: usize, keys: &mut [u8])
+// Files the key of the record at a place, whose word is readable.
+fn file_key(book: &[u8], at: usize, keys: &mut [u8])
     requires { ⌜ (length (now book) ≤ bookLimit) × (length (now keys) ≡ keyRoom) × T (isFramed (now book) at) × Readable (wordAt (now book) at) ⌝ }
-    ensures { λ _. ⌜ now (keys .exit) ≡ sets (now (keys .entry)) (usedBytes at) (keptKey (rowOf (wordAt (now (book .entry)) at))) ⌝ }
+    ensures { λ _. ⌜ now (keys .exit) ≡ sets (now (keys .entry)) (usedBytes at) (filedKey (rowOf (wordAt (now (book .entry)) at))) ⌝ }
 {
     let count = wide(book[at + 2]);
     let values = values_of(book, at + HEAD, count);
@@ -60,7 +60,7 @@ fn keep_key(book: &[u8], at: usize, keys: &mut [u8])
     }
 }
 
-// Collects the starts of the live records, in their order, and keeps the key of each. Gives how many there are.
+// Collects the starts of the live records, in their order, and files the key of each. Gives how many there are.
 pub fn file_records(
     book: &[u8],
     free: usize,
@@ -74,7 +74,7 @@ pub fn file_records(
     let mut at = 0;
     while at < free {
         if has_mark(book, at, b"MW") {
-            keep_key(book, at, keys);
+            file_key(book, at, keys);
             starts[live] = start_of(at);
             live += 1;
         }

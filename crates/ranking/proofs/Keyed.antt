@@ -1,4 +1,4 @@
--- Starts whose keys are kept: so are those of each part, of both parts together, and of the same starts in order.
+-- Starts whose keys are filed: so are those of each part, of both parts together, and of the same starts in order.
 -- Assumes nothing.
 use mathlib.Core.Bool.{Bool, true, false}
 use mathlib.Core.List.{List, [], _∷_, _++_}
@@ -48,6 +48,6 @@ module _ (bytes keys : List ℕ) where
         keyed-append (inOrder less (take n l)) (inOrder less (drop n l)) (keyed-in-order (take n l) (keyed-take n l a))
         (keyed-in-order (drop n l) (keyed-drop n l a))
 
--- other starts whose keys are kept in the same place
+-- other starts whose keys are filed in the same place
 pub part-sortable : {bytes keys l m : List ℕ} → Sortable bytes keys l → AllKeyed bytes keys m → Sortable bytes keys m
 part-sortable s a = record { short = s .short; room = s .room; keyed = a }

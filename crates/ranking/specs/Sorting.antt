@@ -53,7 +53,7 @@ mergedFront bytes starts middle room = partsMerged bytes starts middle ++ drop (
 abbrev pub frontInOrder : List ℕ → List ℕ → ℕ → List ℕ
 frontInOrder bytes starts count = inOrder (goesBefore bytes) (take count starts) ++ drop count starts
 
--- starts of records whose keys are kept
+-- starts of records whose keys are filed
 pub record Sortable (bytes keys starts : List ℕ) : Type 0 where
   pub short : length bytes ≤ bookLimit
   pub room : length keys ≡ keyRoom

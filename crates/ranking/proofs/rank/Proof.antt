@@ -23,9 +23,9 @@ enum-known-place c = search needs
 enum-known-live : tie.Need-enum-known-live
 enum-known-live c = search needs
 
--- what opening the buffer told
-told : (c : tie.After-open-book) (opening : Opening) → c .open-book .result ≡ opening → Says (now (c .before .before .args .book)) opening
-told c opening e = subst (Says (now (c .before .before .args .book))) e (c .open-book .ensures .told)
+-- what opening the buffer says of it
+says : (c : tie.After-open-book) (opening : Opening) → c .open-book .result ≡ opening → Says (now (c .before .before .args .book)) opening
+says c opening e = subst (Says (now (c .before .before .args .book))) e (c .open-book .ensures .opened)
 
 -- and that it is the definition's answer
 answered : (c : tie.After-open-book) (opening : Opening) → c .open-book .result ≡ opening
@@ -36,17 +36,17 @@ returns : tie.Need-returns
 returns c =
     let o = c .before .before .before .before in
     let g = c .before .before .live .given .1 in
-    too-high (told o _ g) (answered o _ g) (o .before .before .args .number) (omega (arith, c .if1 .taken))
+    too-high (says o _ g) (answered o _ g) (o .before .before .args .number) (omega (arith, c .if1 .taken))
 
 sort-records-requires : tie.Need-sort-records-requires
-sort-records-requires c κs = (told (c .before .before .before .before .before) _ (c .before .before .before .live .given .1), refl)
+sort-records-requires c κs = (says (c .before .before .before .before .before) _ (c .before .before .before .live .given .1), refl)
 
 -- the number is below the live count
 within : (c : tie.After-sort-records) → c .before .before .before .before .before .before .before .before .args .number < c .sort-records .result
 within c =
     let o = c .before .before .before .before .before .before in
     let g = c .before .before .before .before .live .given .1 in
-    counted-below (told o _ g) (answered o _ g) (c .sort-records .ensures) (o .before .before .args .number) (c .before .before .if1 .left)
+    counted-below (says o _ g) (answered o _ g) (c .sort-records .ensures) (o .before .before .args .number) (c .before .before .if1 .left)
 
 mul-place-of : tie.Need-mul-place-of
 mul-place-of c = omega (arith, within c, c .sort-records .ensures .few)
@@ -61,7 +61,7 @@ stock-at-requires : tie.Need-stock-at-requires
 stock-at-requires c κs =
     let o = c .before .before .before .before .before .before .before in
     let g = c .before .before .before .before .before .live .given .1 in
-    let t = told o _ g in
+    let t = says o _ g in
     let s = c .before .sort-records .ensures in
     let h = c .before .before .before .if1 .left in
     (t .is-book .short, rw (c .place-of .ensures) (start-within t (answered o _ g) s (o .before .before .args .number) h))
@@ -69,7 +69,7 @@ stock-at-requires c κs =
 returns-2 : tie.Need-returns-2
 returns-2 c =
     let o = c .before .before .before in
-    sym (ap (λ (e : Entries). rankOf e (o .before .before .args .number)) (told o _ (c .before .place .given .1)))
+    sym (ap (λ (e : Entries). rankOf e (o .before .before .args .number)) (says o _ (c .before .place .given .1)))
 
 returns-3 : tie.Need-returns-3
 returns-3 c =
@@ -79,7 +79,7 @@ returns-3 c =
     let place = c .before .place-of .ensures in
     let stock = c .stock-at .ensures ∙ ap (λ (s : ℕ). entryAt (now (a .book)) s .stock) place in
     (λ i. finds (place i) (stock i))
-    ∙ found-there (told o _ g) (answered o _ g) (c .before .before .sort-records .ensures) (a .number) (c .before .before .before .before .if1 .left)
+    ∙ found-there (says o _ g) (answered o _ g) (c .before .before .sort-records .ensures) (a .number) (c .before .before .before .before .if1 .left)
 
 pub rank-spec : {M : Type 1} → statement M
 rank-spec =

@@ -42,8 +42,8 @@ loop-holds c = collect-start _ _ _ _ (c .before .pre .0)
 has-mark-requires : tie.Need-has-mark-requires Inv-loop μ-loop
 has-mark-requires c κs = let f = at-turn (c .before) .stands .frame in omega (arith, f .room)
 
-keep-key-requires : tie.Need-keep-key-requires Inv-loop μ-loop
-keep-key-requires c κs =
+file-key-requires : tie.Need-file-key-requires Inv-loop μ-loop
+file-key-requires c κs =
     let l = c .before .before .before .before in
     let i = l .before .loop .inv in
     let t = at-turn l in (
@@ -115,7 +115,7 @@ file-records-spec =
     μ-loop
     loop-holds
     has-mark-requires
-    keep-key-requires
+    file-key-requires
     start-of-requires
     mul-starts
     element-write-starts

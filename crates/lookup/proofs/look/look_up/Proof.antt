@@ -19,13 +19,13 @@ enum-known-free : tie.Need-enum-known-free
 enum-known-free c = search needs
 
 locate-requires : tie.Need-locate-requires
-locate-requires c κs = subst (Says (now (c .before .before .before .before .before .before .args .book))) (c .before .free .given .1) (c .before .before .before .open-book .ensures .told)
+locate-requires c κs = subst (Says (now (c .before .before .before .before .before .before .args .book))) (c .before .free .given .1) (c .before .before .before .open-book .ensures .opened)
 
 returns : tie.Need-returns
 returns c =
     let s = c .before .before .before .before .before .before .args in
     record {
-      answer = ap (λ (e : Entries). lookOf e (now (s .word))) (sym (subst (Says (now (s .book))) (c .before .place .given .1) (c .before .before .before .open-book .ensures .told)));
+      answer = ap (λ (e : Entries). lookOf e (now (s .word))) (sym (subst (Says (now (s .book))) (c .before .place .given .1) (c .before .before .before .open-book .ensures .opened)));
       within = tt;
     }
 

@@ -1,4 +1,4 @@
--- `book_keys::keys::keep_key` meets its contract: the word is readable, so the key that is filled is that of its row.
+-- `book_keys::keys::file_key` meets its contract: the word is readable, so the key that is filled is that of its row.
 -- Assumes nothing.
 use borrow.Author.Needs.{needs}
 use mathlib.Core.Path.{_≡_, sym, ap, subst, _∙_}
@@ -12,10 +12,10 @@ use Rattle.keying.specs.Filled.{FillRight}
 use Rattle.entries.specs.Entries.{valueOf, wordAt}
 use Rattle.entries.proofs.Records.{Framed, framed-true}
 use Rattle.book_keys.specs.Filing.{rowOf}
-use Rattle.book_keys.proofs.Rows.{kept-length, key-within}
+use Rattle.book_keys.proofs.Rows.{filed-key-length, key-within}
 use Rattle.book_keys.proofs.Words.{not-refused, filled-few, filled-room, filled-count, filled-key}
-use Rattle.book_keys.proofs.keys.keep_key.Statement.{statement}
-use Rattle.book_keys.proofs.keys.keep_key.Tie as tie
+use Rattle.book_keys.proofs.keys.file_key.Statement.{statement}
+use Rattle.book_keys.proofs.keys.file_key.Tie as tie
 
 -- the record and its word
 frame : (s : tie.Start) → Framed (now (s .args .book)) (s .args .at)
@@ -85,7 +85,7 @@ put-key-requires c κs =
     let k = key-within (now (s .args .book)) (s .args .at) (s .pre .0) (frame s) (s .pre .3) .1 in (
       filled-few (word s) (s .pre .3) (r .fill .result) _ (filled r) (a .0 .0) (a .1),
       filled-room (word s) (s .pre .3) (r .fill .result) _ (filled r) (a .0 .0) (a .1),
-      omega (arith, s .pre .1, kept-length (rowOf (word s)), filled-count (word s) (s .pre .3) (r .fill .result) _ (filled r) (a .0 .0) (a .1)),
+      omega (arith, s .pre .1, filed-key-length (rowOf (word s)), filled-count (word s) (s .pre .3) (r .fill .result) _ (filled r) (a .0 .0) (a .1)),
       s .pre .1,
     )
 
@@ -109,8 +109,8 @@ returns-2 c =
     let s = start-of r in
     absurd (not-refused (word s) (s .pre .3) (r .fill .result) _ (filled r) (c .enum-told .given .0 .0) (c .enum-told .given .1))
 
-pub keep-key-spec : {M : Type 1} → statement M
-keep-key-spec =
+pub file-key-spec : {M : Type 1} → statement M
+file-key-spec =
     tie.close
     (tie.spec
     add-wide
