@@ -1,11 +1,11 @@
 -- The stored form of a word that is not empty is not empty, since sorting keeps each value and rule 2 leaves one of two; and where it is a row, it can be stored.
 -- Assumes nothing.
-use mathlib.Core.Path.{refl, ap}
+use mathlib.Core.Path.{_≡_, refl, sym, ap, _∙_}
 use mathlib.Core.Bool.{Bool, true, false}
 use mathlib.Core.List.{List, [], _∷_}
 use Prim.Native.Nat.{ℕ, _≤_, _-_}
 use native.Mathlib.Omega.{arith}
-use lib.ListN.{length, drop, length-append}
+use lib.ListN.{length, take, drop, length-append}
 use lib.Seq.{take-at}
 use Rattle.letters.specs.Choice.{pick}
 use Rattle.formula.specs.Limits.{limit}
@@ -15,7 +15,7 @@ use Rattle.storage.specs.Stored.{sortRuns, makesLongVowel, makesLetter, compose
 use Rattle.storage.proofs.Runs.{sort-length}
 use Rattle.normaliser.specs.Normal.{NormaliseRight}
 use Rattle.entries.specs.Change.{Storable}
-use Rattle.wordbook.specs.Calls.{refused, WordStored, EnteredFor}
+use Rattle.wordbook.specs.Calls.{refused, WordStored, FormAt, EnteredFor}
 
 -- rule 2 leaves something of what there is
 compose-some : (word : List ℕ) → 1 ≤ length word → 1 ≤ length (compose word)
@@ -42,15 +42,18 @@ stored-storable word s =
 
 -- what the normaliser writes of a word that is not empty goes on to the book: there is room for any stored form
 pub entered-right : (word before after : List ℕ) (o : Outcome) → 1 ≤ length word → limit ≤ length before → NormaliseRight word before after o
-    → EnteredFor word after o
-entered-right word before after o some room (not-stored r e) = refused some r
+    → EnteredFor word before after o
+entered-right word before after o some room (not-stored r e) = record { refused = refused some r; values = e }
 entered-right word before after o some room (put {thing = n} s h e) =
-    record {
-      stored = record { some = some; syllables = n; stores = s };
-      fits = omega (arith, ap length e, length-append (storedForm word) (drop (length (storedForm word)) before));
-      front = rw e (take-at (storedForm word) (drop (length (storedForm word)) before) (length (storedForm word)) refl);
-    }
+    record { stored = record { some = some; syllables = n; stores = s }; long = refl; values = e }
 entered-right word before after o some room (too-short s h e) =
     let short = s .reads .admissible .short in
     let z : ⊥ = omega arith in
     absurd z
+
+module _ {word before after : List ℕ} {count : ℕ} (f : FormAt word before after count) where
+  pub form-fits : count ≤ length after
+  form-fits = omega (arith, f .long, ap length (f .values), length-append (storedForm word) (drop count before))
+
+  pub form-front : take count after ≡ storedForm word
+  form-front = ap (take count) (f .values) ∙ take-at (storedForm word) (drop count before) count (sym (f .long))

@@ -1,9 +1,9 @@
 -- Document 01, "The word book" and the two tables of refusals: what each call on a book answers to the word as it is handed in, and what each
 -- byte of the buffer is afterwards. Assumes nothing.
 use mathlib.Core.Path.{_≡_}
-use mathlib.Core.List.{List}
+use mathlib.Core.List.{List, _++_}
 use Prim.Native.Nat.{ℕ, _≤_}
-use lib.ListN.{length, take}
+use lib.ListN.{length, drop}
 use Rattle.refusals.specs.Outcome.{Outcome, accepts, accepts-both, absent, refuses}
 use Rattle.storage.specs.Stored.{storedForm}
 use Rattle.normaliser.specs.Normal.{StoreRefusedWith, Stores}
@@ -39,14 +39,19 @@ pub record RemovePromise (word before after : List ℕ) (outcome : Outcome) : Ty
   pub answers : CallAnswers word (removeOf (entries before) (storedForm word)) outcome
   pub bytes : after ≡ bytesRemoved outcome before
 
--- the stored form that goes on to the book, at the front of values; an inner contract cites it
-pub record FormAt (word values : List ℕ) (count : ℕ) : Type 0 where
+-- the stored form that goes on to the book stands at the front of the values, the rest untouched; an inner contract cites it
+pub record FormAt (word before after : List ℕ) (count : ℕ) : Type 0 where
   pub stored : WordStored word
-  pub fits : count ≤ length values
-  pub front : take count values ≡ storedForm word
+  pub long : count ≡ length (storedForm word)
+  pub values : after ≡ storedForm word ++ drop count before
 
-abbrev pub EnteredFor : List ℕ → List ℕ → Outcome → Type 0
-EnteredFor word values (accepts count) = FormAt word values count
-EnteredFor word values (accepts-both n m) = ⊥
-EnteredFor word values absent = ⊥
-EnteredFor word values (refuses number place) = WordRefused word number place
+-- a word that is refused leaves the values as they are
+pub record NoForm (word before after : List ℕ) (number place : ℕ) : Type 0 where
+  pub refused : WordRefused word number place
+  pub values : after ≡ before
+
+abbrev pub EnteredFor : List ℕ → List ℕ → List ℕ → Outcome → Type 0
+EnteredFor word before after (accepts count) = FormAt word before after count
+EnteredFor word before after (accepts-both n m) = ⊥
+EnteredFor word before after absent = ⊥
+EnteredFor word before after (refuses number place) = NoForm word before after number place

@@ -7,33 +7,35 @@ use Prim.Native.Nat.{ℕ}
 use lib.ListN.{length}
 use lib.Seq.{length-take-le}
 use denote.Ref.{now}
+use Rattle.formula.specs.Limits.{limit}
 use Rattle.refusals.specs.Refusal.{numberOf, placeOf}
 use Rattle.refusals.specs.Outcome.{outcomeOf}
 use Rattle.refusals.specs.declared.Counted.{Counted}
 use Rattle.storage.specs.Stored.{storedForm}
 use Rattle.entries.specs.Entries.{entries}
+use Rattle.entries.specs.Book.{zeros}
 use Rattle.entries.specs.Change.{Storable}
 use Rattle.lookup.specs.Outcome.{addOf}
 use Rattle.book_change.specs.Written.{AddRight}
 use Rattle.wordbook.specs.Calls.{WordRefused, FormAt, EnteredFor, CallAnswers, word-refused, word-stored}
-use Rattle.wordbook.proofs.Stored.{stored-storable}
+use Rattle.wordbook.proofs.Stored.{stored-storable, form-fits, form-front}
 use Rattle.wordbook.proofs.add.Statement.{statement}
 use Rattle.wordbook.proofs.add.Tie as tie
 
 -- the word went on to the book
 form : (c : tie.After-known-told2) → let e = c .before .before .before .before in
-    FormAt (now (e .before .before .before .before .args .word)) (e .enter .last .1 .0) (c .before .count .given .0 .0)
+    FormAt (now (e .before .before .before .before .args .word)) (zeros limit) (e .enter .last .1 .0) (c .before .count .given .0 .0)
 form c =
     let e = c .before .before .before .before in
-    subst (λ (a : Counted). EnteredFor (now (e .before .before .before .before .args .word)) (e .enter .last .1 .0) (outcomeOf a)) (c .before .count .given .1)
+    subst (λ (a : Counted). EnteredFor (now (e .before .before .before .before .args .word)) (zeros limit) (e .enter .last .1 .0) (outcomeOf a)) (c .before .count .given .1)
     (e .enter .ensures)
 
 refused : (c : tie.After-known-told) → let e = c .before .before .before .before in
     WordRefused (now (e .before .before .before .before .args .word)) (numberOf (c .before .refusal .given .0 .0)) (placeOf (c .before .refusal .given .0 .0))
 refused c =
     let e = c .before .before .before .before in
-    subst (λ (a : Counted). EnteredFor (now (e .before .before .before .before .args .word)) (e .enter .last .1 .0) (outcomeOf a)) (c .before .refusal .given .1)
-    (e .enter .ensures)
+    subst (λ (a : Counted). EnteredFor (now (e .before .before .before .before .args .word)) (zeros limit) (e .enter .last .1 .0) (outcomeOf a)) (c .before .refusal .given .1)
+    (e .enter .ensures) .refused
 
 slice-aggregate-enter : tie.Need-slice-aggregate-enter
 slice-aggregate-enter c = search needs
@@ -48,15 +50,15 @@ enum-known-count : tie.Need-enum-known-count
 enum-known-count c = search needs
 
 array-share-prefix-values : tie.Need-array-share-prefix-values
-array-share-prefix-values c = form (c .before) .fits
+array-share-prefix-values c = form-fits (form (c .before))
 
 slice-aggregate-add : tie.Need-slice-aggregate-add
-slice-aggregate-add c = sym (length-take-le _ _ (form (c .before .before) .fits))
+slice-aggregate-add c = sym (length-take-le _ _ (form-fits (form (c .before .before))))
 
 add-requires : tie.Need-add-requires
 add-requires c κs =
     let h = form (c .before .before) in
-    subst Storable (sym (h .front)) (stored-storable _ (h .stored))
+    subst Storable (sym (form-front h)) (stored-storable _ (h .stored))
 
 returns : tie.Need-returns
 returns c = record { answers = word-refused (refused c); bytes = refl }
@@ -71,7 +73,7 @@ returns-2 c =
     let h = form t in
     let outcome = outcomeOf (c .before .before .add .result) in
     let r : AddRight (storedForm (now (s .word))) (s .stock) (now (s .book)) (c .before .before .add .last .0) outcome =
-    subst (λ (w : List ℕ). AddRight w (s .stock) (now (s .book)) (c .before .before .add .last .0) outcome) (h .front) (c .before .before .add .ensures) in
+    subst (λ (w : List ℕ). AddRight w (s .stock) (now (s .book)) (c .before .before .add .last .0) outcome) (form-front h) (c .before .before .add .ensures) in
     record {
       answers = subst (CallAnswers (now (s .word)) (addOf (entries (now (s .book))) (length (now (s .book))) (storedForm (now (s .word))))) (sym (r .answer)) (word-stored (h .stored));
       bytes = r .bytes;

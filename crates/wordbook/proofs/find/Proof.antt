@@ -4,30 +4,33 @@ use borrow.Author.Needs.{needs}
 use mathlib.Core.Path.{sym, ap, subst, _∙_}
 use lib.Seq.{length-take-le}
 use denote.Ref.{now}
+use Rattle.formula.specs.Limits.{limit}
 use Rattle.refusals.specs.Refusal.{numberOf, placeOf}
 use Rattle.refusals.specs.Outcome.{outcomeOf}
 use Rattle.refusals.specs.declared.Counted.{Counted}
 use Rattle.storage.specs.Stored.{storedForm}
 use Rattle.entries.specs.Entries.{entries}
+use Rattle.entries.specs.Book.{zeros}
 use Rattle.lookup.specs.Outcome.{findOf}
 use Rattle.wordbook.specs.Calls.{WordRefused, FormAt, EnteredFor, CallAnswers, word-refused, word-stored}
+use Rattle.wordbook.proofs.Stored.{form-fits, form-front}
 use Rattle.wordbook.proofs.find.Statement.{statement}
 use Rattle.wordbook.proofs.find.Tie as tie
 
 -- the word went on to the book
 form : (c : tie.After-known-told2) → let e = c .before .before .before .before in
-    FormAt (now (e .before .before .before .before .args .word)) (e .enter .last .1 .0) (c .before .count .given .0 .0)
+    FormAt (now (e .before .before .before .before .args .word)) (zeros limit) (e .enter .last .1 .0) (c .before .count .given .0 .0)
 form c =
     let e = c .before .before .before .before in
-    subst (λ (a : Counted). EnteredFor (now (e .before .before .before .before .args .word)) (e .enter .last .1 .0) (outcomeOf a)) (c .before .count .given .1)
+    subst (λ (a : Counted). EnteredFor (now (e .before .before .before .before .args .word)) (zeros limit) (e .enter .last .1 .0) (outcomeOf a)) (c .before .count .given .1)
     (e .enter .ensures)
 
 refused : (c : tie.After-known-told) → let e = c .before .before .before .before in
     WordRefused (now (e .before .before .before .before .args .word)) (numberOf (c .before .refusal .given .0 .0)) (placeOf (c .before .refusal .given .0 .0))
 refused c =
     let e = c .before .before .before .before in
-    subst (λ (a : Counted). EnteredFor (now (e .before .before .before .before .args .word)) (e .enter .last .1 .0) (outcomeOf a)) (c .before .refusal .given .1)
-    (e .enter .ensures)
+    subst (λ (a : Counted). EnteredFor (now (e .before .before .before .before .args .word)) (zeros limit) (e .enter .last .1 .0) (outcomeOf a)) (c .before .refusal .given .1)
+    (e .enter .ensures) .refused
 
 slice-aggregate-enter : tie.Need-slice-aggregate-enter
 slice-aggregate-enter c = search needs
@@ -42,10 +45,10 @@ enum-known-count : tie.Need-enum-known-count
 enum-known-count c = search needs
 
 array-share-prefix-values : tie.Need-array-share-prefix-values
-array-share-prefix-values c = form c .fits
+array-share-prefix-values c = form-fits (form c)
 
 slice-aggregate-find : tie.Need-slice-aggregate-find
-slice-aggregate-find c = sym (length-take-le _ _ (form (c .before) .fits))
+slice-aggregate-find c = sym (length-take-le _ _ (form-fits (form (c .before))))
 
 find-requires : tie.Need-find-requires
 find-requires c κs = search needs
@@ -59,7 +62,7 @@ returns-2 c =
     let s = t .before .before .before .before .before .before .before .before .args in
     let h = form t in
     subst (CallAnswers (now (s .word)) (findOf (entries (now (s .book))) (storedForm (now (s .word)))))
-    (sym (c .find .ensures ∙ ap (findOf (entries (now (s .book)))) (h .front))) (word-stored (h .stored))
+    (sym (c .find .ensures ∙ ap (findOf (entries (now (s .book)))) (form-front h))) (word-stored (h .stored))
 
 pub find-spec : {M : Type 1} → statement M
 find-spec =

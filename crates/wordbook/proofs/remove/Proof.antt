@@ -6,31 +6,34 @@ use mathlib.Core.List.{List}
 use Prim.Native.Nat.{ℕ}
 use lib.Seq.{length-take-le}
 use denote.Ref.{now}
+use Rattle.formula.specs.Limits.{limit}
 use Rattle.refusals.specs.Refusal.{numberOf, placeOf}
 use Rattle.refusals.specs.Outcome.{outcomeOf}
 use Rattle.refusals.specs.declared.Counted.{Counted}
 use Rattle.storage.specs.Stored.{storedForm}
 use Rattle.entries.specs.Entries.{entries}
+use Rattle.entries.specs.Book.{zeros}
 use Rattle.lookup.specs.Outcome.{removeOf}
 use Rattle.book_change.specs.Written.{RemoveRight}
 use Rattle.wordbook.specs.Calls.{WordRefused, FormAt, EnteredFor, CallAnswers, word-refused, word-stored}
+use Rattle.wordbook.proofs.Stored.{form-fits, form-front}
 use Rattle.wordbook.proofs.remove.Statement.{statement}
 use Rattle.wordbook.proofs.remove.Tie as tie
 
 -- the word went on to the book
 form : (c : tie.After-known-told2) → let e = c .before .before .before .before in
-    FormAt (now (e .before .before .before .before .args .word)) (e .enter .last .1 .0) (c .before .count .given .0 .0)
+    FormAt (now (e .before .before .before .before .args .word)) (zeros limit) (e .enter .last .1 .0) (c .before .count .given .0 .0)
 form c =
     let e = c .before .before .before .before in
-    subst (λ (a : Counted). EnteredFor (now (e .before .before .before .before .args .word)) (e .enter .last .1 .0) (outcomeOf a)) (c .before .count .given .1)
+    subst (λ (a : Counted). EnteredFor (now (e .before .before .before .before .args .word)) (zeros limit) (e .enter .last .1 .0) (outcomeOf a)) (c .before .count .given .1)
     (e .enter .ensures)
 
 refused : (c : tie.After-known-told) → let e = c .before .before .before .before in
     WordRefused (now (e .before .before .before .before .args .word)) (numberOf (c .before .refusal .given .0 .0)) (placeOf (c .before .refusal .given .0 .0))
 refused c =
     let e = c .before .before .before .before in
-    subst (λ (a : Counted). EnteredFor (now (e .before .before .before .before .args .word)) (e .enter .last .1 .0) (outcomeOf a)) (c .before .refusal .given .1)
-    (e .enter .ensures)
+    subst (λ (a : Counted). EnteredFor (now (e .before .before .before .before .args .word)) (zeros limit) (e .enter .last .1 .0) (outcomeOf a)) (c .before .refusal .given .1)
+    (e .enter .ensures) .refused
 
 slice-aggregate-enter : tie.Need-slice-aggregate-enter
 slice-aggregate-enter c = search needs
@@ -45,10 +48,10 @@ enum-known-count : tie.Need-enum-known-count
 enum-known-count c = search needs
 
 array-share-prefix-values : tie.Need-array-share-prefix-values
-array-share-prefix-values c = form (c .before) .fits
+array-share-prefix-values c = form-fits (form (c .before))
 
 slice-aggregate-remove : tie.Need-slice-aggregate-remove
-slice-aggregate-remove c = sym (length-take-le _ _ (form (c .before .before) .fits))
+slice-aggregate-remove c = sym (length-take-le _ _ (form-fits (form (c .before .before))))
 
 remove-requires : tie.Need-remove-requires
 remove-requires c κs = search needs
@@ -66,7 +69,7 @@ returns-2 c =
     let h = form t in
     let outcome = outcomeOf (c .before .before .remove .result) in
     let r : RemoveRight (storedForm (now (s .word))) (now (s .book)) (c .before .before .remove .last .0) outcome =
-    subst (λ (w : List ℕ). RemoveRight w (now (s .book)) (c .before .before .remove .last .0) outcome) (h .front) (c .before .before .remove .ensures) in
+    subst (λ (w : List ℕ). RemoveRight w (now (s .book)) (c .before .before .remove .last .0) outcome) (form-front h) (c .before .before .remove .ensures) in
     record {
       answers = subst (CallAnswers (now (s .word)) (removeOf (entries (now (s .book))) (storedForm (now (s .word))))) (sym (r .answer)) (word-stored (h .stored));
       bytes = r .bytes;

@@ -1,6 +1,7 @@
 -- `wordbook::enter::enter` meets its contract: an empty word is refused, and any other is what the normaliser says of it.
 -- Assumes nothing.
 use borrow.Author.Needs.{needs}
+use mathlib.Core.Path.{refl}
 use native.Mathlib.Omega.{arith}
 use Rattle.refusals.specs.Outcome.{outcomeOf}
 use Rattle.wordbook.specs.Calls.{empty}
@@ -9,7 +10,7 @@ use Rattle.wordbook.proofs.enter.enter.Statement.{statement}
 use Rattle.wordbook.proofs.enter.enter.Tie as tie
 
 returns : tie.Need-returns
-returns c = empty (c .if1 .taken)
+returns c = record { refused = empty (c .if1 .taken); values = refl }
 
 normalise-requires : tie.Need-normalise-requires
 normalise-requires c κs = search needs
