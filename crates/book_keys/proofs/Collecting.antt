@@ -3,7 +3,7 @@
 use mathlib.Core.Path.{_≡_, refl, sym, ap, subst, _∙_}
 use mathlib.Core.Bool.{Bool, true, false}
 use mathlib.Core.List.{List, [], _∷_, _++_, map, append-nil}
-use Prim.Native.Nat.{ℕ, _+_, _*_, _≤_, _<_}
+use Prim.Native.Nat.{ℕ, suc, _+_, _*_, _≤_, _<_}
 use native.Mathlib.Omega.{arith}
 use borrow.Author.Tests.{eq-eqb, ne-eqb}
 use lib.Dec.{eqb}
@@ -13,12 +13,12 @@ use Rattle.memory.proofs.Stores.{sets-append, sets-there, sets-behind}
 use Rattle.letters.specs.Choice.{pick}
 use Rattle.recogniser.specs.Answer.{Readable}
 use Rattle.entries.specs.Entries.{Entry, wordAt}
-use Rattle.entries.specs.Map.{liveCount}
-use Rattle.entries.specs.Book.{endOf, IsBook, Opened}
+use Rattle.entries.specs.Map.{counted, liveCount}
+use Rattle.entries.specs.Book.{IsBook, Opened}
 use Rattle.entries.proofs.Agree.{only}
-use Rattle.entries.proofs.Walk.{Walk, walk-start, Turn, turn, walk-end, walk-seen, free-within}
-use Rattle.book_keys.specs.Filing.{rowOf, filedKey, keyRoom, mostLive, AllKeyed, liveOnes, startOf, withKeys, FiledRight}
-use Rattle.book_keys.proofs.Live.{liveStarts, live-count, here-readable, Spaced, spaced-of-book, keys-length, all-keyed}
+use Rattle.entries.proofs.Walk.{Walk, walk-start, Turn, turn, walk-seen}
+use Rattle.book_keys.specs.Filing.{rowOf, filedKey, keyRoom, AllKeyed, liveOnes, startOf, withKeys, HasRoom, FiledRight}
+use Rattle.book_keys.proofs.Live.{liveStarts, live-count, live-append, live-few, here-readable, Spaced, spaced-of-book, keys-length, all-keyed}
 
 -- at a place: the live records among those that are passed are filed
 pub record Collected (b : List ℕ) (free : ℕ) (keys-before starts-before keys starts : List ℕ) (live at : ℕ) : Type 0 where
@@ -27,7 +27,6 @@ pub record Collected (b : List ℕ) (free : ℕ) (keys-before starts-before keys
   pub rest : List Entry
   pub walk : Walk b at free list seen rest
   pub count : live ≡ length (liveStarts seen)
-  pub few : 8 * live ≤ at
   pub starts-are : starts ≡ sets starts-before 0 (liveStarts seen)
   pub keys-are : keys ≡ withKeys b keys-before (liveStarts seen)
 
@@ -40,7 +39,6 @@ collect-start b free keys starts o =
       rest = o .list;
       walk = walk-start b free o;
       count = refl;
-      few = omega arith;
       starts-are = refl;
       keys-are = refl;
     }
@@ -86,6 +84,9 @@ module _ (b : List ℕ) (free : ℕ) (keys-before starts-before keys starts : Li
   pub collect-room : length keys-before ≡ keyRoom → length keys ≡ keyRoom
   collect-room r = ap length (c .keys-are) ∙ keys-length b keys-before (liveStarts (c .seen)) ∙ r
 
+  pub collect-long : length starts ≡ length starts-before
+  collect-long = ap length (c .starts-are) ∙ length-sets starts-before 0 (liveStarts (c .seen))
+
   module _ (t : Turn b at free (c .list) (c .seen) (c .rest)) where
     pub turn-readable : Readable (wordAt b at)
     turn-readable = here-readable b at free (c .list) (c .seen) (t .entry) (t .behind) (t .stands)
@@ -98,12 +99,20 @@ module _ (b : List ℕ) (free : ℕ) (keys-before starts-before keys starts : Li
         ∙ ap (λ (x : Entry). liveStarts (c .seen) ++ pick (x .live) (x .start ∷ []) []) (sym (t .stands .is))
         ∙ ap (λ (u : Bool). liveStarts (c .seen) ++ pick u (at ∷ []) []) e
 
+    -- where it is live, there is room for its start
+    pub collect-fits : getD b (at + 1) 0 ≡ 0x57 → HasRoom b starts-before → live < length starts
+    collect-fits m room =
+        let here-live : t .entry .live ≡ true = ap (λ (x : Entry). x .live) (sym (t .stands .is)) ∙ eq-eqb (getD b (at + 1) 0) 0x57 m in
+        let ahead : liveCount (c .rest) ≡ suc (liveCount (t .behind)) =
+        ap liveCount (t .first) ∙ ap (λ (u : Bool). counted u (liveCount (t .behind))) here-live in
+        let passed-live : live ≡ liveCount (c .seen) = c .count ∙ length-map (liveOnes (c .seen)) startOf ∙ live-count (c .seen) in
+        omega (arith, room (c .list) (c .walk .is-book), ap liveCount (c .walk .whole), live-append (c .seen) (c .rest), collect-long)
+
     pub collect-live : getD b (at + 1) 0 ≡ 0x57 → (keys-after starts-after : List ℕ) → keys-after ≡ sets keys (5 * at) (filedKey (rowOf (wordAt b at)))
         → starts-after ≡ set starts live at
         → Collected b free keys-before starts-before keys-after starts-after (live + 1) (at + 7 + getD b (at + 2) 0)
     unfolding pick
     collect-live m keys-after starts-after p q =
-        let f = t .stands .frame in
         let e : liveStarts (c .seen ++ (t .entry ∷ [])) ≡ liveStarts (c .seen) ++ (at ∷ []) = passed true (eq-eqb (getD b (at + 1) 0) 0x57 m) in
         record {
           list = c .list;
@@ -111,7 +120,6 @@ module _ (b : List ℕ) (free : ℕ) (keys-before starts-before keys starts : Li
           rest = t .behind;
           walk = t .stands .next;
           count = omega (arith, c .count, ap length e, length-append (liveStarts (c .seen)) (at ∷ []));
-          few = omega (arith, c .few, f .some);
           starts-are =
               q ∙ (λ i. set (c .starts-are i) (c .count i) at) ∙ sym (starts-snoc starts-before (liveStarts (c .seen)) at)
               ∙ ap (sets starts-before 0) (sym e);
@@ -131,35 +139,34 @@ module _ (b : List ℕ) (free : ℕ) (keys-before starts-before keys starts : Li
           rest = t .behind;
           walk = t .stands .next;
           count = c .count ∙ ap length (sym e);
-          few = omega (arith, c .few);
           starts-are = c .starts-are ∙ ap (sets starts-before 0) (sym e);
           keys-are = c .keys-are ∙ ap (withKeys b keys-before) (sym e);
         }
 
   -- all are passed
-  pub collect-end : Opened b free → length keys-before ≡ keyRoom → length starts-before ≡ mostLive → free ≤ at
-      → FiledRight b keys-before starts-before keys starts live
-  collect-end o key-room start-room h =
+  pub collect-end : length keys-before ≡ keyRoom → HasRoom b starts-before → free ≤ at → FiledRight b keys-before starts-before keys starts live
+  collect-end key-room room h =
       let w = c .walk in
-      let ended : at ≡ free = sym (ap (endOf at) (walk-end b at free (c .list) (c .seen) (c .rest) w h)) ∙ w .end in
       let short = w .is-book .short in
-      let few : live ≤ mostLive = omega (arith, c .few, free-within b free o) in
       let place : 0 + length (liveStarts (c .seen)) ≡ live = omega (arith, c .count) in
-      let filed : take live starts ≡ liveStarts (c .seen) =
-      (λ i. take (c .count i) (c .starts-are i)) ∙ sets-there (liveStarts (c .seen)) starts-before 0 (omega (arith, c .count)) in
       let all : c .list ≡ c .seen = walk-seen b at free (c .list) (c .seen) (c .rest) w h in
       let others : (list : List Entry) → IsBook b list → c .seen ≡ list = λ list k. sym all ∙ only b (c .list) list (w .is-book) k in
+      let count : live ≡ liveCount (c .list) =
+      c .count ∙ length-map (liveOnes (c .seen)) startOf ∙ live-count (c .seen) ∙ ap liveCount (sym all) in
+      let fits : live ≤ length starts-before = omega (arith, count, room (c .list) (w .is-book)) in
+      let filed : take live starts ≡ liveStarts (c .seen) =
+      (λ i. take (c .count i) (c .starts-are i)) ∙ sets-there (liveStarts (c .seen)) starts-before 0 (omega (arith, c .count)) in
       record {
-        live = λ list k. c .count ∙ length-map (liveOnes (c .seen)) startOf ∙ live-count (c .seen) ∙ ap liveCount (others list k);
+        live = λ list k. count ∙ ap liveCount (only b (c .list) list (w .is-book) k);
         filed = λ list k. filed ∙ ap liveStarts (others list k);
         keyed =
             subst (AllKeyed b keys) (sym filed)
             (subst (λ (k : List ℕ). AllKeyed b k (liveStarts (c .seen))) (sym (c .keys-are))
             (all-keyed b keys-before 0 (liveStarts (c .seen)) short key-room
             (subst (λ (l : List Entry). Spaced b 0 (liveStarts l)) all (spaced-of-book b (c .list) (w .is-book)))));
-        few = few;
+        few = omega (arith, count, live-few b (c .list) (w .is-book));
         key-room = collect-room key-room;
-        start-room = ap length (c .starts-are) ∙ length-sets starts-before 0 (liveStarts (c .seen)) ∙ start-room;
+        start-room = omega (arith, fits, collect-long);
         other-starts =
             (λ i. drop (sym place i) (c .starts-are i)) ∙ sets-behind (liveStarts (c .seen)) starts-before 0 (omega (arith, c .count))
             ∙ ap (λ (n : ℕ). drop n starts-before) place;

@@ -15,13 +15,13 @@ use Rattle.letters.proofs.Tests.{of-true}
 use Rattle.recogniser.specs.Answer.{Readable}
 use Rattle.entries.specs.Limits.{bookLimit}
 use Rattle.entries.specs.Entries.{Entry, wordAt, entryAt, isFramed}
-use Rattle.entries.specs.Book.{endOf, IsBook}
+use Rattle.entries.specs.Book.{size, endOf, GoodAfter, IsBook}
 use Rattle.entries.specs.Map.{counted, liveCount}
 use Rattle.entries.specs.Rank.{insert, sortedOnto}
 use Rattle.entries.proofs.Ranked.{AllLive}
 use Rattle.entries.proofs.Records.{framed-true, framed-is}
-use Rattle.entries.proofs.Walk.{Walk, walk-start, Here, here}
-use Rattle.book_keys.specs.Filing.{rowOf, filedKey, keyRoom, HasKey, AllKeyed, liveOnes, startOf, withKeys}
+use Rattle.entries.proofs.Walk.{Walk, walk-start, Here, here, free-within}
+use Rattle.book_keys.specs.Filing.{rowOf, filedKey, keyRoom, mostLive, HasKey, AllKeyed, liveOnes, startOf, withKeys}
 use Rattle.book_keys.proofs.Rows.{key-within}
 
 abbrev pub liveStarts : List Entry → List ℕ
@@ -35,6 +35,30 @@ live-count (x ∷ list) = go (x .live) (live-count list)
     go : (t : Bool) → length (liveOnes list) ≡ liveCount list → length (pick t (x ∷ liveOnes list) (liveOnes list)) ≡ counted t (liveCount list)
     go true h = ap suc h
     go false h = h
+
+pub live-append : (seen rest : List Entry) → liveCount (seen ++ rest) ≡ liveCount seen + liveCount rest
+live-append [] rest = omega arith
+live-append (x ∷ seen) rest = go (x .live) (live-append seen rest)
+  where
+    go : (t : Bool) → liveCount (seen ++ rest) ≡ liveCount seen + liveCount rest
+        → counted t (liveCount (seen ++ rest)) ≡ counted t (liveCount seen) + liveCount rest
+    go true h = omega arith
+    go false h = h
+
+-- each live record takes at least eight bytes
+live-ends : (at : ℕ) (seen list : List Entry) → GoodAfter at seen list → at + 8 * liveCount list ≤ endOf at list
+live-ends at seen [] g = omega arith
+live-ends at seen (x ∷ list) g = go (x .live) (live-ends (at + size x) (seen ++ (x ∷ [])) list (g .3))
+  where
+    go : (t : Bool) → at + size x + 8 * liveCount list ≤ endOf (at + size x) list
+        → at + 8 * counted t (liveCount list) ≤ endOf (at + size x) list
+    go true h = omega (arith, g .1 .some)
+    go false h = omega arith
+
+-- so a book has no more of them than an eighth of its limit
+pub live-few : (b : List ℕ) (list : List Entry) → IsBook b list → liveCount list ≤ mostLive
+live-few b list k =
+    omega (arith, live-ends 0 [] list (k .good), free-within b (endOf 0 list) (record { list = list; is-book = k; end = refl }), k .short)
 
 pub live-all : (list : List Entry) → AllLive (liveOnes list)
 unfolding liveOnes pick

@@ -20,7 +20,7 @@ ghost use Rattle.weighing.specs.Keys.{usedBytes};
 ghost use Rattle.entries.specs.Limits.{bookLimit};
 ghost use Rattle.entries.specs.Entries.{wordAt, isFramed};
 ghost use Rattle.entries.specs.Book.{Opened};
-ghost use Rattle.book_keys.specs.Filing.{rowOf, filedKey, keyRoom, mostLive, FiledRight};
+ghost use Rattle.book_keys.specs.Filing.{rowOf, filedKey, keyRoom, HasRoom, FiledRight};
 
 // The bytes for the keys of a book: those of the record at a start stand from 5 times the start on.
 pub const KEY_ROOM: usize = 81920;
@@ -60,14 +60,14 @@ fn file_key(book: &[u8], at: usize, keys: &mut [u8])
     }
 }
 
-// Collects the starts of the live records, in their order, and files the key of each. Gives how many there are.
+// Collects the starts of the live records, in their order, at the front of `starts`, and files the key of each. Gives how many there are.
 pub fn file_records(
     book: &[u8],
     free: usize,
     keys: &mut [u8; KEY_ROOM],
-    starts: &mut [u16; MOST_LIVE],
+    starts: &mut [u16],
 ) -> usize
-    requires { ⌜ Opened (now book) free × (length (now keys) ≡ keyRoom) × (length (now starts) ≡ mostLive) ⌝ }
+    requires { ⌜ Opened (now book) free × (length (now keys) ≡ keyRoom) × HasRoom (now book) (now starts) ⌝ }
     ensures { λ r. ⌜ FiledRight (now (book .entry)) (now (keys .entry)) (now (starts .entry)) (now (keys .exit)) (now (starts .exit)) r ⌝ }
 {
     let mut live = 0;

@@ -1,29 +1,31 @@
--- What sorting the records and ranking answer, from what filing them and opening the buffer gave.
+-- What sorting the records, ranking and ordering them answer, from what filing them and opening the buffer gave.
 -- Assumes nothing.
-use mathlib.Core.Path.{_≡_, sym, ap, subst, _∙_}
+use mathlib.Core.Path.{_≡_, refl, sym, ap, subst, _∙_}
 use mathlib.Core.List.{List, _++_}
 use mathlib.Core.Option.{Option}
 use Prim.Native.Nat.{ℕ, _+_, _≤_, _<_}
 use native.Mathlib.Omega.{arith}
 use lib.Dec.{T}
-use lib.ListN.{length, getD, take, drop, length-append, length-drop, List·getD-append}
+use lib.ListN.{length, getD, take, drop, length-append, List·getD-append, take-append-drop}
 use lib.Seq.{length-take-le, take-at, drop-at}
-use Rattle.refusals.specs.Outcome.{refuses}
+use Rattle.refusals.specs.Outcome.{accepts, refuses}
+use Rattle.refusals.specs.Output.{put, too-short}
 use Rattle.entries.specs.Entries.{Entry, entryAt, isFramed, Entries, entries}
 use Rattle.entries.specs.Book.{Opened}
 use Rattle.entries.specs.Map.{liveCount}
 use Rattle.entries.proofs.Records.{framed-true}
-use Rattle.entries.proofs.Agree.{opened-is}
+use Rattle.entries.proofs.Agree.{only, opened-is}
 use Rattle.book_check.specs.Opening.{openingOf}
 use Rattle.book_check.specs.declared.open.Opening.the-variants.{Book}
 use Rattle.lookup.specs.Outcome.{finds}
-use Rattle.book_keys.specs.Filing.{AllKeyed, mostLive, FiledRight}
+use Rattle.book_keys.specs.Filing.{AllKeyed, HasRoom, FiledRight}
 use Rattle.book_keys.proofs.Live.{keyed-at}
 use Rattle.ranking.specs.Sorting.{inOrder, goesBefore, frontInOrder}
-use Rattle.ranking.specs.Rank.{rankOfEntry, rankOf, SortedRight}
+use Rattle.ranking.specs.Rank.{rankOfEntry, rankOf, startsInOrder, SortedRight}
+use Rattle.ranking.specs.Whole.{Holds, OrderRight}
 use Rattle.ranking.proofs.Merges.{length-in-order}
 use Rattle.ranking.proofs.Keyed.{keyed-in-order}
-use Rattle.ranking.proofs.InOrder.{starts-in-order, entry-there, none-there}
+use Rattle.ranking.proofs.InOrder.{starts-in-order, starts-count, entry-there, none-there}
 
 -- the starts that are filed, sorted at the front
 pub sorted-right : {bytes keys-before starts-before keys filed starts : List ℕ} {count : ℕ}
@@ -32,11 +34,8 @@ pub sorted-right : {bytes keys-before starts-before keys filed starts : List ℕ
 sorted-right {bytes} {keys-before} {starts-before} {keys} {filed} {starts} {count} f e =
     let less = goesBefore bytes in
     let front : List ℕ = inOrder less (take count filed) in
-    let fits : count ≤ length filed = omega (arith, f .few, f .start-room) in
-    let long : length front ≡ count = length-in-order less (take count filed) ∙ length-take-le count filed fits in
+    let long : length front ≡ count = length-in-order less (take count filed) ∙ length-take-le count filed (f .start-room) in
     let keyed : AllKeyed bytes keys front = keyed-in-order bytes keys less (take count filed) (f .keyed) in
-    let total : length (front ++ drop count filed) ≡ mostLive =
-    omega (arith, length-append front (drop count filed), long, length-drop count filed, f .start-room) in
     record {
       live = f .live;
       ordered = λ list k.
@@ -46,7 +45,7 @@ sorted-right {bytes} {keys-before} {starts-before} {keys} {filed} {starts} {coun
           (sym (ap (λ (l : List ℕ). getD l place 0) e ∙ List·getD-append front (drop count filed) 0 place (omega (arith, long))))
           (keyed-at bytes keys front place keyed (omega (arith, long)) .framed);
       few = f .few;
-      start-room = ap length e ∙ total;
+      start-room = omega (arith, ap length e, length-append front (drop count filed), long);
       other-starts = ap (drop count) e ∙ drop-at front (drop count filed) count long ∙ f .other-starts;
     }
 
@@ -71,8 +70,32 @@ module _ {bytes : List ℕ} {live free : ℕ} (o : Opened bytes free) (answer : 
         sym
         (ap (λ (e : Entries). rankOf e number) (opened-is bytes free o)
         ∙ ap (λ (x : Option Entry). rankOfEntry x (liveCount (o .list)))
-        (entry-there bytes (o .list) (o .is-book) number starts count (s .live (o .list) (o .is-book)) (omega (arith, s .few, s .start-room))
+        (entry-there bytes (o .list) (o .is-book) number starts count (s .live (o .list) (o .is-book)) (s .start-room)
         (s .ordered (o .list) (o .is-book)) (omega (arith, live-is))))
 
     pub start-within : getD starts number 0 + 7 ≤ length bytes
     start-within = let f = framed-true bytes (getD starts number 0) (s .framed number counted-below) in omega (arith, f .room)
+
+  -- the list has room for them, or it has not
+  pub live-fits : (starts : List ℕ) → live ≤ length starts → HasRoom bytes starts
+  live-fits starts h list k = omega (arith, live-is, ap liveCount (only bytes (o .list) list (o .is-book) k))
+
+  holds : Holds bytes (o .list)
+  holds = record { free = free; is = opened-is bytes free o }
+
+  in-order-count : length (startsInOrder (o .list)) ≡ live
+  in-order-count = starts-count bytes (o .list) (o .is-book) ∙ sym live-is
+
+  pub order-too-short : (starts : List ℕ) → length starts < live → OrderRight bytes starts starts (refuses 5 live)
+  order-too-short starts h =
+      subst (λ (n : ℕ). OrderRight bytes starts starts (refuses 5 n)) in-order-count
+      (too-short {thing = o .list} holds (omega (arith, in-order-count)) refl)
+
+  pub order-put : {starts-before starts : List ℕ} {count : ℕ} → SortedRight bytes starts-before starts count → live ≤ length starts-before
+      → OrderRight bytes starts-before starts (accepts count)
+  order-put {starts-before} {starts} {count} s h =
+      let long : length (startsInOrder (o .list)) ≡ count = in-order-count ∙ live-is ∙ sym (s .live (o .list) (o .is-book)) in
+      subst (λ (n : ℕ). OrderRight bytes starts-before starts (accepts n)) long
+      (put {thing = o .list} holds (omega (arith, in-order-count))
+      (sym (take-append-drop count starts) ∙ (λ i. s .ordered (o .list) (o .is-book) i ++ s .other-starts i)
+      ∙ ap (λ (n : ℕ). startsInOrder (o .list) ++ drop n starts-before) (sym long)))

@@ -19,6 +19,7 @@ use Rattle.entries.proofs.Ranked.{AllLive}
 use Rattle.book_keys.specs.Filing.{before, liveOnes, startOf}
 use Rattle.book_keys.proofs.Live.{live-count, entries-back, live-all, sorted-live}
 use Rattle.ranking.specs.Sorting.{inOrderOnto, inOrder, goesBefore}
+use Rattle.ranking.specs.Rank.{startsInOrder}
 use Rattle.ranking.proofs.Merges.{length-in-order}
 
 map-insert : (bytes : List ℕ) (s : ℕ) (l : List ℕ)
@@ -55,17 +56,17 @@ module _ (bytes : List ℕ) (list : List Entry) (k : IsBook bytes list) where
       map-onto bytes [] (map startOf (liveOnes list)) (subst AllLive (sym (entries-back bytes list k)) (live-all list))
       ∙ ap (sortedOnto before []) (entries-back bytes list k) ∙ sorted-live before [] list
 
-  pub starts-in-order : inOrder (goesBefore bytes) (map startOf (liveOnes list)) ≡ map startOf (sorted before list)
+  pub starts-in-order : inOrder (goesBefore bytes) (map startOf (liveOnes list)) ≡ startsInOrder list
   starts-in-order = sym (starts-back bytes (inOrder (goesBefore bytes) (map startOf (liveOnes list)))) ∙ ap (map startOf) entries-in-order
 
   -- each entry in order is the one that is read at its start
-  pub sorted-read : map (entryAt bytes) (map startOf (sorted before list)) ≡ sorted before list
+  pub sorted-read : map (entryAt bytes) (startsInOrder list) ≡ sorted before list
   sorted-read = ap (map (entryAt bytes)) (sym starts-in-order) ∙ entries-in-order
 
   pub read-there : (r : ℕ) → entryAt bytes (startOf (getD (sorted before list) r (entryAt bytes 0))) ≡ getD (sorted before list) r (entryAt bytes 0)
   read-there r =
       ap (entryAt bytes) (sym (List·getD-map startOf (sorted before list) r (entryAt bytes 0)))
-      ∙ sym (List·getD-map (entryAt bytes) (map startOf (sorted before list)) r 0)
+      ∙ sym (List·getD-map (entryAt bytes) (startsInOrder list) r 0)
       ∙ ap (λ (l : List Entry). getD l r (entryAt bytes 0)) sorted-read
 
   -- as many are in order as are live
@@ -73,6 +74,10 @@ module _ (bytes : List ℕ) (list : List Entry) (k : IsBook bytes list) where
   sorted-length =
       sym (length-map (sorted before list) startOf) ∙ ap length (sym starts-in-order)
       ∙ length-in-order (goesBefore bytes) (map startOf (liveOnes list)) ∙ length-map (liveOnes list) startOf ∙ live-count list
+
+  -- and so many starts
+  pub starts-count : length (startsInOrder list) ≡ liveCount list
+  starts-count = length-map (sorted before list) startOf ∙ sorted-length
 
 at-map : (f : ℕ → Entry) (l : List ℕ) (n : ℕ) → n < length l → getElem? (map f l) n ≡ some (f (getD l n 0))
 at-map f [] n h = absurd (not-suc-le-zero h)
@@ -87,7 +92,7 @@ past-end (x ∷ l) (suc n) h = past-end l n (le-of-suc-le-suc h)
 module _ (bytes : List ℕ) (list : List Entry) (k : IsBook bytes list) (number : ℕ) where
   -- the entry at a number below the live count is read at the start there
   pub entry-there : (starts : List ℕ) (count : ℕ) → count ≡ liveCount list → count ≤ length starts
-      → take count starts ≡ map startOf (sorted before list) → number < liveCount list
+      → take count starts ≡ startsInOrder list → number < liveCount list
       → getElem? (sorted before list) number ≡ some (entryAt bytes (getD starts number 0))
   entry-there starts count c fits e h =
       let long : length (take count starts) ≡ count = length-take-le count starts fits in

@@ -24,13 +24,17 @@ abbrev pub rankOf : Entries → ℕ → Outcome
 rankOf (book list free) number = rankOfEntry (getElem? (sorted before list) number) (liveCount list)
 rankOf (wrong place) number = refuses 11 place
 
+-- the starts of the live records, in word order
+abbrev pub startsInOrder : List Entry → List ℕ
+startsInOrder list = map startOf (sorted before list)
+
 -- the promise of `sort_records`: the starts of the live records in word order, at the front; all behind them stays
 pub record SortedRight (bytes starts-before starts : List ℕ) (count : ℕ) : Type 0 where
   pub live : (list : List Entry) → IsBook bytes list → count ≡ liveCount list
-  pub ordered : (list : List Entry) → IsBook bytes list → take count starts ≡ map startOf (sorted before list)
+  pub ordered : (list : List Entry) → IsBook bytes list → take count starts ≡ startsInOrder list
   pub framed : (place : ℕ) → place < count → T (isFramed bytes (getD starts place 0))
   pub few : count ≤ mostLive
-  pub start-room : length starts ≡ mostLive
+  pub start-room : count ≤ length starts
   pub other-starts : drop count starts ≡ drop count starts-before
 
 -- the entry is one of the list

@@ -1,4 +1,4 @@
-// The live records of a book in word order, and the one with so many before it.
+// The live records of a book in word order: all of them, and the one with so many before it.
 use book_check::open::Opening;
 use book_check::open::open_book;
 use book_keys::keys::KEY_ROOM;
@@ -7,22 +7,24 @@ use book_keys::keys::file_records;
 use lookup::look::stock_at;
 use lookup::plan::Found;
 use memory::casts::place_of;
+use refusals::Counted;
 use refusals::Refusal;
 ghost use mathlib.Core.Path.{_≡_};
-ghost use lib.ListN.{length};
+ghost use Rattle.refusals.specs.Outcome.{outcomeOf};
 ghost use Rattle.entries.specs.Entries.{entries};
 ghost use Rattle.entries.specs.Book.{Opened};
 ghost use Rattle.lookup.specs.Outcome.{foundOutcome};
-ghost use Rattle.book_keys.specs.Filing.{mostLive};
+ghost use Rattle.book_keys.specs.Filing.{HasRoom};
 ghost use Rattle.ranking.specs.Rank.{rankOf, SortedRight};
+ghost use Rattle.ranking.specs.Whole.{OrderRight};
 
 mod merging; // merging.rt: a merge sort of starts
 
 use crate::merging::sort_front;
 
 // Puts the starts of the live records of a book, in word order, at the front of `starts`. Gives how many there are.
-pub fn sort_records(book: &[u8], free: usize, starts: &mut [u16; MOST_LIVE]) -> usize
-    requires { ⌜ Opened (now book) free × (length (now starts) ≡ mostLive) ⌝ }
+pub fn sort_records(book: &[u8], free: usize, starts: &mut [u16]) -> usize
+    requires { ⌜ Opened (now book) free × HasRoom (now book) (now starts) ⌝ }
     ensures { λ r. ⌜ SortedRight (now (book .entry)) (now (starts .entry)) (now (starts .exit)) r ⌝ }
 {
     let mut keys = [0u8; KEY_ROOM];
@@ -47,6 +49,21 @@ pub fn rank(book: &[u8], number: usize) -> Found
             let start = place_of(starts[number]);
             let stock = stock_at(book, start);
             Found::Entry { start, stock }
+        }
+    }
+}
+
+// Puts the starts of all live records, in word order, at the front of `starts`, where there is room for them, and tells how many.
+pub fn order_records(book: &[u8], starts: &mut [u16]) -> Counted
+    ensures { λ r. ⌜ OrderRight (now (book .entry)) (now (starts .entry)) (now (starts .exit)) (outcomeOf r) ⌝ }
+{
+    match open_book(book) {
+        Opening::Wrong(place) => Counted::Refused(Refusal::NotABook(place)),
+        Opening::Book { live, free } => {
+            if starts.len() < live {
+                return Counted::Refused(Refusal::OutputTooShort(live));
+            }
+            Counted::Count(sort_records(book, free, starts))
         }
     }
 }

@@ -1,13 +1,16 @@
 -- `ranking::rank` meets its contract: the record at `number` of those in word order, or the live count where there is none.
 -- Assumes nothing.
-use mathlib.Core.Path.{_≡_, refl, sym, ap, subst, _∙_}
+use mathlib.Core.Path.{_≡_, sym, ap, subst, _∙_}
 use Prim.Native.Nat.{ℕ, _<_}
 use native.Mathlib.Omega.{arith}
+use lib.ListN.{length-replicate}
 use denote.Ref.{now}
 use Rattle.entries.specs.Entries.{Entries, entryAt, entries}
 use Rattle.book_check.specs.Opening.{openingOf, Says}
 use Rattle.book_check.specs.declared.open.Opening.{Opening}
 use Rattle.lookup.specs.Outcome.{finds}
+use Rattle.book_keys.specs.Filing.{mostLive}
+use Rattle.book_keys.proofs.Live.{live-few}
 use Rattle.ranking.specs.Rank.{rankOf}
 use Rattle.ranking.proofs.Answers.{too-high, counted-below, found-there, start-within}
 use borrow.Author.Needs.{needs}
@@ -38,8 +41,14 @@ returns c =
     let g = c .before .before .live .given .1 in
     too-high (says o _ g) (answered o _ g) (o .before .before .args .number) (omega (arith, c .if1 .taken))
 
+slice-aggregate-sort-records : tie.Need-slice-aggregate-sort-records
+slice-aggregate-sort-records c = search needs
+
 sort-records-requires : tie.Need-sort-records-requires
-sort-records-requires c κs = (says (c .before .before .before .before .before) _ (c .before .before .before .live .given .1), refl)
+sort-records-requires c κs = (
+  says (c .before .before .before .before .before) _ (c .before .before .before .live .given .1),
+  λ list k. omega (arith, live-few _ list k, length-replicate {A = ℕ} mostLive 0),
+)
 
 -- the number is below the live count
 within : (c : tie.After-sort-records) → c .before .before .before .before .before .before .before .before .args .number < c .sort-records .result
@@ -49,21 +58,22 @@ within c =
     counted-below (says o _ g) (answered o _ g) (c .sort-records .ensures) (o .before .before .args .number) (c .before .before .if1 .left)
 
 mul-place-of : tie.Need-mul-place-of
-mul-place-of c = omega (arith, within c, c .sort-records .ensures .few)
+mul-place-of c = omega (arith, within (c .before), c .before .sort-records .ensures .few)
 
 array-read-place-of : tie.Need-array-read-place-of
-array-read-place-of c = omega (arith, within c, c .sort-records .ensures .few)
+array-read-place-of c = omega (arith, within (c .before), c .before .sort-records .ensures .few)
 
 place-of-requires : tie.Need-place-of-requires
 place-of-requires c κs = search needs
 
 stock-at-requires : tie.Need-stock-at-requires
 stock-at-requires c κs =
-    let o = c .before .before .before .before .before .before .before in
-    let g = c .before .before .before .before .before .live .given .1 in
+    let r = c .before .before in
+    let o = r .before .before .before .before .before .before in
+    let g = r .before .before .before .before .live .given .1 in
     let t = says o _ g in
-    let s = c .before .sort-records .ensures in
-    let h = c .before .before .before .if1 .left in
+    let s = r .sort-records .ensures in
+    let h = r .before .before .if1 .left in
     (t .is-book .short, rw (c .place-of .ensures) (start-within t (answered o _ g) s (o .before .before .args .number) h))
 
 returns-2 : tie.Need-returns-2
@@ -73,13 +83,13 @@ returns-2 c =
 
 returns-3 : tie.Need-returns-3
 returns-3 c =
-    let o = c .before .before .before .before .before .before .before .before in
-    let g = c .before .before .before .before .before .before .live .given .1 in
+    let r = c .before .before .before in
+    let o = r .before .before .before .before .before .before in
+    let g = r .before .before .before .before .live .given .1 in
     let a = o .before .before .args in
     let place = c .before .place-of .ensures in
     let stock = c .stock-at .ensures ∙ ap (λ (s : ℕ). entryAt (now (a .book)) s .stock) place in
-    (λ i. finds (place i) (stock i))
-    ∙ found-there (says o _ g) (answered o _ g) (c .before .before .sort-records .ensures) (a .number) (c .before .before .before .before .if1 .left)
+    (λ i. finds (place i) (stock i)) ∙ found-there (says o _ g) (answered o _ g) (r .sort-records .ensures) (a .number) (r .before .before .if1 .left)
 
 pub rank-spec : {M : Type 1} → statement M
 rank-spec =
@@ -89,6 +99,7 @@ rank-spec =
     enum-known-place
     enum-known-live
     returns
+    slice-aggregate-sort-records
     sort-records-requires
     mul-place-of
     array-read-place-of

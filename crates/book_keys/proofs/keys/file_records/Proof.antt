@@ -6,12 +6,12 @@ use mathlib.Core.Logic.{⊎-elim}
 use mathlib.Core.List.{List}
 use Prim.Native.Nat.{ℕ, _+_, _-_, _<_}
 use native.Mathlib.Omega.{arith}
-use lib.ListN.{getD, set}
+use lib.ListN.{length, getD, set}
 use denote.Ref.{now}
 use Rattle.entries.proofs.Records.{framed-is}
 use Rattle.entries.proofs.Walk.{Turn}
 use Rattle.book_frame.proofs.Marks.{mark-met, mark-missed}
-use Rattle.book_keys.proofs.Collecting.{Collected, collect-start, collect-as, at-record, collect-room, turn-readable}
+use Rattle.book_keys.proofs.Collecting.{Collected, collect-start, collect-as, at-record, collect-room, collect-long, turn-readable, collect-fits}
 use Rattle.book_keys.proofs.Collecting.{collect-live, collect-removed, collect-end}
 use Rattle.book_keys.proofs.keys.file_records.Statement.{statement}
 use Rattle.book_keys.proofs.keys.file_records.Tie as tie
@@ -22,22 +22,30 @@ Inv-loop book free keys₀ starts₀ live₀ at₀ t7 keys starts live at = Coll
 abbrev μ-loop : tie.MeasureT-loop
 μ-loop book free keys₀ starts₀ live₀ at₀ t7 keys starts live at = free - at
 
+abbrev start-of : tie.At-loop Inv-loop μ-loop → tie.Start Inv-loop μ-loop
+start-of a = a .before .before .before
+
 -- the buffer, at the loop's test
 abbrev bytes : tie.At-loop Inv-loop μ-loop → List ℕ
-bytes a = now (a .before .before .args .book)
+bytes a = now (start-of a .args .book)
 
 at-turn : (c : tie.In-loop Inv-loop μ-loop) → let a = c .before in
-    Turn (bytes a) (a .loop .at) (a .before .before .args .free) (a .loop .inv .list) (a .loop .inv .seen) (a .loop .inv .rest)
+    Turn (bytes a) (a .loop .at) (start-of a .args .free) (a .loop .inv .list) (a .loop .inv .seen) (a .loop .inv .rest)
 at-turn c = at-record _ _ _ _ _ _ _ _ (c .before .loop .inv) (c .loop-test .taken)
 
 low : (c : tie.In-loop Inv-loop μ-loop) → c .before .loop .at < 16377
 low c = let f = at-turn c .stands .frame in omega (arith, f .room, f .some, c .before .loop .inv .walk .is-book .short)
 
-few : (c : tie.In-loop Inv-loop μ-loop) → c .before .loop .live < 2048
-few c = let l = low c in omega (arith, c .before .loop .inv .few)
+-- there is room for the start of a live record
+fits : (c : tie.Then1 Inv-loop μ-loop) → let a = c .before .before .before .before in a .loop .live < length (a .loop .starts)
+fits c =
+    let l = c .before .before .before in
+    let a = l .before in
+    let live = mark-met (getD (bytes a) (a .loop .at) 0) _ 0x4D 0x57 _ (c .before .has-mark .ensures) (c .if1 .taken) .1 in
+    collect-fits _ _ _ _ _ _ _ _ (a .loop .inv) (at-turn l) live (start-of a .pre .2)
 
 loop-holds : tie.Need-loop-holds Inv-loop μ-loop
-loop-holds c = collect-start _ _ _ _ (c .before .pre .0)
+loop-holds c = collect-start _ _ _ _ (c .before .before .pre .0)
 
 has-mark-requires : tie.Need-has-mark-requires Inv-loop μ-loop
 has-mark-requires c κs = let f = at-turn (c .before) .stands .frame in omega (arith, f .room)
@@ -48,7 +56,7 @@ file-key-requires c κs =
     let i = l .before .loop .inv in
     let t = at-turn l in (
       i .walk .is-book .short,
-      collect-room _ _ _ _ _ _ _ _ i (l .before .before .before .pre .1),
+      collect-room _ _ _ _ _ _ _ _ i (start-of (l .before) .pre .1),
       framed-is _ _ (t .stands .frame),
       turn-readable _ _ _ _ _ _ _ _ i t,
     )
@@ -57,13 +65,17 @@ start-of-requires : tie.Need-start-of-requires Inv-loop μ-loop
 start-of-requires c κs = let l = low (c .before .before .before .before .before) in omega arith
 
 mul-starts : tie.Need-mul-starts Inv-loop μ-loop
-mul-starts c = let l = few (c .before .before .before .before .before .before) in omega arith
+mul-starts c =
+    let l = fits (c .before .before .before) in
+    omega (arith, collect-long _ _ _ _ _ _ _ _ (c .before .before .before .before .before .before .before .loop .inv))
 
-element-write-starts : tie.Need-element-write-starts Inv-loop μ-loop
-element-write-starts c = let l = few (c .before .before .before .before .before .before) in omega arith
+slice-write-starts : tie.Need-slice-write-starts Inv-loop μ-loop
+slice-write-starts c = fits (c .before .before .before)
 
 add-live : tie.Need-add-live Inv-loop μ-loop
-add-live c = let l = few (c .before .before .before .before .before .before) in omega arith
+add-live c =
+    let l = fits (c .before .before .before) in
+    omega (arith, collect-long _ _ _ _ _ _ _ _ (c .before .before .before .before .before .before .before .loop .inv))
 
 add-wide : tie.Need-add-wide Inv-loop μ-loop
 add-wide c = let l = low (c .before .before .before) in omega arith
@@ -88,7 +100,6 @@ loop-again c =
     let m = c .before .before .before in
     let a = c .before .before .before .before .before .before in
     let l = a .loop in
-    let s = a .before .before in
     let t = at-turn (c .before .before .before .before .before) in
     let e : l .at + (7 + c .wide .result) ≡ l .at + 7 + getD (bytes a) (l .at + 2) 0 = omega (arith, c .wide .ensures .0) in
     ⊎-elim
@@ -101,11 +112,14 @@ loop-again c =
     (λ live. mark-missed (getD (bytes a) (l .at) 0) _ 0x4D 0x57 _ (m .has-mark .ensures) (w .0 .left) (t .stands .frame .first) live)))
     (c .before .before .if1 .came)
 
+same-length : tie.Need-same-length Inv-loop μ-loop
+same-length c = collect-long _ _ _ _ _ _ _ _ (c .before .loop .inv)
+
 returns : tie.Need-returns Inv-loop μ-loop
 returns c =
-    let s = c .before .before .before in
+    let s = start-of (c .before) in
     let l = c .before .loop in
-    collect-end _ _ _ _ _ _ (l .live) (l .at) (l .inv) (s .pre .0) (s .pre .1) (s .pre .2) (c .loop-test .left)
+    collect-end _ _ _ _ _ _ (l .live) (l .at) (l .inv) (s .pre .1) (s .pre .2) (c .loop-test .left)
 
 pub file-records-spec : {M : Type 1} → statement M
 file-records-spec =
@@ -118,7 +132,7 @@ file-records-spec =
     file-key-requires
     start-of-requires
     mul-starts
-    element-write-starts
+    slice-write-starts
     add-live
     add-wide
     shared-slice-read-wide
@@ -127,4 +141,5 @@ file-records-spec =
     add-at-2
     loop-less
     loop-again
+    same-length
     returns)
