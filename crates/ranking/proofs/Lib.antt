@@ -6,3 +6,4 @@ pub mod Halves
 pub mod InOrder
 pub mod Answers
 pub mod Laws
+pub mod Whole
