@@ -11,6 +11,7 @@ ghost use Rattle.storage.specs.Stored.{storedForm};
 ghost use Rattle.entries.specs.Entries.{entries};
 ghost use Rattle.lookup.specs.Outcome.{foundOutcome, checkOf, findOf};
 ghost use Rattle.ranking.specs.Rank.{rankOf};
+ghost use Rattle.ranking.specs.Whole.{OrderRight};
 ghost use Rattle.wordbook.specs.Calls.{CallAnswers, AddPromise, RemovePromise};
 
 mod enter; // enter.rt: the word that is handed in with a book
@@ -65,4 +66,11 @@ pub fn rank(book: &[u8], number: usize) -> Found
     ensures { λ r. ⌜ foundOutcome r ≡ rankOf (entries (now (book .entry))) number ⌝ }
 {
     ranking::rank(book, number)
+}
+
+// Puts the starts of all live records, in word order, at the front of `starts`, and tells how many there are.
+pub fn order(book: &[u8], starts: &mut [u16]) -> Counted
+    ensures { λ r. ⌜ OrderRight (now (book .entry)) (now (starts .entry)) (now (starts .exit)) (outcomeOf r) ⌝ }
+{
+    ranking::order_records(book, starts)
 }
