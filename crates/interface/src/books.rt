@@ -3,6 +3,7 @@ ghost use mathlib.Core.Path.{_≡_};
 ghost use Rattle.entries.specs.Entries.{entries};
 ghost use Rattle.lookup.specs.Outcome.{checkOf};
 ghost use Rattle.ranking.specs.Rank.{rankOf};
+ghost use Rattle.ranking.specs.Whole.{OrderRight};
 ghost use Rattle.wordbook.specs.Calls.{AddPromise, RemovePromise};
 ghost use Rattle.packing.specs.Packing.{pack, Packed};
 ghost use Rattle.packing.specs.Answers.{outcomeNumbers, FindAnswers};
@@ -45,4 +46,12 @@ pub extern "C" fn jogcairn_book_rank(book: &[u8], rank: usize) -> u64
     ensures { λ r. ⌜ r ≡ pack (outcomeNumbers (rankOf (entries (now (book .entry))) rank)) ⌝ }
 {
     packing::of_found(wordbook::rank(book, rank))
+}
+
+// Writes the starts of all live records, in word order.
+#[no_mangle]
+pub extern "C" fn jogcairn_book_order(book: &[u8], starts: &mut [u16]) -> u64
+    ensures { λ r. ⌜ Packed (OrderRight (now (book .entry)) (now (starts .entry)) (now (starts .exit))) outcomeNumbers r ⌝ }
+{
+    packing::of_counted(wordbook::order(book, starts))
 }

@@ -24,12 +24,14 @@ use Rattle.entries.proofs.Records.{framed-true, length-record, end-length}
 use Rattle.entries.proofs.Agree.{Sound, sound}
 use Rattle.lookup.specs.Outcome.{checkOf, findOfEntry, findOf, removeOfEntry, removeOf, addOfEntry, addOf}
 use Rattle.book_change.proofs.Laws.{Bytes}
-use Rattle.ranking.specs.Rank.{rankOf, Among}
+use Rattle.ranking.specs.Rank.{startsInOrder, rankOf, Among}
+use Rattle.ranking.specs.Whole.{NotABook, not-a-book, Holds, OrderRight}
+use Rattle.ranking.proofs.InOrder.{starts-count}
 use Rattle.ranking.proofs.Laws.{rank-below, rank-too-high, rank-of-no-book}
 use Rattle.wordbook.specs.Calls.{WordRefused, empty, refused, CallAnswers, word-refused, word-stored, AddPromise, RemovePromise}
 use Rattle.packing.specs.Packing.{Fits}
 use Rattle.packing.specs.Answers.{outcomeNumbers, FindAnswers}
-use Rattle.packing.proofs.WordFits.{small-fits, store-refused-small}
+use Rattle.packing.proofs.WordFits.{small-fits, store-refused-small, writes-fits}
 
 -- the first wrong place is at most n
 abbrev Bounded : ℕ → Entries → Type 0
@@ -115,10 +117,14 @@ live-near (x ∷ es) =
     let few = live-few (x .live) (liveCount es) (length (records es)) (live-near es) in
     omega (arith, length-append (recordBytes x) (records es), length-record x)
 
+-- a book has no more live records than bytes
+live-within : (bytes : List ℕ) (es : List Entry) → IsBook bytes es → liveCount es ≤ bookLimit
+live-within bytes es is = omega (arith, live-near es, book-end bytes es is, end-length 0 es)
+
 module _ (bytes word : List ℕ) where
   check-by : (e : Entries) → Bounded bookLimit e → Sound bytes e → Fits (outcomeNumbers (checkOf e))
   check-by (book es free) b s =
-      record { tag = omega arith; second = omega arith; first = omega (arith, live-near es, book-end bytes es (s .0), end-length 0 es) }
+      record { tag = omega arith; second = omega arith; first = omega (arith, live-within bytes es (s .0)) }
   check-by (wrong place) b s = record { tag = omega arith; second = omega arith; first = omega arith }
 
   wrong-fits : (place : ℕ) → place ≤ bookLimit → Fits (outcomeNumbers (refuses 11 place))
@@ -189,12 +195,23 @@ module _ (bytes : List ℕ) (small : Bytes bytes) where
           (record { tag = omega arith; second = omega (arith, book-end bytes es (s .0)); first = p .stock })
       go (no h) =
           subst (λ (o : Outcome). Fits (outcomeNumbers o)) (sym (rank-too-high bytes es (s .0) number (omega arith)))
-          (record { tag = omega arith; second = omega arith; first = omega (arith, live-near es, book-end bytes es (s .0), end-length 0 es) })
+          (record { tag = omega arith; second = omega arith; first = omega (arith, live-within bytes es (s .0)) })
   rank-by number (wrong place) e b s =
       subst (λ (o : Outcome). Fits (outcomeNumbers o)) (sym (rank-of-no-book bytes place number e)) (wrong-fits bytes [] place b)
 
   pub rank-fits : (number : ℕ) → Fits (outcomeNumbers (rankOf (entries bytes) number))
   rank-fits number = rank-by number (entries bytes) refl (bounded bytes) (sound bytes small)
+
+  not-a-book-fits : (number place : ℕ) → NotABook bytes number place → Fits (outcomeNumbers (refuses number place))
+  not-a-book-fits number place (not-a-book e) = wrong-fits bytes [] place (subst (Bounded bookLimit) e (bounded bytes))
+
+  pub order-fits : (before after : List ℕ) (o : Outcome) → OrderRight bytes before after o → Fits (outcomeNumbers o)
+  order-fits =
+      writes-fits (NotABook bytes) (Holds bytes) startsInOrder (λ list. length (startsInOrder list)) not-a-book-fits
+      (λ list h.
+      let is = subst (Sound bytes) (h .is) (sound bytes small) .0 in
+      let few : length (startsInOrder list) < 0x100000000 = omega (arith, starts-count bytes list is, live-within bytes list is) in
+      (few, few))
 
   pub find-fits : (word : List ℕ) (o : Outcome) → FindAnswers bytes word o → Fits (outcomeNumbers o)
   find-fits word o c = call-fits word _ o (find-by bytes (storedForm word) (entries bytes) (bounded bytes) (sound bytes small)) c
