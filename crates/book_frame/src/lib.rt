@@ -4,7 +4,7 @@ use memory::casts::wide;
 use recogniser::walk::is_row;
 ghost use mathlib.Core.Path.{_≡_};
 ghost use mathlib.Core.Bool.{_&&_};
-ghost use mathlib.Core.List.{map};
+ghost use mathlib.Core.List.{_++_, map};
 ghost use Prim.Native.Nat.{_+_, _≤_, _<_};
 ghost use lib.Dec.{eqb};
 ghost use lib.ListN.{length, getD, take, drop};
@@ -57,17 +57,25 @@ fn is_framed(book: &[u8], at: usize) -> bool
     true
 }
 
+// Puts the values of `count` bytes, from a place on, at the front of `output`.
+pub fn copy_values(book: &[u8], from: usize, count: usize, output: &mut [u16])
+    requires { ⌜ (from + count ≤ length (now book)) × (count ≤ length (now output)) ⌝ }
+    ensures { λ _. ⌜ now (output .exit) ≡ map valueOf (take count (drop from (now (book .entry)))) ++ drop count (now (output .entry)) ⌝ }
+{
+    let mut next = 0;
+    while next < count {
+        output[next] = value_of(book[from + next]);
+        next += 1;
+    }
+}
+
 // The values of some bytes.
 pub fn values_of(book: &[u8], from: usize, count: usize) -> [u16; Word::LIMIT]
     requires { ⌜ (count ≤ limit) × (from + count ≤ length (now book)) ⌝ }
     ensures { λ r. ⌜ (take count r ≡ map valueOf (take count (drop from (now (book .entry))))) × (length r ≡ limit) ⌝ }
 {
     let mut values = [0u16; Word::LIMIT];
-    let mut next = 0;
-    while next < count {
-        values[next] = value_of(book[from + next]);
-        next += 1;
-    }
+    copy_values(book, from, count, &mut values);
     values
 }
 

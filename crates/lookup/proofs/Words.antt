@@ -1,38 +1,29 @@
 -- A word and its bytes in the buffer, compared value by value.
 -- Assumes nothing.
-use mathlib.Core.Path.{_≡_, refl, sym, ap, subst, _∙_}
+use mathlib.Core.Path.{_≡_, sym, ap, subst, _∙_}
 use mathlib.Core.Bool.{true, false}
-use mathlib.Core.List.{List, [], _∷_, map}
-use Prim.Native.Nat.{ℕ, zero, suc, _+_, _≤_, _<_}
+use mathlib.Core.List.{List, map}
+use Prim.Native.Nat.{ℕ, _+_, _≤_, _<_}
 use native.Mathlib.Omega.{arith}
-use native.Mathlib.Nat.{le-of-suc-le-suc}
 use lib.Dec.{T}
-use lib.ListN.{length, getD, length-map}
+use lib.ListN.{length, getD}
 use lib.Seq.{ext-getD}
 use Rattle.letters.proofs.Tests.{is-true, is-false}
 use Rattle.formula.proofs.Lists.{sameList, sameList-equal}
 use Rattle.entries.specs.Entries.{valueOf}
 use Rattle.entries.proofs.Tests.{sameList-refl}
-use Rattle.book_frame.proofs.Parts.{part, part-length, part-at}
-
-map-at : (l : List ℕ) (k : ℕ) → k < length l → getD (map valueOf l) k 0 ≡ valueOf (getD l k 0)
-map-at [] k h = let z : ⊥ = omega arith in absurd z
-map-at (x ∷ l) zero h = refl
-map-at (x ∷ l) (suc k) h = map-at l k (le-of-suc-le-suc h)
-
-word-at : (b : List ℕ) (from n k : ℕ) → from + n ≤ length b → k < n → getD (map valueOf (part b from n)) k 0 ≡ valueOf (getD b (from + k) 0)
-word-at b from n k h l = map-at (part b from n) k (omega (arith, part-length b from n h)) ∙ ap valueOf (part-at b from n k l)
+use Rattle.book_frame.proofs.Parts.{part, length-values, value-at}
 
 pub word-same : (b w : List ℕ) (from : ℕ) → from + length w ≤ length b → ((k : ℕ) → k < length w → valueOf (getD b (from + k) 0) ≡ getD w k 0)
     → sameList (map valueOf (part b from (length w))) w ≡ true
 word-same b w from h f =
-    let n : length (map valueOf (part b from (length w))) ≡ length w = length-map (part b from (length w)) valueOf ∙ part-length b from (length w) h in
+    let n : length (map valueOf (part b from (length w))) ≡ length w = length-values b from (length w) h in
     let e : map valueOf (part b from (length w)) ≡ w =
-    ext-getD 0 (map valueOf (part b from (length w))) w n (λ i k. let g : i < length w = omega arith in word-at b from (length w) i h g ∙ f i g) in
+    ext-getD 0 (map valueOf (part b from (length w))) w n (λ i k. let g : i < length w = omega arith in value-at b from (length w) i h g ∙ f i g) in
     is-true (sameList (map valueOf (part b from (length w))) w) (subst (λ (l : List ℕ). T (sameList (map valueOf (part b from (length w))) l)) e (sameList-refl (map valueOf (part b from (length w)))))
 
 pub word-differs : (b w : List ℕ) (from k : ℕ) → from + length w ≤ length b → k < length w → (valueOf (getD b (from + k) 0) ≡ getD w k 0 → ⊥)
     → sameList (map valueOf (part b from (length w))) w ≡ false
 word-differs b w from k h l f =
     is-false (sameList (map valueOf (part b from (length w))) w)
-    (λ t. f (sym (word-at b from (length w) k h l) ∙ ap (λ (m : List ℕ). getD m k 0) (sameList-equal (map valueOf (part b from (length w))) w t)))
+    (λ t. f (sym (value-at b from (length w) k h l) ∙ ap (λ (m : List ℕ). getD m k 0) (sameList-equal (map valueOf (part b from (length w))) w t)))
