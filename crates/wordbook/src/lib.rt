@@ -1,6 +1,7 @@
 // The word book: the calls on a book in a lent buffer, for every buffer and every word.
 use book_check::open::Opening;
 use book_check::open::open_book;
+use book_word::RecordWord;
 use formula::Word;
 use lookup::plan::Found;
 use refusals::Counted;
@@ -12,6 +13,7 @@ ghost use Rattle.entries.specs.Entries.{entries};
 ghost use Rattle.lookup.specs.Outcome.{foundOutcome, checkOf, findOf};
 ghost use Rattle.ranking.specs.Rank.{rankOf};
 ghost use Rattle.ranking.specs.Whole.{OrderRight};
+ghost use Rattle.book_word.specs.WordAt.{WordRight};
 ghost use Rattle.wordbook.specs.Calls.{CallAnswers, AddPromise, RemovePromise};
 
 mod enter; // enter.rt: the word that is handed in with a book
@@ -73,4 +75,11 @@ pub fn order(book: &[u8], starts: &mut [u16]) -> Counted
     ensures { λ r. ⌜ OrderRight (now (book .entry)) (now (starts .entry)) (now (starts .exit)) (outcomeOf r) ⌝ }
 {
     ranking::order_records(book, starts)
+}
+
+// Writes the word of the record that starts at `start` to the front of `output`, and tells of the record.
+pub fn word_at(book: &[u8], start: usize, output: &mut [u16]) -> RecordWord
+    ensures { λ r. ⌜ WordRight (now (book .entry)) start (now (output .entry)) (now (output .exit)) r ⌝ }
+{
+    book_word::word_at(book, start, output)
 }
