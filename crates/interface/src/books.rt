@@ -4,9 +4,10 @@ ghost use Rattle.entries.specs.Entries.{entries};
 ghost use Rattle.lookup.specs.Outcome.{checkOf};
 ghost use Rattle.ranking.specs.Rank.{rankOf};
 ghost use Rattle.ranking.specs.Whole.{OrderRight};
+ghost use Rattle.book_word.specs.WordAt.{WordRight};
 ghost use Rattle.wordbook.specs.Calls.{AddPromise, RemovePromise};
 ghost use Rattle.packing.specs.Packing.{pack, Packed};
-ghost use Rattle.packing.specs.Answers.{outcomeNumbers, FindAnswers};
+ghost use Rattle.packing.specs.Answers.{outcomeNumbers, recordWordNumbers, FindAnswers};
 
 // Whether the buffer is a book.
 #[no_mangle]
@@ -54,4 +55,12 @@ pub extern "C" fn jogcairn_book_order(book: &[u8], starts: &mut [u16]) -> u64
     ensures { λ r. ⌜ Packed (OrderRight (now (book .entry)) (now (starts .entry)) (now (starts .exit))) outcomeNumbers r ⌝ }
 {
     packing::of_counted(wordbook::order(book, starts))
+}
+
+// Writes the word of the record that starts at `start`, and tells its stock number, its length and whether it is live.
+#[no_mangle]
+pub extern "C" fn jogcairn_book_word(book: &[u8], start: usize, word: &mut [u16]) -> u64
+    ensures { λ r. ⌜ Packed (WordRight (now (book .entry)) start (now (word .entry)) (now (word .exit))) recordWordNumbers r ⌝ }
+{
+    packing::of_record_word(wordbook::word_at(book, start, word))
 }

@@ -14,11 +14,13 @@ use lib.ListN.{length, getD, drop, length-append, length-drop}
 use Rattle.letters.specs.Choice.{pick}
 use Rattle.letters.proofs.Tests.{is-true}
 use Rattle.formula.proofs.Lists.{sameList, both-left}
+use Rattle.formula.specs.Limits.{limit}
 use Rattle.refusals.specs.Outcome.{Outcome, accepts, refuses}
+use Rattle.refusals.specs.declared.Refusal.the-variants.{OutputTooShort}
 use Rattle.storage.specs.Stored.{storedForm}
 use Rattle.entries.specs.Limits.{bookLimit}
 use Rattle.entries.specs.Entries.{Entry, entryAt, isFramed, mayFollow, Entries, book, wrong, zeroTail, entriesFrom, entries}
-use Rattle.entries.specs.Book.{zeros, recordBytes, records, size, endOf, GoodAfter, IsBook}
+use Rattle.entries.specs.Book.{zeros, recordBytes, records, size, endOf, GoodEntry, GoodAfter, IsBook}
 use Rattle.entries.specs.Map.{lookup, counted, liveCount}
 use Rattle.entries.proofs.Records.{framed-true, length-record, end-length}
 use Rattle.entries.proofs.Agree.{Sound, sound}
@@ -28,9 +30,12 @@ use Rattle.ranking.specs.Rank.{startsInOrder, rankOf, Among}
 use Rattle.ranking.specs.Whole.{NotABook, not-a-book, Holds, OrderRight}
 use Rattle.ranking.proofs.InOrder.{starts-count}
 use Rattle.ranking.proofs.Laws.{rank-below, rank-too-high, rank-of-no-book}
+use Rattle.book_word.specs.WordAt.{entryStarting, wordOfEntry, wordOfRecord, WordRight}
+use Rattle.book_word.specs.declared.RecordWord.{RecordWord}
+use Rattle.book_word.specs.declared.RecordWord.the-variants.{Live, Removed, Refused}
 use Rattle.wordbook.specs.Calls.{WordRefused, empty, refused, CallAnswers, word-refused, word-stored, AddPromise, RemovePromise}
 use Rattle.packing.specs.Packing.{Fits}
-use Rattle.packing.specs.Answers.{outcomeNumbers, FindAnswers}
+use Rattle.packing.specs.Answers.{outcomeNumbers, FindAnswers, recordWordNumbers}
 use Rattle.packing.proofs.WordFits.{small-fits, store-refused-small, writes-fits}
 
 -- the first wrong place is at most n
@@ -97,6 +102,16 @@ looked at seen (x ∷ es) word entry g e = go (x .live && sameList (x .word) wor
         let same : x ≡ entry = cc in
         subst (λ (y : Entry). Placed y (endOf (at + size x) es)) same
         (record { before = omega (arith, g .0, end-length (at + size x) es); stock = g .1 .stock })
+    go false later f = later f
+
+-- the entry that starts at a place can be held
+started : (at : ℕ) (seen es : List Entry) (start : ℕ) (entry : Entry) → GoodAfter at seen es → entryStarting es start ≡ some entry → GoodEntry entry
+unfolding entryStarting pick
+started at seen [] start entry g e = let z : _≡_ {A = ℕ} 0 1 = cc in let y : ⊥ = omega arith in absurd y
+started at seen (x ∷ es) start entry g e = go (eqb (x .start) start) (started (at + size x) (seen ++ (x ∷ [])) es start entry (g .3)) e
+  where
+    go : (t : Bool) → (entryStarting es start ≡ some entry → GoodEntry entry) → pick t (some x) (entryStarting es start) ≡ some entry → GoodEntry entry
+    go true later f = let same : x ≡ entry = cc in subst GoodEntry same (g .1)
     go false later f = later f
 
 -- the same for an entry of the list
@@ -171,6 +186,20 @@ module _ (bytes word : List ℕ) where
   add-by room (book es free) b s = add-entry es free room (s .0) (s .1) (lookup es word) refl
   add-by room (wrong place) b s = wrong-fits place b
 
+-- what is told of an entry that can be held: its stock number has four bytes, and its word is no longer than a word may be
+told-fits : (room : ℕ) (entry : Entry) → GoodEntry entry → Fits (recordWordNumbers (wordOfEntry (some entry) room))
+unfolding pick
+told-fits room entry good = go (leb (length (entry .word)) room) (entry .live)
+  where
+    few : length (entry .word) ≤ limit
+    few = good .readable .admissible .short
+
+    go : (fits live : Bool)
+        → Fits (recordWordNumbers (pick fits (pick live (Live (entry .stock) (length (entry .word))) (Removed (entry .stock) (length (entry .word)))) (Refused (OutputTooShort (length (entry .word))))))
+    go true true = record { tag = omega arith; second = omega (arith, few); first = good .stock }
+    go true false = record { tag = omega arith; second = omega (arith, few); first = good .stock }
+    go false live = record { tag = omega arith; second = omega arith; first = omega (arith, few) }
+
 word-fits : (word : List ℕ) (number place : ℕ) → WordRefused word number place → Fits (outcomeNumbers (refuses number place))
 word-fits word number place (empty e) = record { tag = omega arith; second = omega arith; first = omega arith }
 word-fits word number place (refused h r) = small-fits number 0 place (omega arith) (store-refused-small word number place r)
@@ -212,6 +241,20 @@ module _ (bytes : List ℕ) (small : Bytes bytes) where
       let is = subst (Sound bytes) (h .is) (sound bytes small) .0 in
       let few : length (startsInOrder list) < 0x100000000 = omega (arith, starts-count bytes list is, live-within bytes list is) in
       (few, few))
+
+  record-by : (start room : ℕ) (e : Entries) → Bounded bookLimit e → Sound bytes e → Fits (recordWordNumbers (wordOfRecord e start room))
+  record-by start room (book es free) b s = go (entryStarting es start) refl
+    where
+      go : (o : Option Entry) → entryStarting es start ≡ o → Fits (recordWordNumbers (wordOfEntry o room))
+      go none e = record { tag = omega arith; second = omega arith; first = omega arith }
+      go (some entry) e = told-fits room entry (started 0 [] es start entry (s .0 .good) e)
+  record-by start room (wrong place) b s = wrong-fits bytes [] place b
+
+  pub record-word-fits : (start : ℕ) (before after : List ℕ) (answer : RecordWord) → WordRight bytes start before after answer
+      → Fits (recordWordNumbers answer)
+  record-word-fits start before after answer right =
+      subst (λ (a : RecordWord). Fits (recordWordNumbers a)) (sym (right .told))
+      (record-by start (length before) (entries bytes) (bounded bytes) (sound bytes small))
 
   pub find-fits : (word : List ℕ) (o : Outcome) → FindAnswers bytes word o → Fits (outcomeNumbers o)
   find-fits word o c = call-fits word _ o (find-by bytes (storedForm word) (entries bytes) (bounded bytes) (sound bytes small)) c

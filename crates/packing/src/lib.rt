@@ -1,4 +1,5 @@
 // Answers as one number of 64 bits each, for callers in other languages.
+use book_word::RecordWord;
 use collation::compare::Compared;
 use formula::Word;
 use lookup::plan::Found;
@@ -18,6 +19,7 @@ ghost use Rattle.spelling.specs.Spell.{spellOutcomeOf};
 ghost use Rattle.collation.specs.Comparison.{compareOutcomeOf};
 ghost use Rattle.entries.specs.Entries.{number};
 ghost use Rattle.lookup.specs.Outcome.{foundOutcome};
+ghost use Rattle.book_word.specs.WordAt.{recordWordOutcome};
 ghost use Rattle.packing.specs.Packing.{answer, pack};
 ghost use Rattle.packing.specs.Answers.{outcomeNumbers, bytesNumbers, givenNumbers, compareNumbers};
 
@@ -124,5 +126,21 @@ pub fn of_found(answer: Found) -> u64
     match answer {
         Found::Entry { start, stock } => packed(0, start as u64, stock as u64),
         Found::Refused(refusal) => refused(refusal, 0),
+    }
+}
+
+// The stock number of a record, and how many values its word has, with 256 more where it is live; or that no record starts there.
+pub fn of_record_word(answer: RecordWord) -> u64
+    ensures { λ r. ⌜ r ≡ pack (outcomeNumbers (recordWordOutcome answer)) ⌝ }
+{
+    match answer {
+        RecordWord::Live { stock, count } => packed(
+            0,
+            count as u64 % 0x100_0000 + 256,
+            stock as u64,
+        ),
+        RecordWord::Removed { stock, count } => packed(0, count as u64, stock as u64),
+        RecordWord::NoRecord => packed(128, 0, 0),
+        RecordWord::Refused(refusal) => refused(refusal, 0),
     }
 }
