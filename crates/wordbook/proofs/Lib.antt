@@ -1,3 +1,4 @@
 pub mod Stored
 pub mod Laws
 pub mod Determined
+pub mod Words

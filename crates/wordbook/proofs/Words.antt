@@ -1,0 +1,176 @@
+-- The word of a record, by the promises of the calls alone: only one answer is right; each entry of a book is told at its own start, since no two
+-- start at one place; so the record that find gives is live and has the word, and after remove it has the same word and is removed.
+-- Assumes nothing.
+use mathlib.Core.Path.{_≡_, refl, sym, ap, subst, _∙_}
+use mathlib.Core.Bool.{Bool, true, false, _&&_}
+use mathlib.Core.Logic.{inl, inr}
+use mathlib.Core.List.{List, [], _∷_, _++_}
+use mathlib.Core.Option.{Option, none, some, Option·none-ne-some}
+use Prim.Native.Nat.{ℕ, _+_, _≤_, _<_}
+use native.Mathlib.Omega.{arith}
+use borrow.Author.Tests.{eq-eqb, ne-eqb, le-leb}
+use lib.Dec.{T, eqb, leb}
+use lib.ListN.{length, getD, drop}
+use Rattle.letters.specs.Choice.{pick}
+use Rattle.letters.proofs.Tests.{is-true, of-true, both-left, both-right, pick-true, pick-false}
+use Rattle.formula.proofs.Lists.{sameList, sameList-equal}
+use Rattle.refusals.specs.Outcome.{Outcome, accepts}
+use Rattle.storage.specs.Stored.{storedForm}
+use Rattle.entries.specs.Entries.{Entry, Entries, book, wrong, entries}
+use Rattle.entries.specs.Book.{size, GoodAfter, IsBook}
+use Rattle.entries.specs.Map.{lookup, removed, without}
+use Rattle.entries.proofs.Agree.{Sound, sound, complete}
+use Rattle.lookup.specs.Outcome.{finds, findOfEntry, findOf}
+use Rattle.book_change.proofs.Laws.{Bytes}
+use Rattle.ranking.specs.Rank.{Among}
+use Rattle.ranking.specs.Whole.{OrderRight}
+use Rattle.ranking.proofs.Whole.{order-only}
+use Rattle.book_word.specs.WordAt.{entryStarting, entryTold, wordOfEntry, wordOfRecord, outputOfEntry, outputOfRecord, WordRight}
+use Rattle.book_word.specs.declared.RecordWord.{RecordWord}
+use Rattle.book_word.specs.declared.RecordWord.the-variants.{Live, Removed}
+use Rattle.wordbook.specs.Calls.{CallAnswers, word-refused, word-stored, RemovePromise}
+use Rattle.wordbook.proofs.Laws.{remove-makes-book}
+
+-- one answer only, with one output
+pub word-determined : (bytes : List ℕ) (start : ℕ) (before after final : List ℕ) (first second : RecordWord) → WordRight bytes start before after first
+    → WordRight bytes start before final second → (first ≡ second) × (after ≡ final)
+word-determined bytes start before after final first second p q = (p .told ∙ sym (q .told), p .output ∙ sym (q .output))
+
+-- what is told where there is room: all of an entry, and its word at the front of the output
+abbrev pub TellsEntry : Entry → List ℕ → List ℕ → RecordWord → Type 0
+TellsEntry entry before after answer = (answer ≡ entryTold entry) × (after ≡ entry .word ++ drop (length (entry .word)) before)
+
+-- no entry starts before the place from which they are written on
+starts-behind : (at : ℕ) (seen list : List Entry) → GoodAfter at seen list → (e : Entry) → Among e list → at ≤ e .start
+starts-behind at seen [] g e m = absurd m
+starts-behind at seen (x ∷ list) g e (inl p) = omega (arith, g .0, ap (λ (y : Entry). y .start) p)
+starts-behind at seen (x ∷ list) g e (inr m) = omega (arith, starts-behind (at + size x) (seen ++ (x ∷ [])) list (g .3) e m)
+
+-- so an entry is the one that starts at its own start
+starting-own : (at : ℕ) (seen list : List Entry) → GoodAfter at seen list → (e : Entry) → Among e list → entryStarting list (e .start) ≡ some e
+unfolding entryStarting
+starting-own at seen [] g e m = absurd m
+starting-own at seen (x ∷ list) g e (inl p) =
+    pick-true (eqb (x .start) (e .start)) _ _ (eq-eqb (x .start) (e .start) (ap (λ (y : Entry). y .start) (sym p))) ∙ ap some (sym p)
+starting-own at seen (x ∷ list) g e (inr m) =
+    let later = starts-behind (at + size x) (seen ++ (x ∷ [])) list (g .3) e m in
+    pick-false (eqb (x .start) (e .start)) _ _ (ne-eqb (x .start) (e .start) (λ q. let z : ⊥ = omega (arith, g .0) in z))
+    ∙ starting-own (at + size x) (seen ++ (x ∷ [])) list (g .3) e m
+
+module _ (bytes : List ℕ) (list : List Entry) (k : IsBook bytes list) (e : Entry) (m : Among e list) (start : ℕ) (own : e .start ≡ start)
+    (before after : List ℕ) (answer : RecordWord) (p : WordRight bytes start before after answer) (room : length (e .word) ≤ length before) where
+  starting : entryStarting list start ≡ some e
+  starting = ap (entryStarting list) (sym own) ∙ starting-own 0 [] list (k .good) e m
+
+  -- each entry of a book is told at its own start
+  pub entry-told : TellsEntry e before after answer
+  entry-told =
+      let fits = le-leb (length (e .word)) (length before) room in (
+        p .told ∙ ap (λ (x : Entries). wordOfRecord x start (length before)) (complete bytes list k)
+            ∙ ap (λ (o : Option Entry). wordOfEntry o (length before)) starting ∙ pick-true (leb (length (e .word)) (length before)) _ _ fits,
+        p .output ∙ ap (λ (x : Entries). outputOfRecord x start before) (complete bytes list k)
+            ∙ ap (λ (o : Option Entry). outputOfEntry o before) starting ∙ pick-true (leb (length (e .word)) (length before)) _ _ fits,
+      )
+
+-- the entry that a word looks up is one of the list, live, and has the word
+found-among : (list : List Entry) (w : List ℕ) (e : Entry) → lookup list w ≡ some e → Among e list × T (e .live) × (e .word ≡ w)
+unfolding lookup pick
+found-among [] w e = λ q. absurd (Option·none-ne-some e q)
+found-among (x ∷ list) w e = go (x .live && sameList (x .word) w) refl (found-among list w e)
+  where
+    go : (t : Bool) → x .live && sameList (x .word) w ≡ t → (lookup list w ≡ some e → Among e list × T (e .live) × (e .word ≡ w))
+        → pick t (some x) (lookup list w) ≡ some e → Among e (x ∷ list) × T (e .live) × (e .word ≡ w)
+    go true q f r =
+        let same : x ≡ e = cc in
+        let t : T (x .live && sameList (x .word) w) = of-true (x .live && sameList (x .word) w) q in (
+          inl (sym same),
+          subst (λ (y : Entry). T (y .live)) same (both-left (x .live) _ t),
+          ap (λ (y : Entry). y .word) (sym same) ∙ sameList-equal (x .word) w (both-right (x .live) _ t),
+        )
+    go false q f r = let h = f r in (inr (h .0), h .1, h .2)
+
+-- and it is among those with the word removed, as removed
+removed-among : (list : List Entry) (w : List ℕ) (e : Entry) → lookup list w ≡ some e → Among (removed e) (without list w)
+unfolding lookup without pick
+removed-among [] w e = λ q. absurd (Option·none-ne-some e q)
+removed-among (x ∷ list) w e = go (x .live && sameList (x .word) w) (removed-among list w e)
+  where
+    go : (t : Bool) → (lookup list w ≡ some e → Among (removed e) (without list w)) → pick t (some x) (lookup list w) ≡ some e
+        → Among (removed e) (pick t (removed x) x ∷ without list w)
+    go true f r = let same : x ≡ e = cc in inl (ap removed (sym same))
+    go false f r = inr (f r)
+
+-- the entry that find gives
+record FoundEntry (bytes w : List ℕ) (start stock : ℕ) : Type 0 where
+  pub list : List Entry
+  pub is-book : IsBook bytes list
+  pub entry : Entry
+  pub found : lookup list w ≡ some entry
+  pub start-is : entry .start ≡ start
+  pub stock-is : entry .stock ≡ stock
+
+found-entry : (bytes w : List ℕ) (start stock : ℕ) → Bytes bytes → finds start stock ≡ findOf (entries bytes) w → FoundEntry bytes w start stock
+found-entry bytes w start stock small = go (entries bytes) (sound bytes small)
+  where
+    found-in : (list : List Entry) → IsBook bytes list → (o : Option Entry) → lookup list w ≡ o → finds start stock ≡ findOfEntry o
+        → FoundEntry bytes w start stock
+    found-in list k none l e = let z : _≡_ {A = ℕ} 0 1 = cc in let y : ⊥ = omega arith in absurd y
+    found-in list k (some x) l e = record { list = list; is-book = k; entry = x; found = l; start-is = cc; stock-is = cc }
+
+    go : (x : Entries) → Sound bytes x → finds start stock ≡ findOf x w → FoundEntry bytes w start stock
+    go (wrong p) s e = let z : _≡_ {A = ℕ} 0 1 = cc in let y : ⊥ = omega arith in absurd y
+    go (book list free) s e = found-in list (s .0) (lookup list w) refl e
+
+-- a call that gives a record was answered by the book
+book-answered : (word : List ℕ) (answer outcome : Outcome) (start stock : ℕ) → outcome ≡ finds start stock → CallAnswers word answer outcome
+    → finds start stock ≡ answer
+book-answered word answer outcome start stock e (word-refused r) = let z : _≡_ {A = ℕ} 0 1 = cc in let y : ⊥ = omega arith in absurd y
+book-answered word answer outcome start stock e (word-stored s) = sym e
+
+module _ (word bytes : List ℕ) (start stock : ℕ) (small : Bytes bytes)
+    (c : CallAnswers word (findOf (entries bytes) (storedForm word)) (finds start stock)) where
+  given : FoundEntry bytes (storedForm word) start stock
+  given = found-entry bytes (storedForm word) start stock small (book-answered word _ (finds start stock) start stock refl c)
+
+  word-is : given .entry .word ≡ storedForm word
+  word-is = found-among (given .list) (storedForm word) (given .entry) (given .found) .2
+
+  -- the record that find gives is live, and has the stored form of the word and the stock number that find gives
+  pub word-of-found : (before after : List ℕ) (answer : RecordWord) → WordRight bytes start before after answer → length (storedForm word) ≤ length before
+      → (answer ≡ Live stock (length (storedForm word))) × (after ≡ storedForm word ++ drop (length (storedForm word)) before)
+  word-of-found before after answer p room =
+      let g = given in
+      let a = found-among (g .list) (storedForm word) (g .entry) (g .found) in
+      let t = entry-told bytes (g .list) (g .is-book) (g .entry) (a .0) start (g .start-is) before after answer p (omega (arith, ap length word-is)) in (
+        t .0 ∙ pick-true (g .entry .live) _ _ (is-true (g .entry .live) (a .1)) ∙ (λ i. Live (g .stock-is i) (length (word-is i))),
+        t .1 ∙ ap (λ (w : List ℕ). w ++ drop (length w) before) word-is,
+      )
+
+  -- and after remove it has the same word and the same stock number, and is removed
+  pub word-after-remove : (final : List ℕ) → RemovePromise word bytes final (accepts start)
+      → (before after : List ℕ) (answer : RecordWord) → WordRight final start before after answer → length (storedForm word) ≤ length before
+      → (answer ≡ Removed stock (length (storedForm word))) × (after ≡ storedForm word ++ drop (length (storedForm word)) before)
+  word-after-remove final r before after answer p room =
+      let g = given in
+      let made = remove-makes-book word bytes final start small r in
+      let e : book (made .list) (made .free) ≡ book (g .list) _ = sym (made .was) ∙ complete bytes (g .list) (g .is-book) in
+      let same : made .list ≡ g .list = cc in
+      let k : IsBook final (without (g .list) (storedForm word)) = subst (λ (l : List Entry). IsBook final (without l (storedForm word))) same (made .is-book) in
+      let m = removed-among (g .list) (storedForm word) (g .entry) (g .found) in
+      let t = entry-told final _ k (removed (g .entry)) m start (g .start-is) before after answer p (omega (arith, ap length word-is)) in (
+        t .0 ∙ pick-false false _ _ refl ∙ (λ i. Removed (g .stock-is i) (length (word-is i))),
+        t .1 ∙ ap (λ (w : List ℕ). w ++ drop (length w) before) word-is,
+      )
+
+-- with the order of a book, each live entry is told, from the start at its place of the list
+module _ (bytes : List ℕ) (list : List Entry) (k : IsBook bytes list) (lent starts : List ℕ) (count : ℕ) (o : OrderRight bytes lent starts (accepts count)) where
+  pub order-told : (place : ℕ) → place < count → (e : Entry) × Among e list × T (e .live)
+      × ((before after : List ℕ) (answer : RecordWord) → WordRight bytes (getD starts place 0) before after answer → length (e .word) ≤ length before
+      → TellsEntry e before after answer)
+  order-told place h =
+      let r = order-only bytes list k lent starts count o place h in (
+        r .0,
+        r .1,
+        r .2,
+        λ before after answer p room. entry-told bytes list k (r .0) (r .1) (getD starts place 0) (r .3) before after answer p room,
+      )
