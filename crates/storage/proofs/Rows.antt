@@ -1,6 +1,6 @@
--- A row of syllables is stored as it is: each piece of a syllable is written in storage order, and a 1025 carries nothing, so that a head or nothing follows it.
+-- A row of syllables is stored as it is: each piece of a syllable is written in storage order, and a 1025 carries no marks, so that none of the values which would change it follows.
 -- Assumes nothing.
-use mathlib.Core.Path.{_≡_, refl, sym, subst}
+use mathlib.Core.Path.{_≡_, refl, sym, ap, subst, _∙_}
 use mathlib.Core.Bool.{Bool, true, false, _&&_}
 use mathlib.Core.List.{List, [], _∷_, _++_, append-assoc}
 use Prim.Native.Nat.{ℕ, _≤_}
@@ -14,14 +14,14 @@ use Rattle.letters.proofs.Picks.{or-no}
 use Rattle.letters.proofs.Tests.{or-left, or-second, is-true}
 use Rattle.formula.proofs.Lists.{both-left, both-right}
 use Rattle.formula.proofs.Pieces.{each-vowel, each-medial}
-use Rattle.formula.specs.Syllable.{Final, no-final, plain, stacked, kinzi, great-sa, syllable, carriesMarks, carriesFinal, isNoMedial, isNoVowel, isNoFinal, isNoTone, isFinal, finalText, headText}
+use Rattle.formula.specs.Syllable.{Final, no-final, plain, stacked, kinzi, great-sa, syllable, carriesMarks, isNoMedial, isNoVowel, isFinal, finalText, headText}
 use Rattle.formula.specs.Row.{Row, isRowAfter, IsRow, joinAfter, join, Gives}
-use Rattle.rows.proofs.Sound.{Parts, apart, no-medial-text, no-vowel-text, no-final-text, no-tone-text}
+use Rattle.rows.proofs.Sound.{Parts, apart, no-medial-text, no-vowel-text}
 use Rattle.rows.proofs.Complete.{final-consonant, first}
 use Rattle.rows.proofs.Begin.{on-head}
 use Rattle.storage.specs.Stored.{isRunMark, rank, storedForm}
 use Rattle.storage.specs.Putting.{firstRank}
-use Rattle.storage.proofs.Ranks.{is-false, no-mark, no-mark-rank, behind-apart}
+use Rattle.storage.proofs.Ranks.{is-false, no-mark, no-mark-rank, behind-none, behind-apart}
 use Rattle.storage.proofs.Composing.{same-before}
 use Rattle.storage.proofs.Settled.{Stands, StandsBefore, Settled, quiet-before, mark-stands, settled-stored}
 
@@ -112,43 +112,64 @@ great-sa-after x =
     let same = same-before x 0x103F refl refl in
     record { in-order = behind-apart x 0x103F refl; no-vowel = same .0; no-letter = same .1 }
 
--- what a syllable has after its head, before the next one
+-- what a syllable has after its head
+abbrev carried : MedialGroup → Vowel → Final → ToneMark → List ℕ
+carried m v f t = medialText m ++ (vowelText v ++ (finalText f ++ toneText t))
+
+-- before the next one
 marks-above : (m : MedialGroup) (v : Vowel) (f : Final) (t : ToneMark) (rest : List ℕ) → T (isFinal f) → Above 16 rest
-    → Above 0 ((medialText m ++ (vowelText v ++ (finalText f ++ toneText t))) ++ rest)
+    → Above 0 (carried m v f t ++ rest)
 marks-above m v f t rest i a =
     let tone : Above 14 (toneText t ++ rest) = piece-above 14 (toneText t) 16 rest (tone-climbs t) a in
     let final : Above 14 (finalText f ++ (toneText t ++ rest)) = final-above f (toneText t ++ rest) i tone in
     let vowel : Above 4 (vowelText v ++ (finalText f ++ (toneText t ++ rest))) = piece-above 4 (vowelText v) 14 _ (vowel-climbs v) final in
     simp append-assoc (piece-above 0 (medialText m) 4 _ (medial-climbs m) vowel)
 
--- a head that is no C has nothing after it
-bare-head : (h : ℕ) (m : MedialGroup) (v : Vowel) (f : Final) (t : ToneMark) → Parts h m v f t → isConsonant h ≡ false
-    → medialText m ++ (vowelText v ++ (finalText f ++ toneText t)) ≡ []
-unfolding carriesMarks carriesFinal
-bare-head h m v f t p e =
-    let marks : T (isNoMedial m && isNoVowel v) = or-second (isConsonant h) (isNoMedial m && isNoVowel v) e (p .marks) in
-    let closing : T (isNoFinal f && isNoTone t) = or-second (isConsonant h) (isNoFinal f && isNoTone t) e (p .closing) in
-    rw (
-      no-medial-text m (both-left (isNoMedial m) (isNoVowel v) marks),
-      no-vowel-text v (both-right (isNoMedial m) (isNoVowel v) marks),
-      no-final-text f (both-left (isNoFinal f) (isNoTone t) closing),
-      no-tone-text t (both-right (isNoFinal f) (isNoTone t) closing),
-    )
+-- a head that carries no marks has neither a medial group nor a vowel after it
+unmarked : (h : ℕ) (m : MedialGroup) (v : Vowel) (f : Final) (t : ToneMark) → Parts h m v f t → carriesMarks h ≡ false
+    → carried m v f t ≡ finalText f ++ toneText t
+unmarked h m v f t p e =
+    let marks : T (isNoMedial m && isNoVowel v) = or-second (carriesMarks h) (isNoMedial m && isNoVowel v) e (p .marks) in
+    rw (no-medial-text m (both-left (isNoMedial m) (isNoVowel v) marks), no-vowel-text v (both-right (isNoMedial m) (isNoVowel v) marks))
+
+-- a head stands before the letter of a final and before a tone: neither is 102E, 103A or 1039
+tone-before : (x : ℕ) (t : ToneMark) (rest : List ℕ) → isRunMark x ≡ false → StandsBefore x rest → StandsBefore x (toneText t ++ rest)
+tone-before x no-tone rest n after = after
+tone-before x dot rest n after =
+    let same = same-before x 0x1037 refl refl in
+    record { in-order = behind-none x 0x1037 n; no-vowel = same .0; no-letter = same .1 }
+tone-before x visarga rest n after =
+    let same = same-before x 0x1038 refl refl in
+    record { in-order = behind-none x 0x1038 n; no-vowel = same .0; no-letter = same .1 }
+
+closing-before : (x : ℕ) (f : Final) (t : ToneMark) (rest : List ℕ) → T (isFinal f) → isRunMark x ≡ false → StandsBefore x rest
+    → StandsBefore x ((finalText f ++ toneText t) ++ rest)
+closing-before x no-final t rest i n after = tone-before x t rest n after
+closing-before x (plain c) t rest i n after = before-head x c (or-left (isConsonant c) _ (final-consonant c i))
+closing-before x (stacked c) t rest i n after = before-head x c (or-left (isConsonant c) _ (final-consonant c (both-left (isFinalLetter c) _ i)))
+closing-before x kinzi t rest i n after = before-head x 0x1004 tt
+closing-before x great-sa t rest i n after = tone-before x t rest n after
+
+-- 1025 carries no marks, so a head that does stands before any value
+marked-quiet : (h : ℕ) → carriesMarks h ≡ true → eqb h 0x1025 ≡ false
+unfolding carriesMarks
+marked-quiet h e = is-false (eqb h 0x1025) (not-T (eqb h 0x1025) (λ u. subst T (sym e ∙ ap carriesMarks (eqb→eq h 0x1025 u)) tt))
 
 -- a row, and any value before it
 record RowAbove (values : List ℕ) : Type 0 where
   above : Above 16 values
   after : (x : ℕ) → StandsBefore x values
 
-head-before : (f : Final) (h : ℕ) (carried rest : List ℕ) → T (isHead h) → (isConsonant h ≡ false → carried ≡ [])
-    → ((x : ℕ) → StandsBefore x rest) → StandsBefore (headText f h) (carried ++ rest)
+head-before : (f : Final) (h : ℕ) (m : MedialGroup) (v : Vowel) (g : Final) (t : ToneMark) (rest : List ℕ) → Parts h m v g t
+    → ((x : ℕ) → StandsBefore x rest) → StandsBefore (headText f h) (carried m v g t ++ rest)
 unfolding isRunMark
-head-before f h carried rest i bare after =
-    on-head (λ (x : ℕ). StandsBefore x (carried ++ rest)) f h (go (isConsonant h) refl) (quiet-before 0x103F (carried ++ rest) refl refl)
+head-before f h m v g t rest p after =
+    on-head (λ (x : ℕ). StandsBefore x (carried m v g t ++ rest)) f h (go (carriesMarks h) refl)
+    (quiet-before 0x103F (carried m v g t ++ rest) refl refl)
   where
-    go : (b : Bool) → isConsonant h ≡ b → StandsBefore h (carried ++ rest)
-    go true e = quiet-before h (carried ++ rest) (head-no-mark h i) (letter-quiet h (subst T (sym e) tt))
-    go false e = subst (λ (l : List ℕ). StandsBefore h (l ++ rest)) (sym (bare e)) (after h)
+    go : (b : Bool) → carriesMarks h ≡ b → StandsBefore h (carried m v g t ++ rest)
+    go true e = quiet-before h (carried m v g t ++ rest) (head-no-mark h (p .head)) (marked-quiet h e)
+    go false e = rw (unmarked h m v g t p e) (closing-before h g t rest (p .final) (head-no-mark h (p .head)) (after h))
 
 row-above : (f : Final) (row : Row) → T (isRowAfter f row) → RowAbove (joinAfter f row)
 unfolding isRunMark rank pick
@@ -161,7 +182,7 @@ row-above f (syllable h m v g t ∷ row) q =
     record {
       above =
           record {
-            settled = (head-before f h _ (joinAfter g row) (p .head) (bare-head h m v g t p) (rest .after), marks .settled);
+            settled = (head-before f h m v g t (joinAfter g row) p (rest .after), marks .settled);
             least = on-head (λ (x : ℕ). 16 ≤ rank x) f h (omega (arith, no-mark-rank h (head-no-mark h (p .head)))) (omega (arith, no-mark-rank 0x103F refl));
           };
       after = λ x. on-head (Stands x) f h (before-head x h (p .head)) (great-sa-after x);
