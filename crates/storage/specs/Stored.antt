@@ -29,16 +29,28 @@ rank x = placeIn storageOrder x
 unfoldable pub goesBehind : ℕ → ℕ → Bool
 goesBehind x y = isRunMark x && (isRunMark y && ltb (rank y) (rank x))
 
--- x put before values whose runs are sorted: it goes behind as many of them as it has to
-abbrev pub insert : ℕ → List ℕ → List ℕ
-insert x [] = x ∷ []
-insert x (y ∷ values) = pick (goesBehind x y) (y ∷ insert x values) (x ∷ y ∷ values)
+-- rule 1 over anything that has a value: the values of a word, or the places where they were typed
+module _ {A : Type 0} (value : A → ℕ) where
+  -- x put before what is sorted: it goes behind as many as it has to
+  abbrev pub insertBy : A → List A → List A
+  insertBy x [] = x ∷ []
+  insertBy x (y ∷ sorted) = pick (goesBehind (value x) (value y)) (y ∷ insertBy x sorted) (x ∷ y ∷ sorted)
 
--- "Each unbroken run of medials, vowel marks, 103A and tones is sorted": each value is put before what follows it, sorted.
--- `SortedRuns` says what that comes to, and that nothing else moves.
+  -- "Each unbroken run of medials, vowel marks, 103A and tones is sorted": each is put before what follows it, sorted.
+  -- `SortedRuns` says what that comes to, and that nothing else moves.
+  abbrev pub sortRunsBy : List A → List A
+  sortRunsBy [] = []
+  sortRunsBy (x ∷ word) = insertBy x (sortRunsBy word)
+
+-- the value of a value
+abbrev pub itself : ℕ → ℕ
+itself x = x
+
+abbrev pub insert : ℕ → List ℕ → List ℕ
+insert = insertBy itself
+
 abbrev pub sortRuns : List ℕ → List ℕ
-sortRuns [] = []
-sortRuns (x ∷ word) = insert x (sortRuns word)
+sortRuns = sortRunsBy itself
 
 -- "Then 1025 102E becomes 1026"
 unfoldable pub makesLongVowel : ℕ → ℕ → Bool
