@@ -8,10 +8,10 @@ use lib.Dec.{T, eqb}
 use borrow.Author.Tests.{eqb-true}
 use Rattle.letters.specs.Choice.{pick}
 use Rattle.letters.proofs.Picks.{and-no-right}
-use Rattle.storage.specs.Stored.{isRunMark, goesBehind, insert, sortRuns, makesLongVowel, makesLetter, compose, storedForm}
+use Rattle.storage.specs.Stored.{isRunMark, goesBehind, insert, sortRuns, makesLongVowel, makesLetter, compose, storedForm, itself}
 use Rattle.storage.specs.Putting.{joinFront, putFront}
 use Rattle.storage.proofs.Ranks.{is-false, mark-test, behind-apart, behind-marks}
-use Rattle.storage.proofs.Runs.{insert-behind, insert-here, on-insert, insert-none}
+use Rattle.storage.proofs.Inserting.{insert-behind, insert-here, on-insert, insert-none}
 
 -- only a 1025 becomes another value
 pub other-vowel : (x y : ℕ) → eqb x 0x1025 ≡ false → makesLongVowel x y ≡ false
@@ -79,18 +79,18 @@ here-composed x y values h = go (eqb y 0x1025) refl
     go : (b : Bool) → eqb y 0x1025 ≡ b → insert x (compose (y ∷ values)) ≡ x ∷ compose (y ∷ values)
     go true e =
         rw (eqb-true y 0x1025 e)
-        (on-vowel (λ (l : List ℕ). insert x l ≡ x ∷ l) (λ l. insert-here x 0x1025 l (behind-apart x 0x1025 refl))
-        (λ l. insert-here x 0x1026 l (behind-apart x 0x1026 refl)) (λ l. insert-here x 0x1009 l (behind-apart x 0x1009 refl)) values)
-    go false e = rw (compose-other y values e) (insert-here x y (compose values) h)
+        (on-vowel (λ (l : List ℕ). insert x l ≡ x ∷ l) (λ l. insert-here itself x 0x1025 l (behind-apart x 0x1025 refl))
+        (λ l. insert-here itself x 0x1026 l (behind-apart x 0x1026 refl)) (λ l. insert-here itself x 0x1009 l (behind-apart x 0x1009 refl)) values)
+    go false e = rw (compose-other y values e) (insert-here itself x y (compose values) h)
 
 behind-other : (x y : ℕ) → goesBehind x y ≡ true → eqb y 0x1025 ≡ false
 behind-other x y h = mark-other y (subst T (sym (behind-marks x y h .1)) tt)
 
 compose-insert : (x : ℕ) (values : List ℕ) → T (isRunMark x) → compose (insert x values) ≡ insert x (compose values)
 compose-insert x values t =
-    on-insert x (λ (l r : List ℕ). compose r ≡ insert x (compose l)) refl
+    on-insert itself x (λ (l r : List ℕ). compose r ≡ insert x (compose l)) refl
     (λ y l h p. compose-other y (insert x l) (behind-other x y h) ∙ ap (λ (r : List ℕ). y ∷ r) p
-    ∙ sym (ap (insert x) (compose-other y l (behind-other x y h)) ∙ insert-behind x y (compose l) h))
+    ∙ sym (ap (insert x) (compose-other y l (behind-other x y h)) ∙ insert-behind itself x y (compose l) h))
     (λ y l h. compose-other x (y ∷ l) (mark-other x t) ∙ sym (here-composed x y l h)) values
 
 -- one value before a stored form
@@ -100,4 +100,4 @@ stored-front x word = go (isRunMark x) refl
   where
     go : (b : Bool) → isRunMark x ≡ b → compose (insert x (sortRuns word)) ≡ pick b (insert x (compose (sortRuns word))) (joinFront x (compose (sortRuns word)))
     go true e = compose-insert x (sortRuns word) (subst T (sym e) tt)
-    go false e = ap compose (insert-none x (sortRuns word) e) ∙ compose-front x (sortRuns word)
+    go false e = ap compose (insert-none itself x (sortRuns word) e) ∙ compose-front x (sortRuns word)

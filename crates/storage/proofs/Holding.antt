@@ -14,66 +14,64 @@ use borrow.Author.Tests.{lt-ltb, le-ltb, ne-eqb}
 use Rattle.letters.specs.Choice.{pick}
 use Rattle.letters.proofs.Picks.{and-no-right}
 use Rattle.formula.specs.Limits.{limit}
-use Rattle.storage.specs.Stored.{isRunMark, rank, goesBehind, insert, makesLongVowel, makesLetter}
+use Rattle.storage.specs.Stored.{isRunMark, rank, goesBehind, insertBy, insert, makesLongVowel, makesLetter, itself}
 use Rattle.storage.specs.Putting.{joinFront, putFront, firstRank, Room, FrontPut}
-use Rattle.storage.proofs.Ranks.{behind-mark, behind-rank, behind-marks}
-use Rattle.storage.proofs.Runs.{insert-behind, insert-here, insert-length}
+use Rattle.storage.proofs.Ranks.{behind-rank, behind-marks}
+use Rattle.storage.proofs.Inserting.{insert-behind, insert-here, insert-length}
 use Rattle.storage.proofs.Composing.{other-vowel, other-letter}
 use Rattle.storage.proofs.Settled.{StandsBefore, put-stands}
 
--- what the array holds once the mark is inserted behind a place
-abbrev pub insertedAt : List ℕ → ℕ → ℕ → List ℕ
-insertedAt values place mark = take place values ++ insert mark (drop (place + 1) values)
+-- what holds of inserting into an array, by the values of what it has
+module _ (value : ℕ → ℕ) where
+  -- what the array holds once x is inserted behind a place
+  abbrev pub insertedAt : List ℕ → ℕ → ℕ → List ℕ
+  insertedAt array place x = take place array ++ insertBy value x (drop (place + 1) array)
 
--- the next value ranks below the mark: it moves to the place, and the mark is inserted behind the next place
-pub insert-moved : (values : List ℕ) (place mark : ℕ) → isRunMark mark ≡ true → place + 1 < length values
-    → rank (getD values (place + 1) 0) < rank mark
-    → insertedAt (set values place (getD values (place + 1) 0)) (place + 1) mark ≡ insertedAt values place mark
-insert-moved values place mark m more less =
-    let next : ℕ = getD values (suc place) 0 in
-    let behind : goesBehind mark next ≡ true = behind-mark mark next m ∙ lt-ltb (rank next) (rank mark) (rw add-one at less) in
-    rw (add-one, add-one)
-    (rw (take-suc-set values place next (omega arith), drop-set-lt (suc (suc place)) values place next (omega arith), append-snoc, drop-cons values (suc place) 0 (omega arith), insert-behind mark next (drop (suc (suc place)) values) behind))
+  -- x goes behind the next: that moves to the place, and x is inserted behind the next place
+  insert-moved : (array : List ℕ) (place x : ℕ) → place + 1 < length array → goesBehind (value x) (value (getD array (place + 1) 0)) ≡ true
+      → insertedAt (set array place (getD array (place + 1) 0)) (place + 1) x ≡ insertedAt array place x
+  insert-moved array place x more behind =
+      let next : ℕ = getD array (suc place) 0 in
+      rw (add-one, add-one)
+      (rw (take-suc-set array place next (omega arith), drop-set-lt (suc (suc place)) array place next (omega arith), append-snoc, drop-cons array (suc place) 0 (omega arith), insert-behind value x next (drop (suc (suc place)) array) (rw add-one at behind)))
 
--- the mark goes no further: it is put at the place
-put-here : (values : List ℕ) (place mark : ℕ) → place < length values → insert mark (drop (place + 1) values) ≡ mark ∷ drop (place + 1) values
-    → set values place mark ≡ insertedAt values place mark
-put-here values place mark h e = rw (e, add-one) (set-split values place mark h)
+  -- x goes no further: it is put at the place
+  put-here : (array : List ℕ) (place x : ℕ) → place < length array → insertBy value x (drop (place + 1) array) ≡ x ∷ drop (place + 1) array
+      → set array place x ≡ insertedAt array place x
+  put-here array place x h e = rw (e, add-one) (set-split array place x h)
 
-stays-last : (values : List ℕ) (place mark : ℕ) → length values ≤ place + 1 → insert mark (drop (place + 1) values) ≡ mark ∷ drop (place + 1) values
-stays-last values place mark h = rw (drop-of-length-le values h)
+  stays-last : (array : List ℕ) (place x : ℕ) → length array ≤ place + 1 → insertBy value x (drop (place + 1) array) ≡ x ∷ drop (place + 1) array
+  stays-last array place x h = rw (drop-of-length-le array h)
 
-stays-before : (values : List ℕ) (place mark : ℕ) → isRunMark mark ≡ true → place + 1 < length values → rank mark ≤ rank (getD values (place + 1) 0)
-    → insert mark (drop (place + 1) values) ≡ mark ∷ drop (place + 1) values
-stays-before values place mark m more h =
-    let here : goesBehind mark (getD values (place + 1) 0) ≡ false = behind-mark mark _ m ∙ le-ltb (rank (getD values (place + 1) 0)) (rank mark) h in
-    rw (drop-cons values (place + 1) 0) (insert-here mark (getD values (place + 1) 0) (drop (suc (place + 1)) values) here)
+  stays-before : (array : List ℕ) (place x : ℕ) → place + 1 < length array → goesBehind (value x) (value (getD array (place + 1) 0)) ≡ false
+      → insertBy value x (drop (place + 1) array) ≡ x ∷ drop (place + 1) array
+  stays-before array place x more here =
+      rw (drop-cons array (place + 1) 0) (insert-here value x (getD array (place + 1) 0) (drop (suc (place + 1)) array) here)
 
--- on the way: inserting from here gives what inserting from the first place gave
-pub record Inserting (before values : List ℕ) (first place mark : ℕ) : Type 0 where
-  pub long : length values ≡ limit
-  pub within : place < limit
-  pub same : insertedAt values place mark ≡ insertedAt before first mark
+  -- on the way: inserting from here gives what inserting from the first place gave
+  pub record Inserting (before array : List ℕ) (first place x : ℕ) : Type 0 where
+    pub long : length array ≡ limit
+    pub within : place < limit
+    pub same : insertedAt array place x ≡ insertedAt before first x
 
-pub inserting-more : (before values : List ℕ) (first place mark : ℕ) → isRunMark mark ≡ true → Inserting before values first place mark
-    → place + 1 < limit → rank (getD values (place + 1) 0) < rank mark
-    → Inserting before (set values place (getD values (place + 1) 0)) first (place + 1) mark
-inserting-more before values first place mark m i more less =
-    record {
-      long = length-set values place (getD values (place + 1) 0) ∙ i .long;
-      within = more;
-      same = insert-moved values place mark m (omega (arith, i .long)) less ∙ i .same;
-    }
+  pub inserting-more : (before array : List ℕ) (first place x : ℕ) → Inserting before array first place x → place + 1 < limit
+      → goesBehind (value x) (value (getD array (place + 1) 0)) ≡ true → Inserting before (set array place (getD array (place + 1) 0)) first (place + 1) x
+  inserting-more before array first place x i more behind =
+      record {
+        long = length-set array place (getD array (place + 1) 0) ∙ i .long;
+        within = more;
+        same = insert-moved array place x (omega (arith, i .long)) behind ∙ i .same;
+      }
 
-pub inserted-last : (before values : List ℕ) (first place mark : ℕ) → Inserting before values first place mark → limit ≤ place + 1
-    → set values place mark ≡ insertedAt before first mark
-inserted-last before values first place mark i end =
-    put-here values place mark (omega (arith, i .long, i .within)) (stays-last values place mark (omega (arith, i .long))) ∙ i .same
+  pub inserted-last : (before array : List ℕ) (first place x : ℕ) → Inserting before array first place x → limit ≤ place + 1
+      → set array place x ≡ insertedAt before first x
+  inserted-last before array first place x i end =
+      put-here array place x (omega (arith, i .long, i .within)) (stays-last array place x (omega (arith, i .long))) ∙ i .same
 
-pub inserted-before : (before values : List ℕ) (first place mark : ℕ) → isRunMark mark ≡ true → Inserting before values first place mark
-    → place + 1 < limit → rank mark ≤ rank (getD values (place + 1) 0) → set values place mark ≡ insertedAt before first mark
-inserted-before before values first place mark m i more h =
-    put-here values place mark (omega (arith, i .long, i .within)) (stays-before values place mark m (omega (arith, i .long)) h) ∙ i .same
+  pub inserted-before : (before array : List ℕ) (first place x : ℕ) → Inserting before array first place x → place + 1 < limit
+      → goesBehind (value x) (value (getD array (place + 1) 0)) ≡ false → set array place x ≡ insertedAt before first x
+  inserted-before before array first place x i more here =
+      put-here array place x (omega (arith, i .long, i .within)) (stays-before array place x (omega (arith, i .long)) here) ∙ i .same
 
 -- one value put at the front, by the three cases of the code
 drop-set : (values : List ℕ) (place x : ℕ) → place < length values → drop place (set values place x) ≡ x ∷ drop (suc place) values
@@ -93,10 +91,10 @@ pub behind-first : (x : ℕ) (values : List ℕ) → firstRank values < rank x %
 behind-first x [] h = let z : ⊥ = omega arith in absurd z
 behind-first x (y ∷ values) h =
     let behind : goesBehind x y ≡ true = behind-rank x y ∙ lt-ltb (rank y) (rank x % 16) h in
-    (behind-marks x y behind .0, ap firstRank (insert-behind x y values behind))
+    (behind-marks x y behind .0, ap firstRank (insert-behind itself x y values behind))
 
 pub mark-put : (before after : List ℕ) (place x own : ℕ) → Room before place → own ≡ firstRank (drop place before) → own < rank x % 16
-    → after ≡ insertedAt before (place - 1) x → FrontPut before after place x (record { place = place - 1; rank = own })
+    → after ≡ insertedAt itself before (place - 1) x → FrontPut before after place x (record { place = place - 1; rank = own })
 mark-put before after place x own r ranked less e =
     let back : place - 1 + 1 ≡ place = omega (arith, r .some) in
     let first = behind-first x (drop place before) (rw ranked at less) in
@@ -107,7 +105,7 @@ mark-put before after place x own r ranked less e =
     record {
       long =
           ap length shown
-          ∙ omega (arith, length-append (take (place - 1) before) (insert x (drop place before)), insert-length x (drop place before), length-drop place before, r .long, r .some, r .within);
+          ∙ omega (arith, length-append (take (place - 1) before) (insert x (drop place before)), insert-length itself x (drop place before), length-drop place before, r .long, r .some, r .within);
       put = put ∙ sym (put-is-mark x (drop place before) (first .0));
       ranked = ranked ∙ sym (ap firstRank put ∙ first .1);
       no-later = omega arith;

@@ -1,4 +1,5 @@
 pub mod Ranks
+pub mod Inserting
 pub mod Runs
 pub mod Composing
 pub mod Settled

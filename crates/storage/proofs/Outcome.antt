@@ -9,9 +9,9 @@ use lib.ListN.{length}
 use Rattle.letters.specs.Choice.{pick}
 use Rattle.letters.specs.Letters.{isAdmitted}
 use Rattle.formula.proofs.Lists.{every, both, both-left, both-right}
-use Rattle.storage.specs.Stored.{isRunMark, insert, makesLongVowel, makesLetter, storedForm}
+use Rattle.storage.specs.Stored.{isRunMark, insert, makesLongVowel, makesLetter, storedForm, itself}
 use Rattle.storage.specs.Putting.{joinFront, putFront}
-use Rattle.storage.proofs.Runs.{insert-length, insert-every}
+use Rattle.storage.proofs.Inserting.{insert-length, insert-every}
 use Rattle.storage.proofs.Composing.{stored-front}
 
 -- at most one value more
@@ -28,7 +28,7 @@ put-length x values = go (isRunMark x)
     joined (y ∷ rest) = by-tests y rest (makesLongVowel x y) (makesLetter x y)
 
     go : (b : Bool) → length (pick b (insert x values) (joinFront x values)) ≤ suc (length values)
-    go true = omega (arith, insert-length x values)
+    go true = omega (arith, insert-length itself x values)
     go false = joined values
 
 pub stored-shorter : (word : List ℕ) → length (storedForm word) ≤ length word
@@ -53,7 +53,7 @@ module _ (f : ℕ → Bool) (vowel : T (f 0x1026)) (letter : T (f 0x1009)) where
       joined (y ∷ rest) u = by-tests y rest (makesLongVowel x y) (makesLetter x y) u
 
       go : (b : Bool) → T (every f (pick b (insert x values) (joinFront x values)))
-      go true = insert-every f x values here t
+      go true = insert-every itself f x values here t
       go false = joined values t
 
   pub stored-every : (word : List ℕ) → T (every f word) → T (every f (storedForm word))

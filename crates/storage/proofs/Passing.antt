@@ -2,7 +2,7 @@
 -- Assumes nothing.
 use mathlib.Core.Path.{_≡_, refl, sym, ap, subst, _∙_}
 use mathlib.Core.Bool.{Bool, true, false}
-use mathlib.Core.List.{List, [], _∷_, _++_, append-nil}
+use mathlib.Core.List.{List, [], _∷_, _++_}
 use Prim.Native.Nat.{ℕ, zero, suc, _+_, _-_, _≤_, _<_}
 use native.Mathlib.Omega.{arith}
 use lib.ListN.{length, take, drop, getD, replicate, length-append, length-drop, length-replicate, replicate-append-replicate, drop-of-length-le}
@@ -12,10 +12,10 @@ use Rattle.letters.specs.Choice.{pick}
 use Rattle.formula.specs.Limits.{limit}
 use Rattle.formula.specs.Held.{wordOf}
 use Rattle.formula.specs.declared.Word.{Word}
-use Rattle.storage.specs.Stored.{isRunMark, rank, insert, makesLongVowel, makesLetter, storedForm}
+use Rattle.storage.specs.Stored.{isRunMark, rank, insert, makesLongVowel, makesLetter, storedForm, itself}
 use Rattle.storage.specs.Putting.{joinFront, putFront, firstRank, FrontPut, PartRoom}
 use Rattle.storage.specs.declared.Front.{Front}
-use Rattle.storage.proofs.Runs.{insert-run}
+use Rattle.storage.proofs.Inserting.{insert-filled}
 use Rattle.storage.proofs.Composing.{same-before, join-same, stored-front}
 
 -- the zeros behind the values stay as they are
@@ -24,8 +24,7 @@ zeros n = replicate n 0
 
 insert-zeros : (x : ℕ) (values : List ℕ) (n : ℕ) → insert x (values ++ zeros n) ≡ insert x values ++ zeros n
 unfolding isRunMark
-insert-zeros x values zero = rw (append-nil values, append-nil (insert x values))
-insert-zeros x values (suc n) = insert-run x 0 values (zeros n) refl
+insert-zeros x values n = insert-filled itself x 0 values n refl
 
 join-zeros : (x : ℕ) (values : List ℕ) (n : ℕ) → joinFront x (values ++ zeros n) ≡ joinFront x values ++ zeros n
 unfolding pick

@@ -9,64 +9,24 @@ use native.Mathlib.Omega.{arith}
 use lib.Dec.{T, eqb, leb, leb→le, le→leb}
 use lib.ListN.{length, getD}
 use borrow.Author.Tests.{eqb-true, ltb-true, ltb-false, eq-eqb}
-use Rattle.letters.specs.Choice.{pick}
 use Rattle.letters.specs.Weights.{bitIf}
 use Rattle.letters.proofs.Counted.{count}
 use Rattle.letters.proofs.Tests.{is-true}
 use Rattle.formula.proofs.Lists.{every, both, both-left, both-right}
-use Rattle.storage.specs.Stored.{isRunMark, rank, goesBehind, insert, sortRuns}
+use Rattle.storage.specs.Stored.{isRunMark, rank, insert, sortRuns, itself}
 use Rattle.storage.specs.Sorted.{risesTo, isRising, SortedRun, SortedRuns, last-run, run-before}
-use Rattle.storage.proofs.Ranks.{is-false, rank-injective, behind-none, behind-apart, behind-mark, behind-marks}
+use Rattle.storage.proofs.Ranks.{is-false, rank-injective, behind-mark, behind-marks}
+use Rattle.storage.proofs.Inserting.{on-insert, insert-none, insert-run, insert-count, insert-length}
 
--- inserting, by the outcome of its test
-pub insert-behind : (x y : ℕ) (values : List ℕ) → goesBehind x y ≡ true → insert x (y ∷ values) ≡ y ∷ insert x values
-unfolding pick
-insert-behind x y values e = rw e
-
-pub insert-here : (x y : ℕ) (values : List ℕ) → goesBehind x y ≡ false → insert x (y ∷ values) ≡ x ∷ y ∷ values
-unfolding pick
-insert-here x y values e = rw e
-
--- what holds of inserting x, by the values that it goes behind and the one that it stays before
-module _ (x : ℕ) (P : List ℕ → List ℕ → Type 0) (alone : P [] (x ∷ []))
-    (behind : (y : ℕ) (values : List ℕ) → goesBehind x y ≡ true → P values (insert x values) → P (y ∷ values) (y ∷ insert x values))
-    (here : (y : ℕ) (values : List ℕ) → goesBehind x y ≡ false → P (y ∷ values) (x ∷ y ∷ values))
-  where
-    step : (y : ℕ) (values : List ℕ) (b : Bool) → goesBehind x y ≡ b → P values (insert x values) → P (y ∷ values) (insert x (y ∷ values))
-    step y values true e p = rw (insert-behind x y values e) (behind y values e p)
-    step y values false e p = rw (insert-here x y values e) (here y values e)
-
-    pub on-insert : (values : List ℕ) → P values (insert x values)
-    on-insert [] = alone
-    on-insert (y ∷ values) = step y values (goesBehind x y) refl (on-insert values)
-
--- what is no mark stays in front
-pub insert-none : (x : ℕ) (values : List ℕ) → isRunMark x ≡ false → insert x values ≡ x ∷ values
-insert-none x [] e = refl
-insert-none x (y ∷ values) e = insert-here x y values (behind-none x y e)
-
--- a run ends before a value that is no mark
-pub insert-run : (x y : ℕ) (run values : List ℕ) → isRunMark y ≡ false → insert x (run ++ (y ∷ values)) ≡ insert x run ++ (y ∷ values)
-insert-run x y run values e =
-    on-insert x (λ (l r : List ℕ). insert x (l ++ (y ∷ values)) ≡ r ++ (y ∷ values)) (insert-here x y values (behind-apart x y e))
-    (λ z l h p. insert-behind x z (l ++ (y ∷ values)) h ∙ ap (λ (r : List ℕ). z ∷ r) p) (λ z l h. insert-here x z (l ++ (y ∷ values)) h) run
-
--- one value more
-insert-count : (f : ℕ → Bool) (x : ℕ) (values : List ℕ) → count f (insert x values) ≡ count f (x ∷ values)
-insert-count f x values =
-    on-insert x (λ (l r : List ℕ). count f r ≡ count f (x ∷ l)) refl (λ y l h p. omega arith) (λ y l h. refl) values
-
-pub insert-length : (x : ℕ) (values : List ℕ) → length (insert x values) ≡ suc (length values)
-insert-length x values = on-insert x (λ (l r : List ℕ). length r ≡ suc (length l)) refl (λ y l h p. ap suc p) (λ y l h. refl) values
-
+-- as many values
 pub sort-length : (word : List ℕ) → length (sortRuns word) ≡ length word
 sort-length [] = refl
-sort-length (x ∷ word) = insert-length x (sortRuns word) ∙ ap suc (sort-length word)
+sort-length (x ∷ word) = insert-length itself x (sortRuns word) ∙ ap suc (sort-length word)
 
 -- a value that is no mark keeps its place
 insert-unmoved : (x : ℕ) (values : List ℕ) (k : ℕ) → isRunMark (getD (x ∷ values) k 0) ≡ false → getD (insert x values) k 0 ≡ getD (x ∷ values) k 0
 insert-unmoved x values =
-    on-insert x (λ (l r : List ℕ). (k : ℕ) → isRunMark (getD (x ∷ l) k 0) ≡ false → getD r k 0 ≡ getD (x ∷ l) k 0) (λ k e. refl)
+    on-insert itself x (λ (l r : List ℕ). (k : ℕ) → isRunMark (getD (x ∷ l) k 0) ≡ false → getD r k 0 ≡ getD (x ∷ l) k 0) (λ k e. refl)
     (λ y l h p. past y l (insert x l) (behind-marks x y h) p) (λ y l h k e. refl) values
   where
     past : (y : ℕ) (l r : List ℕ) → (isRunMark x ≡ true) × (isRunMark y ≡ true) → ((k : ℕ) → isRunMark (getD (x ∷ l) k 0) ≡ false → getD r k 0 ≡ getD (x ∷ l) k 0)
@@ -82,13 +42,6 @@ sort-unmoved (x ∷ word) (suc k) e =
     let rest : getD (sortRuns word) k 0 ≡ getD word k 0 = sort-unmoved word k e in
     insert-unmoved x (sortRuns word) (suc k) (rw rest e) ∙ rest
 
--- a test that each value passes
-pub insert-every : (f : ℕ → Bool) (x : ℕ) (values : List ℕ) → T (f x) → T (every f values) → T (every f (insert x values))
-insert-every f x values t =
-    on-insert x (λ (l r : List ℕ). T (every f l) → T (every f r)) (λ u. both (f x) true t tt)
-    (λ y l h p u. both (f y) (every f (insert x l)) (both-left (f y) (every f l) u) (p (both-right (f y) (every f l) u)))
-    (λ y l h u. both (f x) (every f (y ∷ l)) t u) values
-
 -- a mark that is inserted into what rises leaves it rising
 record Rises (x : ℕ) (values inserted : List ℕ) : Type 0 where
   still : T (isRising inserted)
@@ -96,7 +49,7 @@ record Rises (x : ℕ) (values inserted : List ℕ) : Type 0 where
 
 insert-rising : (x : ℕ) (values : List ℕ) → isRunMark x ≡ true → T (isRising values) → Rises x values (insert x values)
 insert-rising x values e =
-    on-insert x (λ (l r : List ℕ). T (isRising l) → Rises x l r)
+    on-insert itself x (λ (l r : List ℕ). T (isRising l) → Rises x l r)
     (λ t. record { still = tt; above = λ z h u. le→leb (rank z) (rank x) h })
     (λ y l h p t. let i : Rises x l (insert x l) = p (both-right (risesTo y l) (isRising l) t) in
     let less : rank y < rank x = ltb-true (rank y) (rank x) (sym (behind-mark x y e) ∙ h) in
@@ -115,7 +68,7 @@ insert-sorted : (x : ℕ) {run sorted : List ℕ} → isRunMark x ≡ true → S
 insert-sorted x {run} {sorted} e s =
     record {
       marks = both (isRunMark x) (every isRunMark run) (subst T (sym e) tt) (s .marks);
-      same-marks = λ y. insert-count (eqb y) x sorted ∙ ap (λ (n : ℕ). bitIf (eqb y x) 1 + n) (s .same-marks y);
+      same-marks = λ y. insert-count itself (eqb y) x sorted ∙ ap (λ (n : ℕ). bitIf (eqb y x) 1 + n) (s .same-marks y);
       rising = insert-rising x sorted e (s .rising) .still;
     }
 
@@ -127,8 +80,8 @@ none-sorted = record { marks = tt; same-marks = λ x. refl; rising = tt }
 front-sorted : (x : ℕ) {word outcome : List ℕ} (b : Bool) → isRunMark x ≡ b → SortedRuns word outcome → SortedRuns (x ∷ word) (insert x outcome)
 front-sorted x true e (last-run s) = last-run (insert-sorted x e s)
 front-sorted x true e (run-before {run} {sorted} {word} {outcome} y s n r) =
-    rw (insert-run x y sorted outcome (is-false (isRunMark y) n)) (run-before y (insert-sorted x e s) n r)
-front-sorted x {word} {outcome} false e r = rw (insert-none x outcome e) (run-before x none-sorted (subst (λ (b : Bool). T (not b)) (sym e) tt) r)
+    rw (insert-run itself x y sorted outcome (is-false (isRunMark y) n)) (run-before y (insert-sorted x e s) n r)
+front-sorted x {word} {outcome} false e r = rw (insert-none itself x outcome e) (run-before x none-sorted (subst (λ (b : Bool). T (not b)) (sym e) tt) r)
 
 -- `sortRuns` does as document 01 says
 pub sort-sorted : (word : List ℕ) → SortedRuns word (sortRuns word)
@@ -143,8 +96,8 @@ sort-run (x ∷ run) t =
 
 -- the runs of a word are sorted one by one
 sort-apart : (run : List ℕ) (x : ℕ) (word : List ℕ) → isRunMark x ≡ false → sortRuns (run ++ (x ∷ word)) ≡ sortRuns run ++ (x ∷ sortRuns word)
-sort-apart [] x word e = insert-none x (sortRuns word) e
-sort-apart (y ∷ run) x word e = ap (insert y) (sort-apart run x word e) ∙ insert-run y x (sortRuns run) (sortRuns word) e
+sort-apart [] x word e = insert-none itself x (sortRuns word) e
+sort-apart (y ∷ run) x word e = ap (insert y) (sort-apart run x word e) ∙ insert-run itself y x (sortRuns run) (sortRuns word) e
 
 -- the first of a list counts
 count-first : (x : ℕ) (values : List ℕ) → 0 < count (eqb x) (x ∷ values)

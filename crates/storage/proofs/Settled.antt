@@ -8,10 +8,10 @@ use native.Mathlib.Omega.{arith}
 use lib.Dec.{T, eqb}
 use borrow.Author.Tests.{ltb-true, le-ltb}
 use Rattle.letters.specs.Choice.{pick}
-use Rattle.storage.specs.Stored.{isRunMark, rank, goesBehind, insert, makesLongVowel, makesLetter, storedForm}
+use Rattle.storage.specs.Stored.{isRunMark, rank, goesBehind, insert, makesLongVowel, makesLetter, storedForm, itself}
 use Rattle.storage.specs.Putting.{joinFront, putFront}
 use Rattle.storage.proofs.Ranks.{behind-none, behind-mark, behind-marks}
-use Rattle.storage.proofs.Runs.{insert-here, on-insert}
+use Rattle.storage.proofs.Inserting.{insert-here, on-insert}
 use Rattle.storage.proofs.Composing.{other-vowel, other-letter, mark-other, stored-front}
 
 -- neither rule changes x before y
@@ -54,7 +54,7 @@ put-stands x [] s = go (isRunMark x)
 put-stands x (y ∷ values) s = go (isRunMark x)
   where
     go : (b : Bool) → pick b (insert x (y ∷ values)) (joinFront x (y ∷ values)) ≡ x ∷ y ∷ values
-    go true = insert-here x y values (s .in-order)
+    go true = insert-here itself x y values (s .in-order)
     go false = rw (s .no-vowel, s .no-letter)
 
 -- a settled word is its own stored form
@@ -71,7 +71,7 @@ record Inserted (x : ℕ) (values inserted : List ℕ) : Type 0 where
 insert-settled : (x : ℕ) (values : List ℕ) → isRunMark x ≡ true → Settled values → Inserted x values (insert x values)
 insert-settled x values m =
     let u : eqb x 0x1025 ≡ false = mark-other x (subst T (sym m) tt) in
-    on-insert x (λ (l r : List ℕ). Settled l → Inserted x l r) (λ s. record { still = (tt, tt); before = λ z a b. a })
+    on-insert itself x (λ (l r : List ℕ). Settled l → Inserted x l r) (λ s. record { still = (tt, tt); before = λ z a b. a })
     (λ y l h p s. let i : Inserted x l (insert x l) = p (s .1) in
     let less : rank y < rank x = ltb-true (rank y) (rank x) (sym (behind-mark x y m) ∙ h) in
     record { still = (i .before y (mark-stands y x (behind-marks x y h .1) (omega arith)) (s .0), i .still); before = λ z a b. b })

@@ -1,17 +1,18 @@
 -- `storage::insert_mark` meets its contract. The loop's invariant is `Inserting`: inserting the mark from the place on gives what inserting it from the first place gave. The measure is what is left of the array.
 -- Assumes nothing.
-use mathlib.Core.Path.{refl}
+use mathlib.Core.Path.{refl, _∙_}
 use mathlib.Core.Logic.{⊎-elim}
 use Prim.Native.Nat.{_-_}
 use borrow.Author.Needs.{needs}
-use borrow.Author.Tests.{ltb-true, ltb-false}
 use Rattle.formula.specs.Limits.{limit}
+use Rattle.storage.specs.Stored.{itself}
+use Rattle.storage.proofs.Ranks.{behind-mark}
 use Rattle.storage.proofs.Holding.{Inserting, inserting-more, inserted-last, inserted-before}
 use Rattle.storage.proofs.insert_mark.Statement.{statement}
 use Rattle.storage.proofs.insert_mark.Tie as tie
 
 abbrev Inv-loop : tie.InvT-loop
-Inv-loop ranks values₀ at mark own place₀ values place = Inserting values₀ values at place mark
+Inv-loop ranks values₀ at mark own place₀ values place = Inserting itself values₀ values at place mark
 
 abbrev μ-loop : tie.MeasureT-loop
 μ-loop ranks values₀ at mark own place₀ values place = limit - place
@@ -63,8 +64,8 @@ loop-again c =
     let at-rank = c .before .before in
     let at-loop = at-rank .before .before .before in
     let start = at-loop .before .before in
-    inserting-more _ _ _ _ _ (start .pre .is-mark) (at-loop .loop .inv) (at-rank .before .before .loop-test .taken)
-    (ltb-true _ _ (rw (at-rank .rank2 .ensures, at-loop .before .rank .ensures) at (c .before .if1 .taken)))
+    inserting-more itself _ _ _ _ _ (at-loop .loop .inv) (at-rank .before .before .loop-test .taken)
+    (behind-mark _ _ (start .pre .is-mark) ∙ rw (at-rank .rank2 .ensures, at-loop .before .rank .ensures) at (c .before .if1 .taken))
 
 mul-values-3 : tie.Need-mul-values-3 Inv-loop μ-loop
 mul-values-3 c = search needs
@@ -77,9 +78,9 @@ returns c =
     let at-loop = c .before in
     let start = at-loop .before .before in
     ⊎-elim
-    (λ w. inserted-before _ _ _ _ _ (start .pre .is-mark) (at-loop .loop .inv) (w .0 .taken)
-    (ltb-false _ _ (rw (w .2 .ensures, at-loop .before .rank .ensures) at (w .3 .left))))
-    (λ w. inserted-last _ _ _ _ _ (at-loop .loop .inv) (w .left)) (c .loop-test .came)
+    (λ w. inserted-before itself _ _ _ _ _ (at-loop .loop .inv) (w .0 .taken)
+    (behind-mark _ _ (start .pre .is-mark) ∙ rw (w .2 .ensures, at-loop .before .rank .ensures) at (w .3 .left)))
+    (λ w. inserted-last itself _ _ _ _ _ (at-loop .loop .inv) (w .left)) (c .loop-test .came)
 
 pub insert-mark-spec : {M : Type 1} → statement M
 insert-mark-spec =
