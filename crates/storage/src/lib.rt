@@ -12,23 +12,23 @@ ghost use Rattle.storage.specs.Stored.{rank, insert, makesLetter, stored
 ghost use Rattle.storage.specs.Putting.{rankTable, Room, FrontRoom, FrontPut, MarkRoom, PartRoom};
 
 // The independent vowel that a mark or a stacker behind it can change.
-const VOWEL_U: u16 = 0x1025;
+pub const VOWEL_U: u16 = 0x1025;
 
 const LONG_VOWEL_U: u16 = 0x1026;
 
 const LETTER_NYA: u16 = 0x1009;
 
-const MARK_II: u16 = 0x102E;
+pub const MARK_II: u16 = 0x102E;
 
 const STACKER: u16 = 0x1039;
 
 const KILLER: u16 = 0x103A;
 
 // The number of run marks, which is the rank of every other value.
-const MARKS: u8 = 16;
+pub const MARKS: u8 = 16;
 
 // The ranks of the values 1000 to 103F, among which are all marks.
-type RankTable = [u8; 64];
+pub type RankTable = [u8; 64];
 
 // Where the stored values begin in the array, and the rank of the first of them.
 struct Front {
@@ -153,7 +153,7 @@ fn value_at(values: &[u16; Word::LIMIT], place: usize) -> u16
 }
 
 // The place of a mark in the storage order; the number of marks for any other value.
-fn rank(ranks: &RankTable, x: u16) -> u8
+pub fn rank(ranks: &RankTable, x: u16) -> u8
     requires { ⌜ now ranks ≡ rankTable ⌝ }
     ensures { λ r. ⌜ r ≡ rank x ⌝ }
 {
@@ -165,7 +165,7 @@ fn rank(ranks: &RankTable, x: u16) -> u8
 }
 
 // A table in memory, made once a word. A match on the value would be a branch on whether it is a mark, which is seldom foretold.
-fn rank_table() -> RankTable
+pub fn rank_table() -> RankTable
     ensures { λ r. ⌜ r ≡ rankTable ⌝ }
 {
     let mut ranks = [MARKS; 64];

@@ -1,0 +1,4 @@
+pub mod Words
+pub mod Sorting
+pub mod Passing
+pub mod Seeking
