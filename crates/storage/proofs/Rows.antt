@@ -15,7 +15,7 @@ use Rattle.letters.proofs.Tests.{or-left, or-second, is-true}
 use Rattle.formula.proofs.Lists.{both-left, both-right}
 use Rattle.formula.proofs.Pieces.{each-vowel, each-medial}
 use Rattle.formula.specs.Syllable.{Final, no-final, plain, stacked, kinzi, great-sa, syllable, carriesMarks, isNoMedial, isNoVowel, isFinal, finalText, headText}
-use Rattle.formula.specs.Row.{Row, isRowAfter, IsRow, joinAfter, join, Gives}
+use Rattle.formula.specs.Row.{Row, isRowAfter, joinAfter, Gives}
 use Rattle.rows.proofs.Sound.{Parts, apart, no-medial-text, no-vowel-text}
 use Rattle.rows.proofs.Complete.{final-consonant, first}
 use Rattle.rows.proofs.Begin.{on-head}
@@ -188,9 +188,10 @@ row-above f (syllable h m v g t ∷ row) q =
       after = λ x. on-head (Stands x) f h (before-head x h (p .head)) (great-sa-after x);
     }
 
--- a row of syllables is stored as it is
-pub row-is-stored : (row : Row) → IsRow row → storedForm (join row) ≡ join row
-row-is-stored row q = settled-stored (join row) (row-above no-final row q .above .settled)
+-- in a row of syllables each value stands before the next one
+pub gives-settled : (row : Row) (word : List ℕ) → Gives row word → Settled word
+gives-settled row word g = rw (← g .joined) (row-above no-final row (g .is-row) .above .settled)
 
+-- so it is stored as it is
 pub gives-stored : (row : Row) (word : List ℕ) → Gives row word → storedForm word ≡ word
-gives-stored row word g = rw (← g .joined) (row-is-stored row (g .is-row))
+gives-stored row word g = settled-stored word (gives-settled row word g)

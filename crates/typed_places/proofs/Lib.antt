@@ -2,3 +2,4 @@ pub mod Words
 pub mod Sorting
 pub mod Passing
 pub mod Seeking
+pub mod Laws
