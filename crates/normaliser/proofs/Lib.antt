@@ -1,2 +1,3 @@
 pub mod Storing
 pub mod Determined
+pub mod Laws

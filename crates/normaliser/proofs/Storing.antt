@@ -26,7 +26,8 @@ use Rattle.storage.specs.Putting.{joinFront, putFront}
 use Rattle.storage.proofs.Composing.{stored-front}
 use Rattle.storage.proofs.Outcome.{stored-shorter, stored-admitted}
 use Rattle.storage.proofs.Rows.{gives-stored}
-use Rattle.normaliser.specs.Normal.{StoreRefusedWith, foreign as strange, outcome, Stores, StoreAnswers, WordFor, NormalRight, HandedIn}
+use Rattle.normaliser.specs.Admission.{foreign as strange}
+use Rattle.normaliser.specs.Normal.{StoreRefusedWith, unadmitted, outcome, Stores, StoreAnswers, WordFor, NormalRight, HandedIn}
 use Rattle.normaliser.specs.declared.Normalised.{Normalised}
 
 -- what is admitted with x put in front was admitted, and so is x
@@ -110,7 +111,7 @@ module _ (word : List ℕ) (short : length word ≤ limit) where
       go (yes e) =
           let f = h .first e in
           subst (λ (n : ℕ). StoreRefusedWith word n (placeOf answer)) (sym (f .0))
-          (strange (first-foreign (placeOf answer) (f .1) (has-foreign (numberOf refusal) (placeOf refusal) r e)))
+          (unadmitted (strange (first-foreign (placeOf answer) (f .1) (has-foreign (numberOf refusal) (placeOf refusal) r e))))
       go (no n) =
           subst (λ (a : Refusal). StoreRefusedWith word (numberOf a) (placeOf a)) (sym (h .same n))
           (store-refused (numberOf refusal) (placeOf refusal) r n)

@@ -1,1 +1,4 @@
+pub mod Admission
 pub mod Normal
+pub mod Form
+pub mod Typed

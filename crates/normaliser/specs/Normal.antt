@@ -2,9 +2,8 @@
 -- that outcome". Assumes nothing.
 use mathlib.Core.Path.{_≡_}
 use mathlib.Core.List.{List, []}
-use Prim.Native.Nat.{ℕ, _<_}
+use Prim.Native.Nat.{ℕ}
 use lib.ListN.{length}
-use Rattle.formula.specs.Limits.{limit}
 use Rattle.formula.specs.Held.{wordOf}
 use Rattle.formula.specs.declared.Word.{Word}
 use Rattle.refusals.specs.Refusal.{numberOf, placeOf}
@@ -12,15 +11,15 @@ use Rattle.refusals.specs.Outcome.{Outcome, accepts, accepts-both, absent, refu
 use Rattle.refusals.specs.Output.{Writes}
 use Rattle.refusals.specs.declared.Refusal.{Refusal}
 use Rattle.refusals.specs.declared.Counted.the-variants.{Refused}
-use Rattle.recogniser.specs.Answer.{Admissible, FirstForeign, RefusedWith, Reads}
+use Rattle.recogniser.specs.Answer.{Admissible, RefusedWith, Reads}
 use Rattle.recogniser.specs.Concluded.{AdmittedTo}
 use Rattle.storage.specs.Stored.{storedForm}
+use Rattle.normaliser.specs.Admission.{Unadmitted}
 use Rattle.normaliser.specs.declared.Normalised.{Normalised}
 
 -- the refusals of a word that is normalised first: 1 and 2 speak of the word as handed in, 3 and 4 of its stored form
 pub data StoreRefusedWith (word : List ℕ) : ℕ → ℕ → Type 0 where
-  too-long : limit < length word → StoreRefusedWith word 1 limit
-  foreign : {place : ℕ} → FirstForeign word place → StoreRefusedWith word 2 place
+  unadmitted : {number place : ℕ} → Unadmitted word number place → StoreRefusedWith word number place
   outcome : {number place : ℕ} → Admissible word → RefusedWith (storedForm word) number place → StoreRefusedWith word number place
 
 -- the stored form is a row of n syllables

@@ -8,6 +8,10 @@ ghost use Rattle.refusals.specs.Outcome.{outcomeOf};
 ghost use Rattle.refusals.specs.Output.{Puts};
 ghost use Rattle.normaliser.specs.Normal.{refusedWord, HandedIn, NormalRight, NormaliseRight};
 
+mod admission; // admission.rt: the tests 1 and 2
+pub mod form; // form.rt: the stored form of any word
+pub mod typed; // typed.rt: where a value of the stored form was typed
+
 // A stored word by value, and how it reads. With a refusal the word is empty.
 struct Normalised {
     answer: Counted,

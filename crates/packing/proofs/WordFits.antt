@@ -31,6 +31,7 @@ use Rattle.reading.specs.Records.{HasRecord, RecordAnswers}
 use Rattle.reading.specs.Parts.{PartAnswers}
 use Rattle.recogniser.proofs.Counted.{count-limit}
 use Rattle.storage.specs.Stored.{storedForm}
+use Rattle.normaliser.specs.Admission.{Unadmitted, too-long, foreign}
 use Rattle.normaliser.specs.Normal as normal
 use Rattle.writing.specs.Write as writing
 use Rattle.spelling.specs.Spell as spelling
@@ -52,9 +53,12 @@ refused-small word number place (reading.no-continuation a v l) =
     record { few = omega arith; near = let s = a .short in let w = l .within in omega arith }
 refused-small word number place (reading.unfinished a r v) = record { few = omega arith; near = a .short }
 
+pub unadmitted-small : (word : List ℕ) (number place : ℕ) → Unadmitted word number place → Small number place
+unadmitted-small word number place (too-long h) = record { few = omega arith; near = omega arith }
+unadmitted-small word number place (foreign f) = record { few = omega arith; near = let s = f .short in let w = f .within in omega arith }
+
 pub store-refused-small : (word : List ℕ) (number place : ℕ) → normal.StoreRefusedWith word number place → Small number place
-store-refused-small word number place (normal.too-long h) = record { few = omega arith; near = omega arith }
-store-refused-small word number place (normal.foreign f) = record { few = omega arith; near = let s = f .short in let w = f .within in omega arith }
+store-refused-small word number place (normal.unadmitted u) = unadmitted-small word number place u
 store-refused-small word number place (normal.outcome a r) = refused-small (storedForm word) number place r
 
 pub small-fits : (number second place : ℕ) → second < 0x1000000 → Small number place → Fits (answer number second place)

@@ -3,7 +3,7 @@
 use mathlib.Core.Path.{_≡_, refl, sym, ap, subst, _∙_}
 use mathlib.Core.Bool.{Bool, true, false}
 use mathlib.Core.List.{List, [], _∷_, map}
-use mathlib.Core.Option.{some}
+use mathlib.Core.Option.{none, some}
 use Prim.Native.Nat.{ℕ, zero, suc, _≤_, _<_}
 use native.Mathlib.Decide.{ℕ-discrete}
 use native.Mathlib.Omega.{arith}
@@ -112,6 +112,24 @@ module _ (word : List ℕ) where
       each f [] q p t e = let z : _≡_ {A = ℕ} 0 1 = cc in let y : ⊥ = omega arith in absurd y
       each f (x ∷ list) zero p t e = let same : x ≡ p = cc in rw (← same) (both-left (f x) (every f list) t)
       each f (x ∷ list) (suc q) p t e = each f list q p (both-right (f x) (every f list) t) e
+
+  -- the word's length stands for no place
+  pub typed-found : (place : ℕ) → getD (typedPlaces word) place (length word) < length word
+      → getElem? (typedPlaces word) place ≡ some (getD (typedPlaces word) place (length word))
+  typed-found place h = go (typedPlaces word) place h
+    where
+      go : (list : List ℕ) (k : ℕ) → getD list k (length word) < length word → getElem? list k ≡ some (getD list k (length word))
+      go [] k h = let z : ⊥ = omega arith in absurd z
+      go (x ∷ list) zero h = refl
+      go (x ∷ list) (suc k) h = go list k h
+
+  pub typed-none : (place : ℕ) → length word ≤ getD (typedPlaces word) place (length word) → getElem? (typedPlaces word) place ≡ none
+  typed-none place h = go (typedPlaces word) place (typed-within place) h
+    where
+      go : (list : List ℕ) (k : ℕ) → ((p : ℕ) → getElem? list k ≡ some p → p < length word) → length word ≤ getD list k (length word) → getElem? list k ≡ none
+      go [] k f h = refl
+      go (x ∷ list) zero f h = let z : ⊥ = omega (arith, f x refl) in absurd z
+      go (x ∷ list) (suc k) f h = go list k f h
 
   -- a place stands as often as before, but for that of a 102E, which may be left out
   compose-fewer : (f : ℕ → Bool) (places : List ℕ) → count f (composePlaces word places) ≤ count f places

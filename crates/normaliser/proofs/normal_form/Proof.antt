@@ -9,7 +9,8 @@ use Rattle.refusals.specs.Outcome.{outcomeOf}
 use Rattle.refusals.specs.declared.Counted.{Counted}
 use Rattle.recogniser.specs.Answer.{Answers}
 use Rattle.storage.specs.Stored.{storedForm}
-use Rattle.normaliser.specs.Normal.{too-long, StoreAnswers, WordFor, NormalRight}
+use Rattle.normaliser.specs.Admission.{too-long}
+use Rattle.normaliser.specs.Normal.{unadmitted, StoreAnswers, WordFor, NormalRight}
 use Rattle.normaliser.proofs.Storing.{word-admissible, refused-right}
 use Rattle.normaliser.proofs.normal_form.Statement.{statement}
 use Rattle.normaliser.proofs.normal_form.Tie as tie
@@ -20,7 +21,7 @@ refused-requires c κs = search needs
 returns : tie.Need-returns
 returns c =
     subst (NormalRight (c .before .before .before .args .word .now)) (sym (c .refused .ensures))
-    (record { answers = too-long (c .before .if1 .taken); held = refl })
+    (record { answers = unadmitted (too-long (c .before .if1 .taken)); held = refl })
 
 stored-requires : tie.Need-stored-requires
 stored-requires c κs = search needs

@@ -5,7 +5,8 @@ use lib.ListN.{length}
 use borrow.Author.Needs.{needs}
 use Rattle.formula.proofs.Held.{held-front, held-fits, held-length}
 use Rattle.storage.specs.Stored.{storedForm}
-use Rattle.normaliser.specs.Normal.{too-long}
+use Rattle.normaliser.specs.Admission.{too-long}
+use Rattle.normaliser.specs.Normal.{unadmitted}
 use Rattle.collation.proofs.Weighing.{form-weighed, form-refused}
 use Rattle.collation.proofs.weigh.weigh_stored.Statement.{statement}
 use Rattle.collation.proofs.weigh.weigh_stored.Tie as tie
@@ -13,7 +14,7 @@ use Rattle.collation.proofs.weigh.weigh_stored.Tie as tie
 returns : tie.Need-returns
 returns c =
     let s = c .before .before in
-    record { answers = too-long (c .if1 .taken); weighed = s .pre; room = ap length (s .pre) }
+    record { answers = unadmitted (too-long (c .if1 .taken)); weighed = s .pre; room = ap length (s .pre) }
 
 stored-requires : tie.Need-stored-requires
 stored-requires c κs = search needs

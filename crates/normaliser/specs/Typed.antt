@@ -1,0 +1,37 @@
+-- Where a value of the stored form was typed: its place in the word as handed in.
+-- Assumes nothing.
+use mathlib.Core.Path.{_≡_}
+use mathlib.Core.List.{List}
+use mathlib.Core.Option.{none, some}
+use Prim.Native.Nat.{ℕ}
+use lib.ListN.{getElem?}
+use Rattle.refusals.specs.Refusal.{numberOf, placeOf}
+use Rattle.refusals.specs.Outcome.{Outcome, accepts, accepts-both, absent, refuses}
+use Rattle.recogniser.specs.Answer.{Admissible}
+use Rattle.typed_places.specs.Typed.{typedPlaces}
+use Rattle.normaliser.specs.Admission.{Unadmitted}
+use Rattle.normaliser.specs.declared.typed.TypedPlace.{TypedPlace}
+use Rattle.normaliser.specs.declared.typed.TypedPlace.the-variants.{At, NoPlace, Refused}
+
+-- a place, none, or a refusal
+abbrev pub typedOutcomeOf : TypedPlace → Outcome
+typedOutcomeOf (At p) = accepts p
+typedOutcomeOf NoPlace = absent
+typedOutcomeOf (Refused r) = refuses (numberOf r) (placeOf r)
+
+-- the value at a place of the stored form was typed at p
+pub record TypedAt (word : List ℕ) (place p : ℕ) : Type 0 where
+  pub admissible : Admissible word
+  pub typed : getElem? (typedPlaces word) place ≡ some p
+
+-- no value stands at that place of the stored form
+pub record NothingTyped (word : List ℕ) (place : ℕ) : Type 0 where
+  pub admissible : Admissible word
+  pub nothing : getElem? (typedPlaces word) place ≡ none
+
+-- the promise of a typed place
+abbrev pub TypedAnswers : List ℕ → ℕ → Outcome → Type 0
+TypedAnswers word place (accepts p) = TypedAt word place p
+TypedAnswers word place (accepts-both n m) = ⊥
+TypedAnswers word place absent = NothingTyped word place
+TypedAnswers word place (refuses number p) = Unadmitted word number p
