@@ -85,7 +85,7 @@ module _ (word : List ℕ) where
       }
 
   -- a test that each place passes
-  compose-every : (f : ℕ → Bool) (places : List ℕ) → T (every f places) → T (every f (composePlaces word places))
+  pub compose-every : (f : ℕ → Bool) (places : List ℕ) → T (every f places) → T (every f (composePlaces word places))
   unfolding pick
   compose-every f [] t = tt
   compose-every f (p ∷ []) t = t

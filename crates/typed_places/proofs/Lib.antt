@@ -3,3 +3,4 @@ pub mod Sorting
 pub mod Passing
 pub mod Seeking
 pub mod Laws
+pub mod InTurn

@@ -29,7 +29,7 @@ module _ {A : Type 0} (value : A → ℕ) where
   sort-values [] = refl
   sort-values (x ∷ list) = insert-values x (sortRunsBy value list) ∙ ap (insert (value x)) (sort-values list)
 
-  sort-every : (f : A → Bool) (list : List A) → T (every f list) → T (every f (sortRunsBy value list))
+  pub sort-every : (f : A → Bool) (list : List A) → T (every f list) → T (every f (sortRunsBy value list))
   sort-every f [] t = tt
   sort-every f (x ∷ list) t =
       insert-every value f x (sortRunsBy value list) (both-left (f x) (every f list) t) (sort-every f list (both-right (f x) (every f list) t))
