@@ -7,6 +7,8 @@ use Rattle.recogniser.specs.Answer.{Answers}
 use Rattle.reading.specs.Records.{HasRecord}
 use Rattle.reading.specs.Parts.{PartAnswers}
 use Rattle.normaliser.specs.Normal.{NormaliseRight}
+use Rattle.normaliser.specs.Form.{FormRight}
+use Rattle.normaliser.specs.Typed.{TypedAnswers}
 use Rattle.writing.specs.Write.{WriteRight}
 use Rattle.spelling.specs.Spell.{Lists, SpellRight}
 use Rattle.collation.specs.Comparison.{CompareAnswers}
@@ -20,7 +22,7 @@ use Rattle.wordbook.specs.Calls.{AddPromise, RemovePromise}
 use Rattle.packing.specs.Packing.{pack, unpack, Packed}
 use Rattle.packing.specs.Answers.{outcomeNumbers, bytesNumbers, RecordGivenRight, recordNumbers, compareNumbers, recordWordNumbers, FindAnswers}
 use Rattle.packing.proofs.Laws.{unpack-pack, packed-unpacked, RecordBits, record-bits}
-use Rattle.packing.proofs.WordFits.{read-fits, record-fits, record-small, part-fits, normalise-fits, write-fits, spell-fits, compare-fits}
+use Rattle.packing.proofs.WordFits.{read-fits, record-fits, record-small, part-fits, normalise-fits, form-fits, typed-fits, write-fits, spell-fits, compare-fits}
 use Rattle.packing.proofs.BookFits.{check-fits, rank-fits, order-fits, record-word-fits, find-fits, add-fits, remove-fits}
 use Rattle.interface.specs.Outputs.{KeyWritten, DecodeWritten}
 use Rattle.interface.proofs.OutputFits.{key-fits, decode-fits}
@@ -44,6 +46,12 @@ module _ (word : List ℕ) (n : ℕ) where
 
   pub normalise-unpacked : (before after : List ℕ) (p : Packed (NormaliseRight word before after) outcomeNumbers n) → unpack n ≡ outcomeNumbers (p .outcome)
   normalise-unpacked before after p = packed-unpacked (NormaliseRight word before after) outcomeNumbers (normalise-fits word before after) n p
+
+  pub form-unpacked : (before after : List ℕ) (p : Packed (FormRight word before after) outcomeNumbers n) → unpack n ≡ outcomeNumbers (p .outcome)
+  form-unpacked before after p = packed-unpacked (FormRight word before after) outcomeNumbers (form-fits word before after) n p
+
+  pub typed-unpacked : (place : ℕ) (p : Packed (TypedAnswers word place) outcomeNumbers n) → unpack n ≡ outcomeNumbers (p .outcome)
+  typed-unpacked place p = packed-unpacked (TypedAnswers word place) outcomeNumbers (typed-fits word place) n p
 
   pub key-unpacked : (before after : List ℕ) (p : Packed (KeyWritten word before after) outcomeNumbers n) → unpack n ≡ outcomeNumbers (p .outcome)
   key-unpacked before after p = packed-unpacked (KeyWritten word before after) outcomeNumbers (key-fits word before after) n p

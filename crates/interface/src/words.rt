@@ -4,6 +4,8 @@ use crate::outputs::put_values;
 ghost use Rattle.recogniser.specs.Answer.{Answers};
 ghost use Rattle.reading.specs.Parts.{PartAnswers};
 ghost use Rattle.normaliser.specs.Normal.{NormaliseRight};
+ghost use Rattle.normaliser.specs.Form.{FormRight};
+ghost use Rattle.normaliser.specs.Typed.{TypedAnswers};
 ghost use Rattle.collation.specs.Comparison.{CompareAnswers};
 ghost use Rattle.writing.specs.Write.{WriteRight};
 ghost use Rattle.spelling.specs.Spell.{lists, SpellRight};
@@ -60,6 +62,22 @@ pub extern "C" fn jogcairn_normalise(word: &[u16], output: &mut [u16]) -> u64
     ensures { λ r. ⌜ Packed (NormaliseRight (now (word .entry)) (now (output .entry)) (now (output .exit))) outcomeNumbers r ⌝ }
 {
     packing::of_counted(normaliser::normalise(word, output))
+}
+
+// Writes the stored form of any word, whether or not it is a row of syllables.
+#[no_mangle]
+pub extern "C" fn jogcairn_stored_form(word: &[u16], output: &mut [u16]) -> u64
+    ensures { λ r. ⌜ Packed (FormRight (now (word .entry)) (now (output .entry)) (now (output .exit))) outcomeNumbers r ⌝ }
+{
+    packing::of_counted(normaliser::form::stored_form(word, output))
+}
+
+// Which value of the word stands at `place` of its stored form: its place in the word.
+#[no_mangle]
+pub extern "C" fn jogcairn_typed_place(word: &[u16], place: usize) -> u64
+    ensures { λ r. ⌜ Packed (TypedAnswers (now (word .entry)) place) outcomeNumbers r ⌝ }
+{
+    packing::of_typed_place(normaliser::typed::typed_place(word, place))
 }
 
 // Writes the collation key of a word.

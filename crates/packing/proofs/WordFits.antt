@@ -31,8 +31,12 @@ use Rattle.reading.specs.Records.{HasRecord, RecordAnswers}
 use Rattle.reading.specs.Parts.{PartAnswers}
 use Rattle.recogniser.proofs.Counted.{count-limit}
 use Rattle.storage.specs.Stored.{storedForm}
+use Rattle.storage.proofs.Outcome.{stored-shorter}
+use Rattle.typed_places.proofs.Laws.{typed-within}
 use Rattle.normaliser.specs.Admission.{Unadmitted, too-long, foreign}
 use Rattle.normaliser.specs.Normal as normal
+use Rattle.normaliser.specs.Form.{FormRight}
+use Rattle.normaliser.specs.Typed.{TypedAnswers}
 use Rattle.writing.specs.Write as writing
 use Rattle.spelling.specs.Spell as spelling
 use Rattle.spelling.proofs.Longest.{spelled-within}
@@ -86,6 +90,22 @@ pub normalise-fits : (word before after : List ℕ) (o : Outcome) → normal.Nor
 normalise-fits word =
     writes-fits (normal.StoreRefusedWith word) (normal.Stores word) _ _ (store-refused-fits word)
     (λ n s. let short = s .reads .admissible .short in (omega arith, omega arith))
+
+unadmitted-fits : (word : List ℕ) (number place : ℕ) → Unadmitted word number place → Fits (outcomeNumbers (refuses number place))
+unadmitted-fits word number place u = small-fits number 0 place (omega arith) (unadmitted-small word number place u)
+
+pub form-fits : (word before after : List ℕ) (o : Outcome) → FormRight word before after o → Fits (outcomeNumbers o)
+form-fits word =
+    writes-fits (Unadmitted word) (λ (_ : Unit {0}). reading.Admissible word) _ _ (unadmitted-fits word)
+    (λ _ a. let short = a .short in (omega (arith, stored-shorter word), omega (arith, stored-shorter word)))
+
+pub typed-fits : (word : List ℕ) (place : ℕ) (o : Outcome) → TypedAnswers word place o → Fits (outcomeNumbers o)
+typed-fits word place (accepts p) t =
+    let short = t .admissible .short in
+    record { tag = omega arith; second = omega arith; first = omega (arith, typed-within word place p (t .typed)) }
+typed-fits word place (accepts-both n m) t = absurd t
+typed-fits word place absent t = record { tag = omega arith; second = omega arith; first = omega arith }
+typed-fits word place (refuses number p) t = unadmitted-fits word number p t
 
 pub part-fits : (word : List ℕ) (number : ℕ) (o : Outcome) → PartAnswers word number o → Fits (outcomeNumbers o)
 part-fits word number (accepts size) p = absurd p

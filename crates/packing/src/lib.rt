@@ -3,6 +3,7 @@ use book_word::RecordWord;
 use collation::compare::Compared;
 use formula::Word;
 use lookup::plan::Found;
+use normaliser::typed::TypedPlace;
 use reading::parts::PartAnswer;
 use reading::records::RecordAnswer;
 use reading::records::SyllableRecord;
@@ -15,6 +16,7 @@ ghost use Rattle.refusals.specs.Refusal.{numberOf, placeOf};
 ghost use Rattle.refusals.specs.Outcome.{outcomeOf};
 ghost use Rattle.reading.specs.Records.{recordOutcomeOf};
 ghost use Rattle.reading.specs.Parts.{partOutcomeOf};
+ghost use Rattle.normaliser.specs.Typed.{typedOutcomeOf};
 ghost use Rattle.spelling.specs.Spell.{spellOutcomeOf};
 ghost use Rattle.collation.specs.Comparison.{compareOutcomeOf};
 ghost use Rattle.entries.specs.Entries.{number};
@@ -93,6 +95,17 @@ pub fn of_part(answer: PartAnswer) -> u64
         PartAnswer::At { place, size } => packed(0, size as u64, place as u64),
         PartAnswer::NoSyllable => packed(128, 0, 0),
         PartAnswer::Refused(refusal) => refused(refusal, 0),
+    }
+}
+
+// The place where a value was typed, or that the stored form has no such place.
+pub fn of_typed_place(answer: TypedPlace) -> u64
+    ensures { λ r. ⌜ r ≡ pack (outcomeNumbers (typedOutcomeOf answer)) ⌝ }
+{
+    match answer {
+        TypedPlace::At(place) => packed(0, 0, place as u64),
+        TypedPlace::NoPlace => packed(128, 0, 0),
+        TypedPlace::Refused(refusal) => refused(refusal, 0),
     }
 }
 
