@@ -3,3 +3,4 @@ pub mod Held
 pub mod Words
 pub mod Classes
 pub mod Pieces
+pub mod Records

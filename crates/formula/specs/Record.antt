@@ -27,6 +27,10 @@ unfoldable pub recordOf : Syllable → List ℕ
 recordOf (syllable h m v f t) =
     (h - 0x1000) ∷ medialWeight m ∷ vowelWeight v ∷ vowelTall v ∷ finalNumberOf f ∷ linkOf f ∷ toneWeight t ∷ []
 
+-- the place of the link among them
+abbrev pub linkPlace : ℕ
+linkPlace = 5
+
 -- the row as a list of bytes, "seven a syllable in word order"
 abbrev pub recordBytes : Row → List ℕ
 recordBytes [] = []

@@ -20,6 +20,9 @@ impl Word {
     // The bytes of a syllable's record.
     pub const RECORD: usize = 7;
 
+    // The place of the link in a record.
+    pub const LINK: usize = 5;
+
     // The weights of a syllable, a byte of a key each.
     pub const WEIGHTS: usize = 5;
 

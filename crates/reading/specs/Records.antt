@@ -48,7 +48,7 @@ pub record NoReading (word : List ℕ) (number place : ℕ) (bytes : List ℕ) :
   pub is : bytes ≡ noBytes
 
 abbrev pub RecordAnswers : List ℕ → ℕ → Outcome → List ℕ → Type 0
-RecordAnswers word number (accepts size) bytes = (size ≡ 7) × HasRecord word number bytes
+RecordAnswers word number (accepts size) bytes = (size ≡ recordSize) × HasRecord word number bytes
 RecordAnswers word number (accepts-both size other) bytes = ⊥
 RecordAnswers word number absent bytes = NoRecord word number bytes
 RecordAnswers word number (refuses refusal place) bytes = NoReading word refusal place bytes

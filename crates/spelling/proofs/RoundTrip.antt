@@ -5,15 +5,16 @@ use mathlib.Core.List.{List, [], _∷_, _++_, map}
 use Prim.Native.Nat.{ℕ, zero, suc, _+_, _-_, _*_, _≤_, _<_}
 use native.Mathlib.Nat.{le-of-suc-le-suc, not-suc-le-zero}
 use native.Mathlib.Omega.{arith}
-use lib.ListN.{length, getD, take, drop, replicate, length-append, length-drop, take-append-drop}
+use lib.ListN.{length, getD, take, drop, replicate, length-drop, take-append-drop}
 use lib.Seq.{take-at, drop-at, drop-drop}
-use Rattle.formula.specs.Limits.{limit}
-use Rattle.formula.specs.Syllable.{Syllable, syllable, bare}
+use Rattle.formula.specs.Limits.{limit, recordSize}
+use Rattle.formula.specs.Syllable.{bare}
 use Rattle.formula.specs.Row.{Row, IsRow, join, Gives}
 use Rattle.formula.specs.Record.{recordOf, recordBytes}
 use Rattle.formula.specs.Packed.{packed}
 use Rattle.refusals.specs.Outcome.{Outcome, accepts, accepts-both, absent, refuses, outcomeOf}
 use Rattle.refusals.specs.Output.{refused, put, too-short}
+use Rattle.formula.proofs.Records.{record-length, records-length}
 use Rattle.rows.proofs.Viable.{only-row}
 use Rattle.recogniser.specs.Answer.{Reads}
 use Rattle.reading.specs.Reading.{ReadRight}
@@ -25,40 +26,32 @@ use Rattle.recogniser.proofs.Determined.{answers-alike}
 use Rattle.writing.specs.Write.{Recorded, no-such-row, WriteRight}
 use Rattle.writing.proofs.Laws.{write-determined}
 
-record-length : (s : Syllable) → length (recordOf s) ≡ 7
-unfolding recordOf
-record-length (syllable h m v f t) = refl
-
-records-length : (row : Row) → length (recordBytes row) ≡ 7 * length row
-records-length [] = refl
-records-length (s ∷ row) = omega (arith, length-append (recordOf s) (recordBytes row), record-length s, records-length row)
-
 -- the record of a number, among the records of a row
-record-number : (row : Row) (number : ℕ) → number < length row → take 7 (drop (7 * number) (recordBytes row)) ≡ recordOf (getD row number (bare 0x1000))
+record-number : (row : Row) (number : ℕ) → number < length row → take recordSize (drop (recordSize * number) (recordBytes row)) ≡ recordOf (getD row number (bare 0x1000))
 record-number [] number below = absurd (not-suc-le-zero below)
-record-number (s ∷ row) zero below = take-at (recordOf s) (recordBytes row) 7 (record-length s)
+record-number (s ∷ row) zero below = take-at (recordOf s) (recordBytes row) recordSize (record-length s)
 record-number (s ∷ row) (suc number) below =
-    let place : 7 * suc number ≡ 7 + 7 * number = omega arith in
-    rw (place, ← drop-drop (7 * number) 7 (recordOf s ++ recordBytes row), drop-at (recordOf s) (recordBytes row) 7 (record-length s))
+    let place : recordSize * suc number ≡ recordSize + recordSize * number = omega arith in
+    rw (place, ← drop-drop (recordSize * number) recordSize (recordOf s ++ recordBytes row), drop-at (recordOf s) (recordBytes row) recordSize (record-length s))
     (record-number row number (le-of-suc-le-suc below))
 
 -- bytes that are a row's records, number by number
-by-number : (row : Row) (bytes : List ℕ) → length bytes ≡ 7 * length row
-    → ((number : ℕ) → number < length row → take 7 (drop (7 * number) bytes) ≡ recordOf (getD row number (bare 0x1000))) → recordBytes row ≡ bytes
+by-number : (row : Row) (bytes : List ℕ) → length bytes ≡ recordSize * length row
+    → ((number : ℕ) → number < length row → take recordSize (drop (recordSize * number) bytes) ≡ recordOf (getD row number (bare 0x1000))) → recordBytes row ≡ bytes
 by-number [] [] whole each = refl
 by-number [] (byte ∷ bytes) whole each = let z : ⊥ = omega arith in absurd z
 by-number (s ∷ row) bytes whole each =
-    let here : take 7 bytes ≡ recordOf s = each 0 (omega arith) in
-    let rest : recordBytes row ≡ drop 7 bytes =
-    by-number row (drop 7 bytes) (omega (arith, length-drop 7 bytes))
-    (λ number below. let place : 7 + 7 * number ≡ 7 * suc number = omega arith in
-    rw (drop-drop (7 * number) 7 bytes, place) (each (suc number) (omega arith))) in
-    rw (← here, rest) (take-append-drop 7 bytes)
+    let here : take recordSize bytes ≡ recordOf s = each 0 (omega arith) in
+    let rest : recordBytes row ≡ drop recordSize bytes =
+    by-number row (drop recordSize bytes) (omega (arith, length-drop recordSize bytes))
+    (λ number below. let place : recordSize + recordSize * number ≡ recordSize * suc number = omega arith in
+    rw (drop-drop (recordSize * number) recordSize bytes, place) (each (suc number) (omega arith))) in
+    rw (← here, rest) (take-append-drop recordSize bytes)
 
 -- the bytes are the records of the word's n syllables, each as it is given by number, one behind the other
 pub record RecordsRead (word : List ℕ) (n : ℕ) (bytes : List ℕ) : Type 0 where
-  pub whole : length bytes ≡ 7 * n
-  pub each : (number : ℕ) → number < n → HasRecord word number (take 7 (drop (7 * number) bytes))
+  pub whole : length bytes ≡ recordSize * n
+  pub each : (number : ℕ) → number < n → HasRecord word number (take recordSize (drop (recordSize * number) bytes))
 
 -- the word is written: so many values, at the front of the output, the rest untouched
 pub record WrittenTo (word before after : List ℕ) (outcome : Outcome) : Type 0 where
@@ -98,7 +91,7 @@ records-of word n bytes r b row g =
     record {
       is-row = g .is-row;
       records =
-          by-number row bytes (b .whole ∙ ap (λ (k : ℕ). 7 * k) (sym counted))
+          by-number row bytes (b .whole ∙ ap (λ (k : ℕ). recordSize * k) (sym counted))
           (λ number below. let h = b .each number (omega (arith, counted)) in
           h .is ∙ ap (λ (t : Row). recordOf (getD t number (bare 0x1000))) (r .only (h .row) (h .gives) ∙ sym (r .only row g)));
       short = omega (arith, r .admissible .short, ap length (g .joined));
@@ -120,7 +113,7 @@ pub record ReadBack (word bytes : List ℕ) (reading : Reading) : Type 0 where
   pub row-records : (row : Row) → Gives row word → recordBytes row ≡ bytes
   pub records : RecordsRead word n bytes
   pub by-number : (number : ℕ) → number < n → (r : SyllableRecord) → RecordRight word number r
-      → (recordOutcomeOf (r .answer) ≡ accepts 7) × (r .bytes ≡ take 7 (drop (7 * number) bytes))
+      → (recordOutcomeOf (r .answer) ≡ accepts recordSize) × (r .bytes ≡ take recordSize (drop (recordSize * number) bytes))
 
 module _ (word bytes : List ℕ) (row : Row) (g : Gives row word) (p : recordBytes row ≡ bytes) (short : length word ≤ limit) where
   row-read : Reads word (length row)
@@ -129,7 +122,7 @@ module _ (word bytes : List ℕ) (row : Row) (g : Gives row word) (p : recordByt
   same-row : (other : Row) → Gives other word → other ≡ row
   same-row other h = only-row other row word h g
 
-  record-is : (number : ℕ) → number < length row → take 7 (drop (7 * number) bytes) ≡ recordOf (getD row number (bare 0x1000))
+  record-is : (number : ℕ) → number < length row → take recordSize (drop (recordSize * number) bytes) ≡ recordOf (getD row number (bare 0x1000))
   record-is number below = rw (← p) (record-number row number below)
 
   records-read : RecordsRead word (length row) bytes
@@ -146,7 +139,7 @@ module _ (word bytes : List ℕ) (row : Row) (g : Gives row word) (p : recordByt
       }
 
   asked : (number : ℕ) → number < length row → (o : Outcome) (b : List ℕ) → RecordAnswers word number o b
-      → (o ≡ accepts 7) × (b ≡ take 7 (drop (7 * number) bytes))
+      → (o ≡ accepts recordSize) × (b ≡ take recordSize (drop (recordSize * number) bytes))
   asked number below (accepts size) b h = (
     ap accepts (h .0),
     h .1 .is ∙ ap (λ (t : Row). recordOf (getD t number (bare 0x1000))) (same-row (h .1 .row) (h .1 .gives)) ∙ sym (record-is number below),

@@ -6,6 +6,7 @@ use lib.Dec.{ltb}
 use lib.ListN.{getD, take, set}
 use Rattle.letters.specs.Choice.{pick}
 use Rattle.formula.specs.Syllable.{Final, no-final, plain, stacked, kinzi, great-sa, Syllable, syllable, part}
+use Rattle.formula.specs.Record.{linkPlace}
 use Rattle.reading.specs.Records.{bytesBy}
 use Rattle.syllable_text.specs.Decode.{syllableOf}
 
@@ -27,7 +28,7 @@ plainLink link = pick (ltb 1 link) 1 link
 
 -- the record with a plain link
 abbrev pub plainBytes : List ℕ → List ℕ
-plainBytes bytes = set bytes 5 (plainLink (getD bytes 5 0))
+plainBytes bytes = set bytes linkPlace (plainLink (getD bytes linkPlace 0))
 
 -- how a packed syllable is spelled
 unfoldable pub spelledBy : ℕ → List ℕ

@@ -29,7 +29,7 @@ fn plain_record(packed: u64) -> [u8; Word::RECORD]
     ensures { λ r. ⌜ r ≡ plainBytes (bytesBy packed) ⌝ }
 {
     let mut bytes = reading::records::bytes_of(packed);
-    bytes[5] = plain_link(bytes[5]);
+    bytes[Word::LINK] = plain_link(bytes[Word::LINK]);
     bytes
 }
 

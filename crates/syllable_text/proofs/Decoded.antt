@@ -2,18 +2,20 @@
 -- Assumes nothing.
 use mathlib.Core.Path.{_≡_}
 use mathlib.Core.Bool.{_||_}
-use mathlib.Core.List.{List, [], _∷_}
+use mathlib.Core.List.{List}
 use Prim.Native.Nat.{ℕ, _+_, _-_, _≤_}
 use native.Mathlib.Omega.{arith}
 use lib.Dec.{T, eqb, leb}
-use lib.ListN.{getD}
+use lib.ListN.{length, getD}
 use Rattle.letters.specs.Weights.{toneWeight}
 use Rattle.formula.proofs.Lists.{both, both-left, both-right}
 use Rattle.formula.specs.Syllable.{Syllable, syllable, finalOf, isSyllable}
-use Rattle.formula.specs.Record.{linkOf, recordOf}
+use Rattle.formula.specs.Limits.{recordSize}
+use Rattle.formula.specs.Record.{linkOf, recordOf, linkPlace}
 use Rattle.rows.proofs.Sound.{apart, together}
 use Rattle.syllable_text.specs.Decode.{medialOfWeight, vowelOfWeight, finalOfNumbers, toneOfWeight, syllableOf}
 use Rattle.syllable_text.specs.Record.{isToneNumber, isRecord}
+use Rattle.syllable_text.proofs.Places.{all-of}
 use Rattle.syllable_text.proofs.Parts.{tested, test-passes, head-least, medial-read, medial-weighs, vowel-read, vowel-weighs, final-read, final-absent, final-closed, final-numbers, tone-read, tone-weighs}
 
 -- a syllable's record passes the tests, and is read as the syllable
@@ -42,16 +44,22 @@ read (syllable h m v f t) q =
       back = rw (own, medial-read m .back, vowel-read v .back, final-read f (p .final) .back, tone-read t .back);
     }
 
--- seven bytes that pass the tests are the record of the syllable that they are read as
+-- a record's bytes that pass the tests are the record of the syllable that they are read as
 pub record Decoded (bytes : List ℕ) : Type 0 where
   pub is : T (isSyllable (syllableOf bytes))
   pub records : recordOf (syllableOf bytes) ≡ bytes
-  pub linked : linkOf (finalOf (syllableOf bytes)) ≡ getD bytes 5 0
+  pub linked : linkOf (finalOf (syllableOf bytes)) ≡ getD bytes linkPlace 0
 
-pub decoded : (head medial vowel tall letter link tone : ℕ) → T (isRecord (head ∷ medial ∷ vowel ∷ tall ∷ letter ∷ link ∷ tone ∷ []))
-    → Decoded (head ∷ medial ∷ vowel ∷ tall ∷ letter ∷ link ∷ tone ∷ [])
-unfolding recordOf syllableOf isToneNumber
-decoded head medial vowel tall letter link tone t =
+pub decoded : (bytes : List ℕ) → length bytes ≡ recordSize → T (isRecord bytes) → Decoded bytes
+unfolding recordOf syllableOf isRecord isToneNumber
+decoded bytes size t =
+    let head = getD bytes 0 0 in
+    let medial = getD bytes 1 0 in
+    let vowel = getD bytes 2 0 in
+    let tall = getD bytes 3 0 in
+    let letter = getD bytes 4 0 in
+    let link = getD bytes linkPlace 0 in
+    let tone = getD bytes 6 0 in
     let p = tested head medial vowel tall letter link tone t in
     let final = final-numbers letter link (p .final-test) in
     let vowels = vowel-weighs vowel tall (p .vowel-test) in
@@ -71,6 +79,6 @@ decoded head medial vowel tall letter link tone t =
           });
       records =
           let own : 0x1000 + head - 0x1000 ≡ head = omega arith in
-          rw (own, medials, vowels .0, vowels .1, final .numbered, final .linked, tones);
+          rw (own, medials, vowels .0, vowels .1, final .numbered, final .linked, tones) (all-of recordSize bytes size);
       linked = final .linked;
     }

@@ -1,5 +1,5 @@
 pub mod Bytes
-pub mod Sevens
+pub mod Places
 pub mod Parts
 pub mod Decoded
 pub mod Texts

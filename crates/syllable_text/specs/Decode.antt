@@ -1,4 +1,4 @@
--- Document 01, "Syllable records", read the other way: the syllable that seven bytes stand for. What stands for none has some other's.
+-- Document 01, "Syllable records", read the other way: the syllable that a record's bytes stand for. What stands for none has some other's.
 -- Assumes nothing.
 use mathlib.Core.Bool.{Bool, true, false}
 use mathlib.Core.List.{List}
@@ -7,6 +7,7 @@ use lib.Dec.{eqb}
 use lib.ListN.{getD}
 use Rattle.letters.specs.Choice.{pick}
 use Rattle.letters.specs.Marks.{neither, ya, ra, MedialGroup, group, no-medial, Vowel, no-vowel, vowel-aa, vowel-i, vowel-ii, vowel-u, vowel-uu, vowel-e, vowel-ai, vowel-e-aa, vowel-e-aa-killer, vowel-am, vowel-i-u, vowel-u-am, ToneMark, no-tone, dot, visarga}
+use Rattle.formula.specs.Record.{linkPlace}
 use Rattle.formula.specs.Syllable.{Final, no-final, plain, stacked, kinzi, great-sa, Syllable, syllable}
 
 -- "Y 1, R 2, W 3, H 4, YW 5, RW 6, YH 7, RH 8, WH 9, YWH 10, RWH 11."
@@ -51,4 +52,4 @@ toneOfWeight n = pick (eqb n 1) dot (pick (eqb n 2) visarga no-tone)
 unfoldable pub syllableOf : List ℕ → Syllable
 syllableOf bytes =
     syllable (0x1000 + getD bytes 0 0) (medialOfWeight (getD bytes 1 0)) (vowelOfWeight (getD bytes 2 0) (eqb (getD bytes 3 0) 1))
-    (finalOfNumbers (getD bytes 4 0) (getD bytes 5 0)) (toneOfWeight (getD bytes 6 0))
+    (finalOfNumbers (getD bytes 4 0) (getD bytes linkPlace 0)) (toneOfWeight (getD bytes 6 0))

@@ -1,4 +1,4 @@
--- Document 01, "Syllable records": the tests that tell a record from seven other bytes, by the bytes themselves.
+-- Document 01, "Syllable records": the tests that tell a record from other bytes, by the bytes themselves.
 -- Assumes nothing.
 use mathlib.Core.Bool.{Bool, _&&_, _||_}
 use mathlib.Core.List.{List}
@@ -7,6 +7,7 @@ use lib.Dec.{eqb, leb}
 use lib.ListN.{getD}
 use Rattle.letters.specs.Weights.{isHead, isFinalLetter}
 use Rattle.formula.specs.Syllable.{carriesMarks, carriesFinal}
+use Rattle.formula.specs.Record.{linkPlace}
 
 -- a vowel's weight, and "1 for a tall AA, else 0"
 unfoldable pub isVowelNumbers : ℕ → ℕ → Bool
@@ -25,16 +26,16 @@ isToneNumber link tone = leb tone 2 && (leb link 1 || eqb tone 0)
 unfoldable pub linkAdmits : ℕ → ℕ → Bool
 linkAdmits link head = leb link 1 || (eqb link 2 && isFinalLetter head) || (eqb link 3 && eqb head 0x101E)
 
--- seven bytes that are a syllable's record; "For an I, N, P or S the last six are 0."
+-- bytes that are a syllable's record; "For an I, N, P or S the last six are 0."
 unfoldable pub isRecord : List ℕ → Bool
 isRecord bytes =
     isHead (0x1000 + getD bytes 0 0)
     && leb (getD bytes 1 0) 11
     && isVowelNumbers (getD bytes 2 0) (getD bytes 3 0)
-    && isFinalNumbers (getD bytes 4 0) (getD bytes 5 0)
-    && isToneNumber (getD bytes 5 0) (getD bytes 6 0)
+    && isFinalNumbers (getD bytes 4 0) (getD bytes linkPlace 0)
+    && isToneNumber (getD bytes linkPlace 0) (getD bytes 6 0)
     && (carriesMarks (0x1000 + getD bytes 0 0) || (eqb (getD bytes 1 0) 0 && eqb (getD bytes 2 0) 0))
-    && (carriesFinal (0x1000 + getD bytes 0 0) || (eqb (getD bytes 5 0) 0 && eqb (getD bytes 6 0) 0))
+    && (carriesFinal (0x1000 + getD bytes 0 0) || (eqb (getD bytes linkPlace 0) 0 && eqb (getD bytes 6 0) 0))
 
 -- a record that stands behind one with the link
 unfoldable pub mayFollow : ℕ → List ℕ → Bool

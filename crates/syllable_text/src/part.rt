@@ -12,7 +12,7 @@ pub fn part_size(next: [u8; Word::RECORD]) -> usize
 {
     let medial = text::medial_text(next[1]);
     let vowel = text::vowel_text(next[2], next[3]);
-    let last = text::final_text(next[4], next[5]);
+    let last = text::final_text(next[4], next[Word::LINK]);
     let tone = text::tone_text(next[6]);
     1 + medial.count + vowel.count + last.count + tone.count
 }
@@ -25,6 +25,10 @@ pub fn put_part(output: &mut [u16], at: usize, link: u8, next: [u8; Word::RECORD
     output[at] = text::head_value(link, next[0]);
     let vowel_at = text::put(output, at + 1, text::medial_text(next[1]));
     let final_at = text::put(output, vowel_at, text::vowel_text(next[2], next[3]));
-    let tone_at = text::put(output, final_at, text::final_text(next[4], next[5]));
+    let tone_at = text::put(
+        output,
+        final_at,
+        text::final_text(next[4], next[Word::LINK]),
+    );
     text::put(output, tone_at, text::tone_text(next[6]))
 }

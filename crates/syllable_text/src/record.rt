@@ -31,14 +31,14 @@ pub fn may_follow(link: u8, next: [u8; Word::RECORD]) -> bool
     admits(link, next[0]) & is_record(next)
 }
 
-// Whether the seven bytes are those of a syllable.
+// Whether the bytes are those of a syllable.
 fn is_record(bytes: [u8; Word::RECORD]) -> bool
     ensures { λ r. ⌜ r ≡ isRecord bytes ⌝ }
 {
     let head = bytes[0];
     let medial = bytes[1];
     let vowel = bytes[2];
-    let link = bytes[5];
+    let link = bytes[Word::LINK];
     let tone = bytes[6];
     is_head(head)
         & (medial <= 11)

@@ -4,26 +4,25 @@ use mathlib.Core.Path.{_≡_, refl, ap, sym, _∙_}
 use mathlib.Core.Bool.{_&&_}
 use mathlib.Core.List.{List, [], _∷_, _++_, append-assoc, append-nil}
 use Prim.Native.Nat.{ℕ, _+_, _≤_, _<_}
-use native.Mathlib.Decide.{decLt}
 use native.Mathlib.Nat.{zero-add}
 use native.Mathlib.Omega.{arith}
 use lib.Dec.{T}
 use lib.ListN.{length, getD, take, drop, length-append, length-drop, drop-of-length-le}
-use lib.Seq.{drop-drop}
+use lib.Seq.{length-take-le, drop-drop}
 use Rattle.letters.specs.Choice.{pick}
 use Rattle.formula.proofs.Lists.{both-left, both-right}
 use Rattle.formula.specs.Syllable.{Final, no-final, plain, stacked, kinzi, great-sa, Syllable, syllable, finalOf, part}
 use Rattle.formula.specs.Row.{Row, joinAfter, join}
-use Rattle.formula.specs.Record.{linkOf}
+use Rattle.formula.specs.Limits.{recordSize}
+use Rattle.formula.specs.Record.{linkOf, linkPlace}
 use Rattle.syllable_text.specs.Decode.{syllableOf}
 use Rattle.syllable_text.specs.Record.{linkAdmits, isRecord, mayFollow}
 use Rattle.syllable_text.specs.Part.{headAfter, partAfter, PartPut}
-use Rattle.syllable_text.proofs.Sevens.{seven}
 use Rattle.syllable_text.proofs.Decoded.{decoded}
 use Rattle.syllable_text.proofs.Putting.{put-length, put-behind}
 use Rattle.writing.specs.Records.{rowOf, areRecords}
 use Rattle.writing.specs.Put.{RowFits, RowPut}
-use Rattle.writing.proofs.Sevens.{row-next, records-next, records-short}
+use Rattle.writing.proofs.Cutting.{row-next, records-next, records-whole, row-none}
 
 -- the part behind a link is the part behind its final
 part-after : (f : Final) (s : Syllable) → partAfter (linkOf f) s ≡ part f s
@@ -33,21 +32,6 @@ part-after (plain c) (syllable h m v g t) = refl
 part-after (stacked c) (syllable h m v g t) = refl
 part-after kinzi (syllable h m v g t) = refl
 part-after great-sa (syllable h m v g t) = refl
-
--- the link of a record is that of the final that is read
-record-link : (l : List ℕ) → 7 ≤ length l → T (isRecord (take 7 l)) → linkOf (finalOf (syllableOf (take 7 l))) ≡ getD (take 7 l) 5 0
-record-link l h t =
-    let s = seven l h in
-    let same : take 7 l ≡ s .head ∷ s .medial ∷ s .vowel ∷ s .tall ∷ s .letter ∷ s .link ∷ s .tone ∷ [] = ap (take 7) (s .is) in
-    rw same (decoded (s .head) (s .medial) (s .vowel) (s .tall) (s .letter) (s .link) (s .tone) (rw same at t) .linked)
-
--- records that are not at their end have seven bytes
-whole : (link : ℕ) (l : List ℕ) → T (areRecords link l) → 0 < length l → 7 ≤ length l
-whole link l t more = go (decLt (length l) 7)
-  where
-    go : Dec (length l < 7) → 7 ≤ length l
-    go (yes few) = absurd (rw (records-short link l more few) at t)
-    go (no enough) = omega arith
 
 -- at a place of the bytes: the values so far, at the front of the output, and that the records go on from here
 pub record Filled (bytes before output : List ℕ) (link count at : ℕ) : Type 0 where
@@ -78,25 +62,25 @@ module _ (bytes before output : List ℕ) (link count at : ℕ) (p : Filled byte
   pub filled-length : length output ≡ length before
   filled-length = put-length before output 0 (p .done) count (p .put) (omega (arith, filled-fits))
 
-  -- a record has seven bytes
-  pub filled-whole : at < length bytes → at + 7 ≤ length bytes
-  filled-whole more = omega (arith, length-drop at bytes, whole link (drop at bytes) (p .are-records) (omega (arith, length-drop at bytes)))
+  -- a whole record is left
+  pub filled-whole : at < length bytes → at + recordSize ≤ length bytes
+  filled-whole more = omega (arith, length-drop at bytes, records-whole link (drop at bytes) (p .are-records) (omega (arith, length-drop at bytes)))
 
   -- at the end the values so far are the word
   pub filled-all : length bytes ≤ at → RowPut bytes before output count
   filled-all end =
       let all : p .done ≡ join (rowOf bytes) =
-      sym (append-nil (p .done)) ∙ ap (λ (l : List ℕ). p .done ++ joinAfter (p .final) (rowOf l)) (sym (drop-of-length-le bytes end)) ∙ p .joined in
+      sym (append-nil (p .done)) ∙ ap (λ (row : Row). p .done ++ joinAfter (p .final) row) (sym (ap rowOf (drop-of-length-le bytes end) ∙ row-none)) ∙ p .joined in
       record {
         put = rw (← all) (p .put .put ∙ rw zero-add);
         counted = omega (arith, p .put .behind-it, ap length all);
       }
 
-  module _ (next : List ℕ) (enough : at + 7 ≤ length bytes) (is-next : next ≡ take 7 (drop at bytes)) where
-    joined-next : (p .done ++ partAfter link (syllableOf next)) ++ joinAfter (finalOf (syllableOf next)) (rowOf (drop (at + 7) bytes)) ≡ join (rowOf bytes)
+  module _ (next : List ℕ) (enough : at + recordSize ≤ length bytes) (is-next : next ≡ take recordSize (drop at bytes)) where
+    joined-next : (p .done ++ partAfter link (syllableOf next)) ++ joinAfter (finalOf (syllableOf next)) (rowOf (drop (at + recordSize) bytes)) ≡ join (rowOf bytes)
     joined-next =
-        let here : rowOf (drop at bytes) ≡ syllableOf next ∷ rowOf (drop (at + 7) bytes) =
-        rw (is-next, ← drop-drop 7 at bytes) (row-next (drop at bytes) (omega (arith, length-drop at bytes))) in
+        let here : rowOf (drop at bytes) ≡ syllableOf next ∷ rowOf (drop (at + recordSize) bytes) =
+        rw (is-next, ← drop-drop recordSize at bytes) (row-next (drop at bytes) (omega (arith, length-drop at bytes))) in
         rw (← p .linked, part-after (p .final) (syllableOf next), append-assoc) (ap (λ (r : Row). p .done ++ joinAfter (p .final) r) (sym here) ∙ p .joined)
 
     -- there is room for the part
@@ -107,24 +91,24 @@ module _ (bytes before output : List ℕ) (link count at : ℕ) (p : Filled byte
           filled-length,
           p .put .behind-it,
           ap length joined-next,
-          length-append (p .done ++ partAfter link (syllableOf next)) (joinAfter (finalOf (syllableOf next)) (rowOf (drop (at + 7) bytes))),
+          length-append (p .done ++ partAfter link (syllableOf next)) (joinAfter (finalOf (syllableOf next)) (rowOf (drop (at + recordSize) bytes))),
           length-append (p .done) (partAfter link (syllableOf next)),
         )
 
     -- one record more
     pub filled-more : (after : List ℕ) (behind : ℕ) → PartPut output after count (partAfter link (syllableOf next)) behind
-        → Filled bytes before after (getD next 5 0) behind (at + 7)
+        → Filled bytes before after (getD next linkPlace 0) behind (at + recordSize)
     unfolding mayFollow
     filled-more after behind q =
-        let passed : T (mayFollow link next && areRecords (getD next 5 0) (drop (at + 7) bytes)) =
-        rw (is-next, ← drop-drop 7 at bytes) (rw (records-next link (drop at bytes) (omega (arith, length-drop at bytes))) at (p .are-records)) in
-        let one : T (mayFollow link next) = both-left (mayFollow link next) (areRecords (getD next 5 0) (drop (at + 7) bytes)) passed in
+        let passed : T (mayFollow link next && areRecords (getD next linkPlace 0) (drop (at + recordSize) bytes)) =
+        rw (is-next, ← drop-drop recordSize at bytes) (rw (records-next link (drop at bytes) (omega (arith, length-drop at bytes))) at (p .are-records)) in
+        let one : T (mayFollow link next) = both-left (mayFollow link next) (areRecords (getD next linkPlace 0) (drop (at + recordSize) bytes)) passed in
         let is : T (isRecord next) = both-right (linkAdmits link (0x1000 + getD next 0 0)) (isRecord next) one in
         record {
           final = finalOf (syllableOf next);
-          linked = rw is-next (record-link (drop at bytes) (omega (arith, length-drop at bytes)) (rw is-next at is));
+          linked = decoded next (ap length is-next ∙ length-take-le recordSize (drop at bytes) (omega (arith, length-drop at bytes))) is .linked;
           within = enough;
-          are-records = both-right (mayFollow link next) (areRecords (getD next 5 0) (drop (at + 7) bytes)) passed;
+          are-records = both-right (mayFollow link next) (areRecords (getD next linkPlace 0) (drop (at + recordSize) bytes)) passed;
           done = p .done ++ partAfter link (syllableOf next);
           put = put-behind before output 0 (p .done) count (p .put) after (partAfter link (syllableOf next)) behind (omega (arith, filled-room, filled-length, p .put .behind-it)) q;
           joined = joined-next;

@@ -1,4 +1,4 @@
-pub mod Sevens
+pub mod Cutting
 pub mod Rows
 pub mod Measuring
 pub mod Filling

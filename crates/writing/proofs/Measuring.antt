@@ -10,16 +10,17 @@ use lib.ListN.{length, getD, take, drop, length-append, length-drop, drop-of-len
 use lib.Seq.{drop-drop}
 use borrow.Author.Tests.{le-leb, lt-leb}
 use Rattle.letters.proofs.Picks.{pick-yes, pick-no, and-yes, and-no-left, and-no-right}
-use Rattle.formula.specs.Limits.{limit}
+use Rattle.formula.specs.Limits.{limit, recordSize}
 use Rattle.formula.specs.Syllable.{Final, no-final, Syllable, syllable, finalOf, part}
 use Rattle.formula.specs.Row.{Row, joinAfter, join}
+use Rattle.formula.specs.Record.{linkPlace}
 use Rattle.syllable_text.specs.Decode.{syllableOf}
 use Rattle.syllable_text.specs.Record.{mayFollow}
 use Rattle.syllable_text.specs.Part.{PartSize}
 use Rattle.writing.specs.Records.{rowOf, areRecords}
 use Rattle.writing.specs.Size.{sizeOf}
 use Rattle.writing.specs.declared.row.Size.the-variants.{Values, NoSuchRow}
-use Rattle.writing.proofs.Sevens.{row-next, records-next, records-short}
+use Rattle.writing.proofs.Cutting.{row-next, records-next, records-short, row-none, records-none}
 
 -- the values of a row, of which there are as many whatever stands before it
 pub size : Row → ℕ
@@ -51,35 +52,35 @@ module _ (bytes : List ℕ) (link count at : ℕ) (p : Measured bytes link count
   unfolding sizeOf
   refused e = pick-no _ _ _ _ (and-no-left (areRecords 0 bytes) _ (p .decided ∙ e)) refl
 
-  -- fewer than seven bytes are left
-  pub measured-short : at < length bytes → length bytes - at < 7 → NoSuchRow ≡ sizeOf bytes
+  -- no whole record is left
+  pub measured-short : at < length bytes → length bytes - at < recordSize → NoSuchRow ≡ sizeOf bytes
   measured-short more few = refused (records-short link (drop at bytes) (omega (arith, length-drop at bytes)) (omega (arith, length-drop at bytes)))
 
   -- all bytes are passed
   pub measured-open : length bytes ≤ at → 1 < link → NoSuchRow ≡ sizeOf bytes
-  measured-open done waits = refused (ap (areRecords link) (drop-of-length-le bytes done) ∙ lt-leb link 1 waits)
+  measured-open done waits = refused (ap (areRecords link) (drop-of-length-le bytes done) ∙ records-none link ∙ lt-leb link 1 waits)
 
   pub measured-all : length bytes ≤ at → link ≤ 1 → Values count ≡ sizeOf bytes
   unfolding sizeOf size
   measured-all done closed =
       let left : drop at bytes ≡ [] = drop-of-length-le bytes done in
-      let counted : length (join (rowOf bytes)) ≡ count = omega (arith, p .counted, ap (λ (l : List ℕ). size (rowOf l)) left) in
-      let passed : areRecords 0 bytes ≡ true = p .decided ∙ ap (areRecords link) left ∙ le-leb link 1 closed in
+      let counted : length (join (rowOf bytes)) ≡ count = omega (arith, p .counted, ap size (ap rowOf left ∙ row-none)) in
+      let passed : areRecords 0 bytes ≡ true = p .decided ∙ ap (areRecords link) left ∙ records-none link ∙ le-leb link 1 closed in
       pick-yes _ _ _ _ (and-yes (areRecords 0 bytes) _ passed (le-leb (length (join (rowOf bytes))) limit (omega (arith, p .short)))) (ap Values (sym counted))
 
-  module _ (next : List ℕ) (whole : at + 7 ≤ length bytes) (is-next : next ≡ take 7 (drop at bytes)) where
-    here : areRecords link (drop at bytes) ≡ (mayFollow link next && areRecords (getD next 5 0) (drop (at + 7) bytes))
-    here = rw (is-next, ← drop-drop 7 at bytes) (records-next link (drop at bytes) (omega (arith, length-drop at bytes)))
+  module _ (next : List ℕ) (whole : at + recordSize ≤ length bytes) (is-next : next ≡ take recordSize (drop at bytes)) where
+    here : areRecords link (drop at bytes) ≡ (mayFollow link next && areRecords (getD next linkPlace 0) (drop (at + recordSize) bytes))
+    here = rw (is-next, ← drop-drop recordSize at bytes) (records-next link (drop at bytes) (omega (arith, length-drop at bytes)))
 
     -- the record does not pass the tests
     pub measured-wrong : mayFollow link next ≡ false → NoSuchRow ≡ sizeOf bytes
     measured-wrong e = refused (here ∙ and-no-left (mayFollow link next) _ e)
 
-    counted-more : (n : ℕ) → PartSize next n → size (rowOf bytes) ≡ (count + n) + size (rowOf (drop (at + 7) bytes))
+    counted-more : (n : ℕ) → PartSize next n → size (rowOf bytes) ≡ (count + n) + size (rowOf (drop (at + recordSize) bytes))
     counted-more n s =
-        let more : size (rowOf (drop at bytes)) ≡ length (part no-final (syllableOf next)) + size (rowOf (drop (at + 7) bytes)) =
-        rw (is-next, ← drop-drop 7 at bytes)
-        (ap size (row-next (drop at bytes) (omega (arith, length-drop at bytes))) ∙ size-more (syllableOf (take 7 (drop at bytes))) (rowOf (drop 7 (drop at bytes)))) in
+        let more : size (rowOf (drop at bytes)) ≡ length (part no-final (syllableOf next)) + size (rowOf (drop (at + recordSize) bytes)) =
+        rw (is-next, ← drop-drop recordSize at bytes)
+        (ap size (row-next (drop at bytes) (omega (arith, length-drop at bytes))) ∙ size-more (syllableOf (take recordSize (drop at bytes))) (rowOf (drop recordSize (drop at bytes)))) in
         omega (arith, p .counted, s .counted)
 
     -- it has too many values
@@ -88,6 +89,6 @@ module _ (bytes : List ℕ) (link count at : ℕ) (p : Measured bytes link count
     measured-long n s long = pick-no _ _ _ _ (and-no-right (areRecords 0 bytes) _ (lt-leb (length (join (rowOf bytes))) limit (omega (arith, counted-more n s)))) refl
 
     -- it is one more
-    pub measured-more : (n : ℕ) → PartSize next n → mayFollow link next ≡ true → count + n ≤ limit → Measured bytes (getD next 5 0) (count + n) (at + 7)
+    pub measured-more : (n : ℕ) → PartSize next n → mayFollow link next ≡ true → count + n ≤ limit → Measured bytes (getD next linkPlace 0) (count + n) (at + recordSize)
     measured-more n s e fits =
-        record { within = whole; decided = p .decided ∙ here ∙ ap (λ (b : Bool). b && areRecords (getD next 5 0) (drop (at + 7) bytes)) e; counted = counted-more n s; short = fits }
+        record { within = whole; decided = p .decided ∙ here ∙ ap (λ (b : Bool). b && areRecords (getD next linkPlace 0) (drop (at + recordSize) bytes)) e; counted = counted-more n s; short = fits }

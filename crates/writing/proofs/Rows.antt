@@ -1,16 +1,20 @@
 -- Bytes that pass the tests are the records of the row that they are read as, and the records of a row pass them and are read as it.
 -- Assumes nothing.
-use mathlib.Core.Path.{_≡_, refl}
-use mathlib.Core.Bool.{Bool, true, false, _||_}
+use mathlib.Core.Path.{_≡_, refl, ap, _∙_}
+use mathlib.Core.Bool.{Bool, true, false, _&&_, _||_}
 use mathlib.Core.List.{List, [], _∷_, _++_}
-use Prim.Native.Nat.{ℕ, _+_, _-_, _≤_}
+use Prim.Native.Nat.{ℕ, zero, suc, _+_, _-_, _≤_, _<_}
 use native.Mathlib.Omega.{arith}
 use lib.Dec.{T}
-use Rattle.letters.specs.Weights.{isFinalLetter, medialWeight, vowelWeight, vowelTall, toneWeight}
+use lib.ListN.{length, getD, take, drop, length-append, length-drop, take-append-drop}
+use lib.Seq.{length-take-le}
+use Rattle.letters.specs.Weights.{isFinalLetter}
 use Rattle.formula.proofs.Lists.{both, both-left, both-right}
+use Rattle.formula.proofs.Records.{record-length}
+use Rattle.formula.specs.Limits.{recordSize}
 use Rattle.formula.specs.Syllable.{Final, no-final, plain, stacked, kinzi, great-sa, syllable, finalOf, isSyllable, follows}
 use Rattle.formula.specs.Row.{Row, isRowAfter}
-use Rattle.formula.specs.Record.{finalNumberOf, linkOf, recordOf, recordBytes}
+use Rattle.formula.specs.Record.{linkOf, recordOf, linkPlace, recordBytes}
 use Rattle.rows.proofs.Sound.{apart}
 use Rattle.rows.proofs.Complete.{first}
 use Rattle.syllable_text.specs.Decode.{syllableOf}
@@ -18,6 +22,7 @@ use Rattle.syllable_text.specs.Record.{linkAdmits, isRecord, mayFollow}
 use Rattle.syllable_text.proofs.Parts.{head-least, final-closed}
 use Rattle.syllable_text.proofs.Decoded.{read, decoded}
 use Rattle.writing.specs.Records.{rowOf, areRecords}
+use Rattle.writing.proofs.Cutting.{row-next, records-next, records-whole, row-none, records-none}
 
 or-false : (b : Bool) → (b || false) ≡ b
 or-false true = refl
@@ -37,25 +42,38 @@ pub record RowRead (f : Final) (bytes : List ℕ) : Type 0 where
   pub is-row : T (isRowAfter f (rowOf bytes))
   pub records : recordBytes (rowOf bytes) ≡ bytes
 
-pub row-read : (f : Final) (bytes : List ℕ) → T (areRecords (linkOf f) bytes) → RowRead f bytes
+-- one record, and what is behind it
+read-next : (f : Final) (l : List ℕ) → 0 < length l → ((g : Final) → T (areRecords (linkOf g) (drop recordSize l)) → RowRead g (drop recordSize l))
+    → T (areRecords (linkOf f) l) → RowRead f l
 unfolding mayFollow syllableOf
-row-read f [] t = record { is-row = rw (final-closed f) t; records = refl }
-row-read f (a ∷ []) t = absurd t
-row-read f (a ∷ b ∷ []) t = absurd t
-row-read f (a ∷ b ∷ c ∷ []) t = absurd t
-row-read f (a ∷ b ∷ c ∷ d ∷ []) t = absurd t
-row-read f (a ∷ b ∷ c ∷ d ∷ e ∷ []) t = absurd t
-row-read f (a ∷ b ∷ c ∷ d ∷ e ∷ g ∷ []) t = absurd t
-row-read f (head ∷ medial ∷ vowel ∷ tall ∷ letter ∷ link ∷ tone ∷ bytes) t =
-    let bytes-of-one = head ∷ medial ∷ vowel ∷ tall ∷ letter ∷ link ∷ tone ∷ [] in
-    let one : T (mayFollow (linkOf f) bytes-of-one) = both-left (mayFollow (linkOf f) bytes-of-one) (areRecords link bytes) t in
-    let d = decoded head medial vowel tall letter link tone (both-right (linkAdmits (linkOf f) (0x1000 + head)) (isRecord bytes-of-one) one) in
-    let follow : T (follows f (0x1000 + head)) = rw (link-admits f (0x1000 + head)) at (both-left (linkAdmits (linkOf f) (0x1000 + head)) (isRecord bytes-of-one) one) in
-    let rest = row-read (finalOf (syllableOf bytes-of-one)) bytes (rw (d .linked) (both-right (mayFollow (linkOf f) bytes-of-one) (areRecords link bytes) t)) in
+read-next f l some behind t =
+    let whole : recordSize ≤ length l = records-whole (linkOf f) l t some in
+    let next = take recordSize l in
+    let head = 0x1000 + getD next 0 0 in
+    let left = areRecords (getD next linkPlace 0) (drop recordSize l) in
+    let passed : T (mayFollow (linkOf f) next && left) = rw (records-next (linkOf f) l whole) at t in
+    let one : T (mayFollow (linkOf f) next) = both-left (mayFollow (linkOf f) next) left passed in
+    let d = decoded next (length-take-le recordSize l whole) (both-right (linkAdmits (linkOf f) head) (isRecord next) one) in
+    let follow : T (follows f head) = rw (link-admits f head) at (both-left (linkAdmits (linkOf f) head) (isRecord next) one) in
+    let rest = behind (finalOf (syllableOf next)) (rw (d .linked) (both-right (mayFollow (linkOf f) next) left passed)) in
     record {
-      is-row = both (follows f (0x1000 + head)) _ follow (both (isSyllable (syllableOf bytes-of-one)) _ (d .is) (rest .is-row));
-      records = λ i. d .records i ++ rest .records i;
+      is-row = rw (row-next l whole) (both (follows f head) _ follow (both (isSyllable (syllableOf next)) _ (d .is) (rest .is-row)));
+      records = ap recordBytes (row-next l whole) ∙ (λ i. d .records i ++ rest .records i) ∙ take-append-drop recordSize l;
     }
+
+read-none : (f : Final) → T (areRecords (linkOf f) []) → RowRead f []
+read-none f t = record { is-row = rw (row-none, final-closed f) (rw records-none at t); records = ap recordBytes row-none }
+
+read-within : (most : ℕ) (f : Final) (bytes : List ℕ) → length bytes ≤ most → T (areRecords (linkOf f) bytes) → RowRead f bytes
+read-within zero f [] h t = read-none f t
+read-within zero f (byte ∷ bytes) h t = let z : ⊥ = omega arith in absurd z
+read-within (suc most) f [] h t = read-none f t
+read-within (suc most) f (byte ∷ bytes) h t =
+    let l = byte ∷ bytes in
+    read-next f l (omega arith) (λ g. read-within most g (drop recordSize l) (omega (arith, length-drop recordSize l))) t
+
+pub row-read : (f : Final) (bytes : List ℕ) → T (areRecords (linkOf f) bytes) → RowRead f bytes
+row-read f bytes = read-within (length bytes) f bytes (omega arith)
 
 -- the records of a row after a syllable with the final f
 pub record RowWritten (f : Final) (row : Row) : Type 0 where
@@ -64,17 +82,20 @@ pub record RowWritten (f : Final) (row : Row) : Type 0 where
 
 pub row-written : (f : Final) (row : Row) → T (isRowAfter f row) → RowWritten f row
 unfolding recordOf mayFollow
-row-written f [] t = record { are-records = rw (← final-closed f) t; back = refl }
+row-written f [] t = record { are-records = rw (records-none, ← final-closed f) t; back = row-none }
 row-written f (syllable h m v g t ∷ row) q =
-    let p = first f (syllable h m v g t) row q in
-    let r = read (syllable h m v g t) (p .is) in
+    let s = syllable h m v g t in
+    let one = recordOf s in
+    let p = first f s row q in
+    let r = read s (p .is) in
     let rest = row-written g row (p .rest) in
     let least : 0x1000 ≤ h = head-least h (apart h m v g t (p .is) .head) in
     let own : 0x1000 + (h - 0x1000) ≡ h = omega arith in
-    let bytes-of-one = (h - 0x1000) ∷ medialWeight m ∷ vowelWeight v ∷ vowelTall v ∷ finalNumberOf g ∷ linkOf g ∷ toneWeight t ∷ [] in
+    let whole : recordSize ≤ length (one ++ recordBytes row) = omega (arith, length-append one (recordBytes row), record-length s) in
+    let follow : T (mayFollow (linkOf f) one) = both (linkAdmits (linkOf f) (0x1000 + (h - 0x1000))) (isRecord one) (rw (own, link-admits f h) (p .follow)) (r .passes) in
     record {
       are-records =
-          both (mayFollow (linkOf f) bytes-of-one) (areRecords (linkOf g) (recordBytes row))
-          (both (linkAdmits (linkOf f) (0x1000 + (h - 0x1000))) (isRecord bytes-of-one) (rw (own, link-admits f h) (p .follow)) (r .passes)) (rest .are-records);
-      back = λ i. r .back i ∷ rest .back i;
+          rw (records-next (linkOf f) (one ++ recordBytes row) whole)
+          (both (mayFollow (linkOf f) one) (areRecords (linkOf g) (recordBytes row)) follow (rest .are-records));
+      back = row-next (one ++ recordBytes row) whole ∙ (λ i. r .back i ∷ rest .back i);
     }

@@ -1,31 +1,34 @@
 -- Document 01, "Syllable records": the tests that tell the records of a row from other bytes, and the row that they are read as.
 -- Assumes nothing.
-use mathlib.Core.Bool.{Bool, false, _&&_}
-use mathlib.Core.List.{List, [], _∷_}
-use Prim.Native.Nat.{ℕ}
-use lib.Dec.{leb}
+use mathlib.Core.Bool.{Bool, _&&_}
+use mathlib.Core.List.{List, [], _∷_, map}
+use Prim.Native.Nat.{ℕ, zero, suc, _/_, _%_}
+use lib.Dec.{eqb, leb}
+use lib.ListN.{length, getD, take, drop}
+use Rattle.formula.specs.Limits.{recordSize}
 use Rattle.formula.specs.Row.{Row}
+use Rattle.formula.specs.Record.{linkPlace}
 use Rattle.syllable_text.specs.Decode.{syllableOf}
 use Rattle.syllable_text.specs.Record.{mayFollow}
 
--- "a lent list of bytes, seven a syllable in word order": the syllables
-abbrev pub rowOf : List ℕ → Row
-rowOf [] = []
-rowOf (a ∷ []) = []
-rowOf (a ∷ b ∷ []) = []
-rowOf (a ∷ b ∷ c ∷ []) = []
-rowOf (a ∷ b ∷ c ∷ d ∷ []) = []
-rowOf (a ∷ b ∷ c ∷ d ∷ e ∷ []) = []
-rowOf (a ∷ b ∷ c ∷ d ∷ e ∷ f ∷ []) = []
-rowOf (a ∷ b ∷ c ∷ d ∷ e ∷ f ∷ g ∷ bytes) = syllableOf (a ∷ b ∷ c ∷ d ∷ e ∷ f ∷ g ∷ []) ∷ rowOf bytes
+-- the first so many records of the bytes
+abbrev pub firstRecords : ℕ → List ℕ → List (List ℕ)
+firstRecords zero bytes = []
+firstRecords (suc count) bytes = take recordSize bytes ∷ firstRecords count (drop recordSize bytes)
+
+-- "a lent list of bytes, seven a syllable in word order": the records
+unfoldable pub recordsOf : List ℕ → List (List ℕ)
+recordsOf bytes = firstRecords (length bytes / recordSize) bytes
+
+-- the syllables of the records
+unfoldable pub rowOf : List ℕ → Row
+rowOf bytes = map syllableOf (recordsOf bytes)
+
+-- each record may follow the one before it, of which the first has the link, and the last waits for none
+abbrev pub eachFollows : ℕ → List (List ℕ) → Bool
+eachFollows link [] = leb link 1
+eachFollows link (next ∷ records) = mayFollow link next && eachFollows (getD next linkPlace 0) records
 
 -- the bytes are the records of a row after a syllable with the link; "a list whose length is no multiple of seven is no such row"
-abbrev pub areRecords : ℕ → List ℕ → Bool
-areRecords link [] = leb link 1
-areRecords link (a ∷ []) = false
-areRecords link (a ∷ b ∷ []) = false
-areRecords link (a ∷ b ∷ c ∷ []) = false
-areRecords link (a ∷ b ∷ c ∷ d ∷ []) = false
-areRecords link (a ∷ b ∷ c ∷ d ∷ e ∷ []) = false
-areRecords link (a ∷ b ∷ c ∷ d ∷ e ∷ f ∷ []) = false
-areRecords link (a ∷ b ∷ c ∷ d ∷ e ∷ f ∷ g ∷ bytes) = mayFollow link (a ∷ b ∷ c ∷ d ∷ e ∷ f ∷ g ∷ []) && areRecords f bytes
+unfoldable pub areRecords : ℕ → List ℕ → Bool
+areRecords link bytes = eqb (length bytes % recordSize) 0 && eachFollows link (recordsOf bytes)

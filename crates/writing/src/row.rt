@@ -20,7 +20,7 @@ pub(crate) fn measure(records: &[u8]) -> Size
     let mut count = 0;
     let mut at = 0;
     while at < records.len() {
-        if records.len() - at < 7 {
+        if records.len() - at < Word::RECORD {
             return Size::NoSuchRow;
         }
         let next = record::record_at(records, at);
@@ -31,8 +31,8 @@ pub(crate) fn measure(records: &[u8]) -> Size
         if Word::LIMIT < count {
             return Size::NoSuchRow;
         }
-        link = next[5];
-        at += 7;
+        link = next[Word::LINK];
+        at += Word::RECORD;
     }
     if 1 < link {
         return Size::NoSuchRow;
@@ -51,8 +51,8 @@ pub(crate) fn put_row(records: &[u8], output: &mut [u16]) -> usize
     while place < records.len() {
         let next = record::record_at(records, place);
         count = part::put_part(output, count, link, next);
-        link = next[5];
-        place += 7;
+        link = next[Word::LINK];
+        place += Word::RECORD;
     }
     count
 }

@@ -1,7 +1,9 @@
--- `syllable_text::record::record_at` meets its contract: its seven reads are the first seven bytes from the place on.
+-- `syllable_text::record::record_at` meets its contract: its reads are the bytes from the place on, as many as a record has.
 -- Assumes nothing.
 use denote.Ref.{now}
-use Rattle.syllable_text.proofs.Sevens.{seven-at}
+use Prim.Native.Nat.{_-_}
+use Rattle.formula.specs.Limits.{recordSize}
+use Rattle.syllable_text.proofs.Places.{piece-at}
 use borrow.Author.Needs.{needs}
 use Rattle.syllable_text.proofs.record.record_at.Statement.{statement}
 use Rattle.syllable_text.proofs.record.record_at.Tie as tie
@@ -46,7 +48,7 @@ shared-slice-read-t22 : tie.Need-shared-slice-read-t22
 shared-slice-read-t22 c = search needs
 
 returns : tie.Need-returns
-returns c = let at-start = c .before .before .before .before .before .before .before in seven-at (now (at-start .args .records)) (at-start .args .at) (at-start .pre)
+returns c = let at-start = c .before .before .before .before .before .before .before in piece-at (recordSize - 1) (now (at-start .args .records)) (at-start .args .at) (at-start .pre)
 
 pub record-at-spec : {M : Type 1} → statement M
 record-at-spec =

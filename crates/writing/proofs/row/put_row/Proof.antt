@@ -5,6 +5,7 @@ use native.Mathlib.Omega.{arith}
 use borrow.Author.Needs.{needs}
 use lib.ListN.{length}
 use denote.Ref.{now}
+use Rattle.formula.specs.Limits.{recordSize}
 use Rattle.writing.proofs.Filling.{Filled, filled-none, filled-length, filled-whole, filled-all, filled-room, filled-more}
 use Rattle.writing.proofs.row.put_row.Statement.{statement}
 use Rattle.writing.proofs.row.put_row.Tie as tie
@@ -20,7 +21,7 @@ loop-holds c = filled-none (now (c .before .before .args .records)) (now (c .bef
 
 -- a whole record stands at the place
 whole : (c : tie.After-slice-known2 Inv-loop μ-loop)
-    → c .before .before .before .before .before .before .loop .place + 7 ≤ length (now (c .before .before .before .before .before .before .before .before .before .args .records))
+    → c .before .before .before .before .before .before .loop .place + recordSize ≤ length (now (c .before .before .before .before .before .before .before .before .before .args .records))
 whole c =
     let at-loop = c .before .before .before .before .before .before in
     let start = at-loop .before .before .before in
