@@ -18,18 +18,18 @@ use Rattle.listing.proofs.Cutting.{joined, cut-append, cut-none}
 use Rattle.listing.proofs.Taking.{prints-append, prints-one}
 
 -- before the first byte
-pub follows-none : (kept : List ℕ) → Follows [] kept 0 0 []
-follows-none kept = record {
+pub follows-none : (pending : List ℕ) → Follows [] pending 0 0 []
+follows-none held = record {
   prints = rw (cut-none []) none;
   count = rw (cut-none []) refl;
   open-line = rw (cut-none []) (record { count = refl; bytes = refl });
 }
 
 -- a piece whose lines were taken
-pub follows-more : {bytes text chunk kept out kept-after out-after : List ℕ} {progress after : Progress}
-    → Follows bytes kept (progress .kept) (progress .number) text → Taken chunk kept out progress kept-after out-after after
-    → Goes bytes (slice (progress .at) (after .at) chunk) text out (progress .used) kept-after out-after after
-follows-more {bytes} {text} {chunk} {kept} {out} {kept-after} {out-after} {progress} {after} f taken =
+pub follows-more : {bytes text chunk pending out pending-after out-after : List ℕ} {progress after : Progress}
+    → Follows bytes pending (progress .held) (progress .number) text → Taken chunk pending out progress pending-after out-after after
+    → Goes bytes (slice (progress .at) (after .at) chunk) text out (progress .used) pending-after out-after after
+follows-more {bytes} {text} {chunk} {pending} {out} {pending-after} {out-after} {progress} {after} f taken =
     let p = taken .printed (cutFrom [] bytes .open-line) (f .open-line) in
     let e : cutFrom [] (bytes ++ slice (progress .at) (after .at) chunk) ≡ joined (cutFrom [] bytes) (p .cut) = cut-append [] bytes (slice (progress .at) (after .at) chunk) ∙ ap (joined (cutFrom [] bytes)) (p .follows) in
     record {
@@ -42,9 +42,9 @@ follows-more {bytes} {text} {chunk} {kept} {out} {kept-after} {out-after} {progr
       };
     }
 
-pub taken-passes : {chunk kept out kept-after out-after : List ℕ} {progress after : Progress} → Taken chunk kept out progress kept-after out-after after
-    → Passes chunk kept out progress kept-after out-after after
-taken-passes {chunk} {kept} {out} {kept-after} {out-after} {progress} {after} taken = record {
+pub taken-passes : {chunk pending out pending-after out-after : List ℕ} {progress after : Progress} → Taken chunk pending out progress pending-after out-after after
+    → Passes chunk pending out progress pending-after out-after after
+taken-passes {chunk} {pending} {out} {pending-after} {out-after} {progress} {after} taken = record {
   further = taken .further;
   within = taken .within;
   fits = taken .fits;
@@ -53,14 +53,14 @@ taken-passes {chunk} {kept} {out} {kept-after} {out-after} {progress} {after} ta
   goes = λ bytes text f. follows-more f taken;
 }
 
--- the line that is open at the end of an input has a byte where one is kept
-last-none : (kept line : List ℕ) → Held kept 0 line → lastLine line ≡ []
-last-none kept [] h = refl
-last-none kept (byte ∷ line) h = let z : ⊥ = omega (arith, h .count) in absurd z
+-- the line that is open at the end of an input has a byte where one is held
+last-none : (pending line : List ℕ) → Held pending 0 line → lastLine line ≡ []
+last-none pending [] h = refl
+last-none pending (byte ∷ line) h = let z : ⊥ = omega (arith, h .count) in absurd z
 
-last-one : (kept line : List ℕ) (held : ℕ) → (held ≡ 0 → ⊥) → Held kept held line → lastLine line ≡ line ∷ []
-last-one kept [] held nonzero h = absurd (nonzero (h .count))
-last-one kept (byte ∷ line) held nonzero h = refl
+last-one : (pending line : List ℕ) (held : ℕ) → (held ≡ 0 → ⊥) → Held pending held line → lastLine line ≡ line ∷ []
+last-one pending [] held nonzero h = absurd (nonzero (h .count))
+last-one pending (byte ∷ line) held nonzero h = refl
 
 -- what is written at the front of an output lies in it
 pub written-within : {before text after : List ℕ} {used : ℕ} → length after ≡ length before → Written before text after used → used ≤ length before
@@ -77,20 +77,20 @@ written-put {before} {text} {after} {used} same w =
       next = front;
     }
 
-module _ {bytes text kept : List ℕ} {held number : ℕ} (f : Follows bytes kept held number text) (out : List ℕ) where
+module _ {bytes text pending : List ℕ} {held number : ℕ} (f : Follows bytes pending held number text) (out : List ℕ) where
   pub comes-none : held ≡ 0 → Comes bytes text out 0 out 0
   comes-none empty = record {
     last = [];
     put = put-nothing out 0;
-    prints = prints-append (number + 1) (omega (arith, f .count)) (f .prints) (rw (last-none kept (cutFrom [] bytes .open-line) (rw empty at (f .open-line))) none);
+    prints = prints-append (number + 1) (omega (arith, f .count)) (f .prints) (rw (last-none pending (cutFrom [] bytes .open-line) (rw empty at (f .open-line))) none);
   }
 
   pub comes-line : {out-after : List ℕ} {ready : ℕ} → (held ≡ 0 → ⊥) → length out-after ≡ length out
-      → LinePut out (number + 1) (take held kept) out-after ready → Comes bytes text out 0 out-after ready
+      → LinePut out (number + 1) (take held pending) out-after ready → Comes bytes text out 0 out-after ready
   comes-line {out-after} {ready} nonzero same line-put = record {
     last = printed (number + 1) (line-put .key .answer) (line-put .key .bytes);
     put = written-put same (line-put .written);
     prints =
         prints-append (number + 1) (omega (arith, f .count)) (f .prints)
-        (rw (last-one kept (cutFrom [] bytes .open-line) held nonzero (f .open-line)) (prints-one (number + 1) (cutFrom [] bytes .open-line) kept held (line-put .key) (f .open-line) (line-put .right)));
+        (rw (last-one pending (cutFrom [] bytes .open-line) held nonzero (f .open-line)) (prints-one (number + 1) (cutFrom [] bytes .open-line) pending held (line-put .key) (f .open-line) (line-put .right)));
   }

@@ -1,5 +1,5 @@
 pub mod Cutting
-pub mod Keeping
+pub mod Holding
 pub mod Taking
 pub mod Passing
 pub mod Following

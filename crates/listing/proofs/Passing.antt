@@ -6,7 +6,7 @@ use Prim.Native.Nat.{ℕ, _+_, _*_, _-_, _≤_, _<_, _^_}
 use native.Mathlib.Omega.{arith}
 use lib.ListN.{length, take, drop, take-append-drop}
 use lib.Seq.{slice, take-all, take-take, length-take-le}
-use Rattle.listing.specs.Taken.{keptLimit, Ready}
+use Rattle.listing.specs.Taken.{heldLimit, Ready}
 use Rattle.listing.specs.Following.{Follows, Passes}
 use Rattle.listing.specs.Running.{ChunkReady, Answered, Onward, EndReady}
 use Rattle.listing.specs.declared.splitting.OpenLine.{OpenLine}
@@ -14,19 +14,19 @@ use Rattle.listing.specs.declared.splitting.Progress.{Progress}
 
 -- a chunk's beginning
 abbrev pub opening : OpenLine → Progress
-opening current = record { at = 0; kept = current .kept; number = current .number; used = 0 }
+opening current = record { at = 0; held = current .held; number = current .number; used = 0 }
 
-answered-none : {bytes text kept : List ℕ} {held number : ℕ} → Follows bytes kept held number text → Answered bytes [] text kept held number
-answered-none {bytes} {text} {kept} {held} {number} f = record { written = []; follows = rw (append-nil bytes, append-nil text) f }
+answered-none : {bytes text pending : List ℕ} {held number : ℕ} → Follows bytes pending held number text → Answered bytes [] text pending held number
+answered-none {bytes} {text} {pending} {held} {number} f = record { written = []; follows = rw (append-nil bytes, append-nil text) f }
 
 take-further : (l : List ℕ) (from to : ℕ) → from ≤ to → take from l ++ slice from to l ≡ take to l
 take-further l from to h = ap (λ (m : List ℕ). m ++ drop from (take to l)) (sym (take-take from to l h)) ∙ take-append-drop from (take to l)
 
 -- one more part of a chunk, whose text was written
-answered-more : {bytes text chunk kept out kept-next out-next : List ℕ} {reached next : Progress} → reached .at ≤ next .at
-    → Answered bytes (take (reached .at) chunk) text kept (reached .kept) (reached .number) → Passes chunk kept out reached kept-next out-next next
-    → Answered bytes (take (next .at) chunk) text kept-next (next .kept) (next .number)
-answered-more {bytes} {text} {chunk} {kept} {out} {kept-next} {out-next} {reached} {next} h a passes =
+answered-more : {bytes text chunk pending out pending-next out-next : List ℕ} {reached next : Progress} → reached .at ≤ next .at
+    → Answered bytes (take (reached .at) chunk) text pending (reached .held) (reached .number) → Passes chunk pending out reached pending-next out-next next
+    → Answered bytes (take (next .at) chunk) text pending-next (next .held) (next .number)
+answered-more {bytes} {text} {chunk} {pending} {out} {pending-next} {out-next} {reached} {next} h a passes =
     let goes = passes .goes _ _ (a .follows) in
     record {
       written = a .written ++ goes .more;
@@ -34,55 +34,55 @@ answered-more {bytes} {text} {chunk} {kept} {out} {kept-next} {out-next} {reache
     }
 
 -- how far a chunk is
-pub record Passing (chunk : List ℕ) (kept : List ℕ) (out : List ℕ) (start : Progress) (kept-now : List ℕ) (out-now : List ℕ) (reached : Progress) : Type 0 where
+pub record Passing (chunk : List ℕ) (pending : List ℕ) (out : List ℕ) (start : Progress) (pending-now : List ℕ) (out-now : List ℕ) (reached : Progress) : Type 0 where
   pub within : reached .at ≤ length chunk
-  pub held : reached .kept ≤ keptLimit
+  pub held : reached .held ≤ heldLimit
   pub empty : reached .used ≡ 0
   pub fewer : reached .number ≤ start .number + reached .at
-  pub same-kept : length kept-now ≡ length kept
+  pub same-pending : length pending-now ≡ length pending
   pub same-out : length out-now ≡ length out
-  pub answered : (bytes text : List ℕ) → Follows bytes kept (start .kept) (start .number) text
-      → Answered bytes (take (reached .at) chunk) text kept-now (reached .kept) (reached .number)
+  pub answered : (bytes text : List ℕ) → Follows bytes pending (start .held) (start .number) text
+      → Answered bytes (take (reached .at) chunk) text pending-now (reached .held) (reached .number)
 
-pub passing-none : {chunk kept out : List ℕ} {current : OpenLine} → ChunkReady chunk kept out current
-    → Passing chunk kept out (opening current) kept out (opening current)
-passing-none {chunk} {kept} {out} {current} ready = record {
+pub passing-none : {chunk pending out : List ℕ} {current : OpenLine} → ChunkReady chunk pending out current
+    → Passing chunk pending out (opening current) pending out (opening current)
+passing-none {chunk} {pending} {out} {current} ready = record {
   within = omega arith;
   held = ready .held;
   empty = refl;
   fewer = omega arith;
-  same-kept = refl;
+  same-pending = refl;
   same-out = refl;
   answered = λ bytes text f. answered-none f;
 }
 
-module _ {chunk kept out kept-now out-now : List ℕ} {current : OpenLine} {reached : Progress} (ready : ChunkReady chunk kept out current) (p : Passing chunk kept out (opening current) kept-now out-now reached) where
-  pub passing-ready : Ready chunk kept-now out-now reached
+module _ {chunk pending out pending-now out-now : List ℕ} {current : OpenLine} {reached : Progress} (ready : ChunkReady chunk pending out current) (p : Passing chunk pending out (opening current) pending-now out-now reached) where
+  pub passing-ready : Ready chunk pending-now out-now reached
   passing-ready = record {
     place = p .within;
-    fits = omega (arith, p .same-kept, ready .fits);
+    fits = omega (arith, p .same-pending, ready .fits);
     held = p .held;
     room = omega (arith, p .empty, p .same-out, ready .room);
     numbers = omega (arith, p .fewer, ready .numbers);
   }
 
   -- lines are passed, and all that is ready is written
-  pub passing-more : {kept-next out-next : List ℕ} {next : Progress} (used : ℕ) → Passes chunk kept-now out-now reached kept-next out-next next
-      → reached .at < length chunk → length kept-next ≡ length kept-now → length out-next ≡ length out-now → used ≡ 0
-      → Passing chunk kept out (opening current) kept-next out-next (record { at = next .at; kept = next .kept; number = next .number; used = used })
-  passing-more {kept-next} {out-next} {next} used passes inside same-kept same-out empty =
+  pub passing-more : {pending-next out-next : List ℕ} {next : Progress} (used : ℕ) → Passes chunk pending-now out-now reached pending-next out-next next
+      → reached .at < length chunk → length pending-next ≡ length pending-now → length out-next ≡ length out-now → used ≡ 0
+      → Passing chunk pending out (opening current) pending-next out-next (record { at = next .at; held = next .held; number = next .number; used = used })
+  passing-more {pending-next} {out-next} {next} used passes inside same-pending same-out empty =
       let further : reached .at < next .at = passes .further inside in
       record {
         within = passes .within;
         held = passes .fits;
         empty = empty;
         fewer = omega (arith, passes .fewer, p .fewer);
-        same-kept = same-kept ∙ p .same-kept;
+        same-pending = same-pending ∙ p .same-pending;
         same-out = same-out ∙ p .same-out;
         answered = λ bytes text f. answered-more (omega arith) (p .answered bytes text f) passes;
       }
 
-  pub passing-whole : length chunk ≤ reached .at → Onward chunk kept current kept-now (record { kept = reached .kept; number = reached .number })
+  pub passing-whole : length chunk ≤ reached .at → Onward chunk pending current pending-now (record { held = reached .held; number = reached .number })
   passing-whole over = record {
     held = p .held;
     numbers = omega (arith, p .fewer, p .within);
@@ -94,40 +94,40 @@ abbrev bufferSize : ℕ
 bufferSize = 65536
 
 -- between two reads: each of the calls that are left brings no more lines than a chunk has bytes, and what was printed follows the bytes so far
-pub record Going (chunk : List ℕ) (kept : List ℕ) (out : List ℕ) (current : OpenLine) (calls : ℕ) : Type 0 where
+pub record Going (chunk : List ℕ) (pending : List ℕ) (out : List ℕ) (current : OpenLine) (calls : ℕ) : Type 0 where
   pub chunk-size : bufferSize ≡ length chunk
-  pub kept-size : keptLimit ≡ length kept
+  pub pending-size : heldLimit ≡ length pending
   pub out-size : bufferSize ≡ length out
-  pub held : current .kept ≤ keptLimit
+  pub held : current .held ≤ heldLimit
   pub numbers : current .number + bufferSize * calls < 2 ^ 63
   pub bytes : List ℕ
   pub text : List ℕ
-  pub follows : Follows bytes kept (current .kept) (current .number) text
+  pub follows : Follows bytes pending (current .held) (current .number) text
 
-module _ {chunk kept out : List ℕ} {current : OpenLine} {calls : ℕ} (going : Going chunk kept out current calls) where
-  pub going-end : EndReady kept out current
+module _ {chunk pending out : List ℕ} {current : OpenLine} {calls : ℕ} (going : Going chunk pending out current calls) where
+  pub going-end : EndReady pending out current
   going-end = record {
-    fits = omega (arith, going .held, going .kept-size);
+    fits = omega (arith, going .held, going .pending-size);
     room = omega (arith, going .out-size);
     numbers = omega (arith, going .numbers);
   }
 
   module _ (chunk-next : List ℕ) (count : ℕ) (same : length chunk-next ≡ length chunk) (within : count ≤ length chunk-next) where
-    pub going-ready : ChunkReady (take count chunk-next) kept out current
+    pub going-ready : ChunkReady (take count chunk-next) pending out current
     going-ready = record {
-      fits = omega (arith, going .kept-size);
+      fits = omega (arith, going .pending-size);
       held = going .held;
       room = omega (arith, going .out-size);
       numbers = omega (arith, length-take-le count chunk-next within, going .chunk-size, going .numbers);
     }
 
-    pub going-on : {kept-next out-next : List ℕ} {next : OpenLine} → 0 < calls → Onward (take count chunk-next) kept current kept-next next
-        → length kept-next ≡ length kept → length out-next ≡ length out → Going chunk-next kept-next out-next next (calls - 1)
-    going-on {kept-next} {out-next} {next} left onward same-kept same-out =
+    pub going-on : {pending-next out-next : List ℕ} {next : OpenLine} → 0 < calls → Onward (take count chunk-next) pending current pending-next next
+        → length pending-next ≡ length pending → length out-next ≡ length out → Going chunk-next pending-next out-next next (calls - 1)
+    going-on {pending-next} {out-next} {next} left onward same-pending same-out =
         let answered = onward .answered (going .bytes) (going .text) (going .follows) in
         record {
           chunk-size = going .chunk-size ∙ sym same;
-          kept-size = going .kept-size ∙ sym same-kept;
+          pending-size = going .pending-size ∙ sym same-pending;
           out-size = going .out-size ∙ sym same-out;
           held = onward .held;
           numbers = omega (arith, onward .numbers, length-take-le count chunk-next within, going .chunk-size, going .numbers);

@@ -1,4 +1,4 @@
--- Lines that are taken one after the other: what is printed and what is kept follow the cut of the bytes.
+-- Lines that are taken one after the other: what is printed and what is held follow the cut of the bytes.
 -- Assumes nothing.
 use mathlib.Core.Path.{_≡_, refl, ap, sym, subst, _∙_}
 use mathlib.Core.List.{List, [], _∷_, _++_, append-assoc, append-nil}
@@ -12,7 +12,7 @@ use borrow.Rule.Slice.PartMut.{midOf, putMid, post-is}
 use Rattle.collation.specs.declared.key.Key.{Key}
 use Rattle.key_text.specs.Put.{Put, Written}
 use Rattle.printing.specs.Output.{LineRight, LinePut, printed, printedLimit}
-use Rattle.listing.specs.Taken.{keptLimit, Held, Keeps, EndFound, Prints, none, more, Ready, Printed, Taken}
+use Rattle.listing.specs.Taken.{heldLimit, Held, Holds, EndFound, Prints, none, more, Ready, Printed, Taken}
 use Rattle.listing.specs.declared.splitting.Progress.{Progress}
 use Rattle.key_text.proofs.Putting.{put-nothing, put-after}
 use Rattle.listing.proofs.Cutting.{joined, cut-append, still, cut-none, plain-ends}
@@ -60,17 +60,17 @@ module _ (out : List ℕ) (used : ℕ) (text after : List ℕ) (count : ℕ) (h 
       }
 
 -- one line, of which the first bytes were answered
-pub prints-one : (number : ℕ) (line kept : List ℕ) (held : ℕ) (key : Key) → Held kept held line → LineRight (take held kept) key
+pub prints-one : (number : ℕ) (line pending : List ℕ) (held : ℕ) (key : Key) → Held pending held line → LineRight (take held pending) key
     → Prints number (line ∷ []) (printed number (key .answer) (key .bytes))
-prints-one number line kept held key h right =
+prints-one number line pending held key h right =
     subst (λ (text : List ℕ). Prints number (line ∷ []) text) (append-nil (printed number (key .answer) (key .bytes)))
-    (more key (line-kept keptLimit (omega arith) line key (rw (h .bytes) at right)) none)
+    (more key (line-kept heldLimit (omega arith) line key (rw (h .bytes) at right)) none)
 
 -- lines between two places, and lines from there on
-pub printed-more : {line chunk out kept-after out-after kept-last out-last : List ℕ} {start middle last : Progress}
-    → start .at ≤ middle .at → middle .at ≤ last .at → last .at ≤ length chunk → (p : Printed line chunk out start kept-after out-after middle)
-    → Printed (p .cut .open-line) chunk out-after middle kept-last out-last last → Printed line chunk out start kept-last out-last last
-printed-more {line} {chunk} {out} {kept-after} {out-after} {kept-last} {out-last} {start} {middle} {last} h k w p q = record {
+pub printed-more : {line chunk out pending-after out-after pending-last out-last : List ℕ} {start middle last : Progress}
+    → start .at ≤ middle .at → middle .at ≤ last .at → last .at ≤ length chunk → (p : Printed line chunk out start pending-after out-after middle)
+    → Printed (p .cut .open-line) chunk out-after middle pending-last out-last last → Printed line chunk out start pending-last out-last last
+printed-more {line} {chunk} {out} {pending-after} {out-after} {pending-last} {out-last} {start} {middle} {last} h k w p q = record {
   text = p .text ++ q .text;
   cut = joined (p .cut) (q .cut);
   follows =
@@ -81,15 +81,15 @@ printed-more {line} {chunk} {out} {kept-after} {out-after} {kept-last} {out-last
   held = q .held;
 }
 
--- a chunk that ends within a line: all of it is kept
-pub taken-open : (chunk kept out : List ℕ) (progress : Progress) (kept-after : List ℕ) (end held : ℕ) → Ready chunk kept out progress
-    → EndFound chunk (progress .at) end → Keeps kept (progress .kept) (midOf (progress .at) (end - progress .at) chunk) kept-after held → end ≡ length chunk
-    → Taken chunk kept out progress kept-after out (record { at = end; kept = held; number = progress .number; used = progress .used })
-taken-open chunk kept out progress kept-after end held ready found keeps whole = record {
+-- a chunk that ends within a line: all of it is held
+pub taken-open : (chunk pending out : List ℕ) (progress : Progress) (pending-after : List ℕ) (end held : ℕ) → Ready chunk pending out progress
+    → EndFound chunk (progress .at) end → Holds pending (progress .held) (midOf (progress .at) (end - progress .at) chunk) pending-after held → end ≡ length chunk
+    → Taken chunk pending out progress pending-after out (record { at = end; held = held; number = progress .number; used = progress .used })
+taken-open chunk pending out progress pending-after end held ready found holds whole = record {
   forward = found .forward;
   further = λ h. omega arith;
   within = found .within;
-  fits = keeps .fits;
+  fits = holds .fits;
   room = omega (arith, ready .room);
   fewer = omega (arith, found .forward);
   printed = λ line l. record {
@@ -99,18 +99,18 @@ taken-open chunk kept out progress kept-after end held ready found keeps whole =
     prints = none;
     put = put-nothing out (progress .used);
     number = omega arith;
-    held = rw (part-slice chunk (progress .at) end (found .forward) (found .within)) at (keeps .held line l);
+    held = rw (part-slice chunk (progress .at) end (found .forward) (found .within)) at (holds .held line l);
   };
 }
 
 -- a line that ends in the chunk: it is printed, and the next one is open
-pub taken-ended : (chunk kept out : List ℕ) (progress : Progress) (kept-after rest : List ℕ) (end held count : ℕ) → Ready chunk kept out progress
-    → EndFound chunk (progress .at) end → Keeps kept (progress .kept) (midOf (progress .at) (end - progress .at) chunk) kept-after held → end < length chunk
+pub taken-ended : (chunk pending out : List ℕ) (progress : Progress) (pending-after rest : List ℕ) (end held count : ℕ) → Ready chunk pending out progress
+    → EndFound chunk (progress .at) end → Holds pending (progress .held) (midOf (progress .at) (end - progress .at) chunk) pending-after held → end < length chunk
     → length rest ≡ length (midOf (progress .used) (length out - progress .used) out)
-    → LinePut (midOf (progress .used) (length out - progress .used) out) (progress .number + 1) (take held kept-after) rest count
-    → Taken chunk kept out progress kept-after (putMid (progress .used) (length out - progress .used) out rest)
-    (record { at = end + 1; kept = 0; number = progress .number + 1; used = progress .used + count })
-taken-ended chunk kept out progress kept-after rest end held count ready found keeps inside same line-put = record {
+    → LinePut (midOf (progress .used) (length out - progress .used) out) (progress .number + 1) (take held pending-after) rest count
+    → Taken chunk pending out progress pending-after (putMid (progress .used) (length out - progress .used) out rest)
+    (record { at = end + 1; held = 0; number = progress .number + 1; used = progress .used + count })
+taken-ended chunk pending out progress pending-after rest end held count ready found holds inside same line-put = record {
   forward = omega (arith, found .forward);
   further = λ h. omega (arith, found .forward);
   within = omega arith;
@@ -122,8 +122,8 @@ taken-ended chunk kept out progress kept-after rest end held count ready found k
     cut = record { ended = (line ++ slice (progress .at) end chunk) ∷ []; open-line = [] };
     follows = plain-ends chunk (progress .at) end (found .forward) inside (found .none) (found .there inside) line;
     prints =
-        prints-one (progress .number + 1) (line ++ slice (progress .at) end chunk) kept-after held (line-put .key)
-        (rw (part-slice chunk (progress .at) end (found .forward) (found .within)) at (keeps .held line l)) (line-put .right);
+        prints-one (progress .number + 1) (line ++ slice (progress .at) end chunk) pending-after held (line-put .key)
+        (rw (part-slice chunk (progress .at) end (found .forward) (found .within)) at (holds .held line l)) (line-put .right);
     put = part-put out (progress .used) _ rest count (omega (arith, ready .room)) same (line-put .written);
     number = omega arith;
     held = record { count = refl; bytes = refl };
@@ -131,26 +131,26 @@ taken-ended chunk kept out progress kept-after rest end held count ready found k
 }
 
 -- how far the loop over a chunk is
-pub record Along (chunk : List ℕ) (kept : List ℕ) (out : List ℕ) (start : Progress) (kept-after : List ℕ) (out-after : List ℕ) (reached : Progress) : Type 0 where
+pub record Along (chunk : List ℕ) (pending : List ℕ) (out : List ℕ) (start : Progress) (pending-after : List ℕ) (out-after : List ℕ) (reached : Progress) : Type 0 where
   pub forward : start .at ≤ reached .at
   pub within : reached .at ≤ length chunk
-  pub fits : reached .kept ≤ keptLimit
+  pub fits : reached .held ≤ heldLimit
   pub room : reached .used ≤ length out
   pub fewer : reached .number + start .at ≤ start .number + reached .at
   pub moved : reached .at ≡ start .at → reached .used ≡ start .used
-  pub same-kept : length kept-after ≡ length kept
+  pub same-pending : length pending-after ≡ length pending
   pub same-out : length out-after ≡ length out
-  pub along : (line : List ℕ) → Held kept (start .kept) line → Printed line chunk out start kept-after out-after reached
+  pub along : (line : List ℕ) → Held pending (start .held) line → Printed line chunk out start pending-after out-after reached
 
-pub along-none : (chunk kept out : List ℕ) (start : Progress) → Ready chunk kept out start → Along chunk kept out start kept out start
-along-none chunk kept out start ready = record {
+pub along-none : (chunk pending out : List ℕ) (start : Progress) → Ready chunk pending out start → Along chunk pending out start pending out start
+along-none chunk pending out start ready = record {
   forward = omega arith;
   within = ready .place;
   fits = ready .held;
   room = omega (arith, ready .room);
   fewer = omega arith;
   moved = λ e. refl;
-  same-kept = refl;
+  same-pending = refl;
   same-out = refl;
   along = λ line l. record {
     text = [];
@@ -163,19 +163,19 @@ along-none chunk kept out start ready = record {
   };
 }
 
-module _ {chunk kept out kept-after out-after : List ℕ} {start reached : Progress} (ready : Ready chunk kept out start) (a : Along chunk kept out start kept-after out-after reached) where
-  pub along-ready : reached .used + printedLimit ≤ length out-after → Ready chunk kept-after out-after reached
+module _ {chunk pending out pending-after out-after : List ℕ} {start reached : Progress} (ready : Ready chunk pending out start) (a : Along chunk pending out start pending-after out-after reached) where
+  pub along-ready : reached .used + printedLimit ≤ length out-after → Ready chunk pending-after out-after reached
   along-ready room = record {
     place = a .within;
-    fits = omega (arith, a .same-kept, ready .fits);
+    fits = omega (arith, a .same-pending, ready .fits);
     held = a .fits;
     room = room;
     numbers = omega (arith, ready .numbers, a .fewer, a .forward);
   }
 
-  pub along-more : {kept-last out-last : List ℕ} {last : Progress} → reached .at < length chunk → Taken chunk kept-after out-after reached kept-last out-last last
-      → length kept-last ≡ length kept-after → length out-last ≡ length out-after → Along chunk kept out start kept-last out-last last
-  along-more {kept-last} {out-last} {last} inside taken same-kept same-out =
+  pub along-more : {pending-last out-last : List ℕ} {last : Progress} → reached .at < length chunk → Taken chunk pending-after out-after reached pending-last out-last last
+      → length pending-last ≡ length pending-after → length out-last ≡ length out-after → Along chunk pending out start pending-last out-last last
+  along-more {pending-last} {out-last} {last} inside taken same-pending same-out =
       let further : reached .at < last .at = taken .further inside in
       record {
         forward = omega (arith, a .forward);
@@ -184,14 +184,14 @@ module _ {chunk kept out kept-after out-after : List ℕ} {start reached : Progr
         room = omega (arith, taken .room, a .same-out);
         fewer = omega (arith, taken .fewer, a .fewer);
         moved = λ e. let z : ⊥ = omega (arith, a .forward) in absurd z;
-        same-kept = same-kept ∙ a .same-kept;
+        same-pending = same-pending ∙ a .same-pending;
         same-out = same-out ∙ a .same-out;
         along = λ line l.
             let before = a .along line l in
             printed-more (a .forward) (taken .forward) (taken .within) before (taken .printed (before .cut .open-line) (before .held));
       }
 
-  pub along-taken : (reached .at < length chunk → length out-after < reached .used + printedLimit) → Taken chunk kept out start kept-after out-after reached
+  pub along-taken : (reached .at < length chunk → length out-after < reached .used + printedLimit) → Taken chunk pending out start pending-after out-after reached
   along-taken full = record {
     forward = a .forward;
     further = λ h. go (decLt (start .at) (reached .at)) h;

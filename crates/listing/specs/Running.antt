@@ -11,7 +11,7 @@ use Rattle.letters.specs.Choice.{pick}
 use Rattle.io.specs.Counts.{clamped}
 use Rattle.libc.specs.Io.{Moved}
 use Rattle.printing.specs.Output.{printedLimit}
-use Rattle.listing.specs.Taken.{keptLimit}
+use Rattle.listing.specs.Taken.{heldLimit}
 use Rattle.listing.specs.Following.{Follows, Comes}
 use Rattle.listing.specs.declared.splitting.OpenLine.{OpenLine}
 use Rattle.listing.specs.declared.running.Transfer.{Transfer}
@@ -39,32 +39,32 @@ pub record Reads (size : ℕ) (input : Transfer) : Type 0 where
   pub whole : input ≡ Interrupted → ⊥
 
 -- what a chunk needs; it has no more lines than bytes
-pub record ChunkReady (chunk : List ℕ) (kept : List ℕ) (out : List ℕ) (current : OpenLine) : Type 0 where
-  pub fits : keptLimit ≤ length kept
-  pub held : current .kept ≤ keptLimit
+pub record ChunkReady (chunk : List ℕ) (pending : List ℕ) (out : List ℕ) (current : OpenLine) : Type 0 where
+  pub fits : heldLimit ≤ length pending
+  pub held : current .held ≤ heldLimit
   pub room : printedLimit ≤ length out
   pub numbers : current .number + length chunk < 2 ^ 64
 
 -- one more piece of the input: what is printed for the lines that ended in it goes on with the text
-pub record Answered (bytes : List ℕ) (piece : List ℕ) (text : List ℕ) (kept-after : List ℕ) (held : ℕ) (number : ℕ) : Type 0 where
+pub record Answered (bytes : List ℕ) (piece : List ℕ) (text : List ℕ) (pending-after : List ℕ) (held : ℕ) (number : ℕ) : Type 0 where
   pub written : List ℕ
-  pub follows : Follows (bytes ++ piece) kept-after held number (text ++ written)
+  pub follows : Follows (bytes ++ piece) pending-after held number (text ++ written)
 
 -- the promise of a chunk, whatever came before it
-pub record Onward (chunk : List ℕ) (kept : List ℕ) (current : OpenLine) (kept-after : List ℕ) (after : OpenLine) : Type 0 where
-  pub held : after .kept ≤ keptLimit
+pub record Onward (chunk : List ℕ) (pending : List ℕ) (current : OpenLine) (pending-after : List ℕ) (after : OpenLine) : Type 0 where
+  pub held : after .held ≤ heldLimit
   pub numbers : after .number ≤ current .number + length chunk
-  pub answered : (bytes text : List ℕ) → Follows bytes kept (current .kept) (current .number) text
-      → Answered bytes chunk text kept-after (after .kept) (after .number)
+  pub answered : (bytes text : List ℕ) → Follows bytes pending (current .held) (current .number) text
+      → Answered bytes chunk text pending-after (after .held) (after .number)
 
 -- a write that failed ends the run
 abbrev pub Answers : List ℕ → List ℕ → OpenLine → List ℕ → Passed → Type 0
-Answers chunk kept current kept-after (Whole after) = Onward chunk kept current kept-after after
-Answers chunk kept current kept-after Stopped = Unit {0}
+Answers chunk pending current pending-after (Whole after) = Onward chunk pending current pending-after after
+Answers chunk pending current pending-after Stopped = Unit {0}
 
 -- what the end of an input needs
-pub record EndReady (kept : List ℕ) (out : List ℕ) (current : OpenLine) : Type 0 where
-  pub fits : current .kept ≤ length kept
+pub record EndReady (pending : List ℕ) (out : List ℕ) (current : OpenLine) : Type 0 where
+  pub fits : current .held ≤ length pending
   pub room : printedLimit ≤ length out
   pub numbers : current .number + 1 < 2 ^ 64
 
@@ -76,13 +76,13 @@ pub record Silent (out : List ℕ) (out-after : List ℕ) (ready : ℕ) : Type 0
 -- "a last line without it counts if it has a byte": at the end of the input what is ready completes the text of all lines, whatever came before; where a
 -- read failed, nothing is ready
 abbrev pub Finished : Transfer → List ℕ → List ℕ → OpenLine → List ℕ → ℕ → Type 0
-Finished End kept out current out-after ready =
-    (bytes text : List ℕ) → Follows bytes kept (current .kept) (current .number) text → Comes bytes text out 0 out-after ready
-Finished Failed kept out current out-after ready = Silent out out-after ready
-Finished Interrupted kept out current out-after ready = Silent out out-after ready
-Finished (Bytes count) kept out current out-after ready = Silent out out-after ready
+Finished End pending out current out-after ready =
+    (bytes text : List ℕ) → Follows bytes pending (current .held) (current .number) text → Comes bytes text out 0 out-after ready
+Finished Failed pending out current out-after ready = Silent out out-after ready
+Finished Interrupted pending out current out-after ready = Silent out out-after ready
+Finished (Bytes count) pending out current out-after ready = Silent out out-after ready
 
 -- the promise at the end of an input
-pub record Finishes (input : Transfer) (kept : List ℕ) (out : List ℕ) (current : OpenLine) (out-after : List ℕ) (ready : ℕ) : Type 0 where
+pub record Finishes (input : Transfer) (pending : List ℕ) (out : List ℕ) (current : OpenLine) (out-after : List ℕ) (ready : ℕ) : Type 0 where
   pub within : ready ≤ length out
-  pub right : Finished input kept out current out-after ready
+  pub right : Finished input pending out current out-after ready

@@ -1,5 +1,5 @@
 // The running of a list: standard input to standard output, each by 64 KiB.
-use crate::splitting::KEPT_LIMIT;
+use crate::splitting::HELD_LIMIT;
 use crate::splitting::OpenLine;
 use crate::splitting::Progress;
 use crate::splitting::pass_chunk;
@@ -85,18 +85,18 @@ fn write_whole(bytes: &[u8]) -> bool {
 }
 
 // Takes all lines of a chunk, and writes what is printed for them.
-fn answer_chunk(chunk: &[u8], line: &mut [u8], out: &mut [u8], current: OpenLine) -> Passed
-    requires { ⌜ ChunkReady (now chunk) (now line) (now out) current ⌝ }
-    ensures { λ r. ⌜ Answers (now (chunk .entry)) (now (line .entry)) current (now (line .exit)) r ⌝ }
+fn answer_chunk(chunk: &[u8], pending: &mut [u8], out: &mut [u8], current: OpenLine) -> Passed
+    requires { ⌜ ChunkReady (now chunk) (now pending) (now out) current ⌝ }
+    ensures { λ r. ⌜ Answers (now (chunk .entry)) (now (pending .entry)) current (now (pending .exit)) r ⌝ }
 {
     let mut reached = Progress {
         at: 0,
-        kept: current.kept,
+        held: current.held,
         number: current.number,
         used: 0,
     };
     while reached.at < chunk.len() {
-        reached = pass_chunk(chunk, line, out, reached);
+        reached = pass_chunk(chunk, pending, out, reached);
         let used = reached.used;
         if !write_whole(&out[..used]) {
             return Passed::Stopped;
@@ -104,25 +104,25 @@ fn answer_chunk(chunk: &[u8], line: &mut [u8], out: &mut [u8], current: OpenLine
         reached.used = 0;
     }
     Passed::Whole(OpenLine {
-        kept: reached.kept,
+        held: reached.held,
         number: reached.number,
     })
 }
 
 // Prints the open line at the end of the input, where it has a byte, and answers how many bytes are ready to be written. A line that a
 // failed read broke off is not printed.
-fn finish(input: Transfer, line: &[u8], out: &mut [u8], current: OpenLine) -> usize
-    requires { ⌜ EndReady (now line) (now out) current ⌝ }
-    ensures { λ r. ⌜ Finishes input (now (line .entry)) (now (out .entry)) current (now (out .exit)) r ⌝ }
+fn finish(input: Transfer, pending: &[u8], out: &mut [u8], current: OpenLine) -> usize
+    requires { ⌜ EndReady (now pending) (now out) current ⌝ }
+    ensures { λ r. ⌜ Finishes input (now (pending .entry)) (now (out .entry)) current (now (out .exit)) r ⌝ }
 {
-    let kept = current.kept;
+    let held = current.held;
     let Transfer::End = input else {
         return 0;
     };
-    if kept == 0 {
+    if held == 0 {
         return 0;
     }
-    put_line(out, current.number + 1, &line[..kept])
+    put_line(out, current.number + 1, &pending[..held])
 }
 
 // Runs a list to its end. What is printed for the lines of a chunk is written before the next read, so that at a terminal and at the
@@ -133,18 +133,18 @@ fn finish(input: Transfer, line: &[u8], out: &mut [u8], current: OpenLine) -> us
 // `read_chunk` and in `write_whole`.
 pub fn run() {
     let mut chunk = io::large_buffer();
-    let mut line = [0; KEPT_LIMIT];
+    let mut pending = [0; HELD_LIMIT];
     let mut out = io::large_buffer();
-    let mut current = OpenLine { kept: 0, number: 0 };
+    let mut current = OpenLine { held: 0, number: 0 };
     let mut calls = CALLS;
     while 0 < calls {
         let input = read_chunk(&mut chunk);
         let Transfer::Bytes(count) = input else {
-            let ready = finish(input, &line, &mut out, current);
+            let ready = finish(input, &pending, &mut out, current);
             write_whole(&out[..ready]);
             return;
         };
-        let passed = answer_chunk(&chunk[..count], &mut line, &mut out, current);
+        let passed = answer_chunk(&chunk[..count], &mut pending, &mut out, current);
         let Passed::Whole(next) = passed else {
             return;
         };

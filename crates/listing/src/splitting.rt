@@ -1,28 +1,29 @@
-// A chunk of input to lines. A line may begin in one chunk and end in another, so its first bytes are kept beside the chunk.
+// A chunk of input to lines. A line may begin in one chunk and end in another, so its first bytes are held beside the
+// chunk, pending.
 use formula::Word;
 use memory::copies::put_bytes;
 use printing::PRINTED_LIMIT;
 use printing::put_line;
 ghost use Prim.Native.Nat.{_≤_};
 ghost use lib.ListN.{length};
-ghost use Rattle.listing.specs.Taken.{keptLimit, EndFound, Keeps, Ready, Taken};
+ghost use Rattle.listing.specs.Taken.{heldLimit, EndFound, Holds, Ready, Taken};
 ghost use Rattle.listing.specs.Following.{Passes};
 
-// The most bytes of a line that are kept: one more than the most of a line that is not refused for its length.
-pub const KEPT_LIMIT: usize = Word::LINE_LIMIT + 1;
+// The most bytes of a line that are held: one more than the most of a line that is not refused for its length.
+pub const HELD_LIMIT: usize = Word::LINE_LIMIT + 1;
 
-// The line that is open between two reads: how many of its bytes are kept, and the number of the last line that ended. All that was
+// The line that is open between two reads: how many of its bytes are held, and the number of the last line that ended. All that was
 // printed is written by then, so nothing here counts it.
 pub struct OpenLine {
-    pub kept: usize,
+    pub held: usize,
     pub number: u64,
 }
 
-// How far a chunk is: the place in it, how many bytes of the open line are kept, the number of the last line that ended, and how many
+// How far a chunk is: the place in it, how many bytes of the open line are held, the number of the last line that ended, and how many
 // bytes of the output are used.
 pub struct Progress {
     pub at: usize,
-    pub kept: usize,
+    pub held: usize,
     pub number: u64,
     pub used: usize,
 }
@@ -42,39 +43,39 @@ fn line_end(chunk: &[u8], from: usize) -> usize
     at
 }
 
-// Puts bytes behind those that are kept, as far as there is room, and answers how many are kept then.
-fn keep(line: &mut [u8], kept: usize, part: &[u8]) -> usize
-    requires { ⌜ (kept ≤ keptLimit) × (keptLimit ≤ length (now line)) ⌝ }
-    ensures { λ r. ⌜ Keeps (now (line .entry)) kept (now (part .entry)) (now (line .exit)) r ⌝ }
+// Puts bytes behind those that are held, as far as there is room, and answers how many are held then.
+fn hold(pending: &mut [u8], held: usize, part: &[u8]) -> usize
+    requires { ⌜ (held ≤ heldLimit) × (heldLimit ≤ length (now pending)) ⌝ }
+    ensures { λ r. ⌜ Holds (now (pending .entry)) held (now (part .entry)) (now (pending .exit)) r ⌝ }
 {
-    let room = KEPT_LIMIT - kept;
+    let room = HELD_LIMIT - held;
     let count = if part.len() < room { part.len() } else { room };
-    put_bytes(&part[..count], line, kept);
-    kept + count
+    put_bytes(&part[..count], pending, held);
+    held + count
 }
 
 // Takes the open line to its end or to the chunk's, and prints it where it ended.
-fn take_line(chunk: &[u8], line: &mut [u8], out: &mut [u8], progress: Progress) -> Progress
-    requires { ⌜ Ready (now chunk) (now line) (now out) progress ⌝ }
-    ensures { λ r. ⌜ Taken (now (chunk .entry)) (now (line .entry)) (now (out .entry)) progress (now (line .exit)) (now (out .exit)) r ⌝ }
+fn take_line(chunk: &[u8], pending: &mut [u8], out: &mut [u8], progress: Progress) -> Progress
+    requires { ⌜ Ready (now chunk) (now pending) (now out) progress ⌝ }
+    ensures { λ r. ⌜ Taken (now (chunk .entry)) (now (pending .entry)) (now (out .entry)) progress (now (pending .exit)) (now (out .exit)) r ⌝ }
 {
     let at = progress.at;
     let number = progress.number;
     let used = progress.used;
     let end = line_end(chunk, at);
-    let kept = keep(line, progress.kept, &chunk[at..end]);
+    let held = hold(pending, progress.held, &chunk[at..end]);
     if end == chunk.len() {
         return Progress {
             at: end,
-            kept,
+            held,
             number,
             used,
         };
     }
-    let printed = put_line(&mut out[used..], number + 1, &line[..kept]);
+    let printed = put_line(&mut out[used..], number + 1, &pending[..held]);
     Progress {
         at: end + 1,
-        kept: 0,
+        held: 0,
         number: number + 1,
         used: used + printed,
     }
@@ -83,16 +84,16 @@ fn take_line(chunk: &[u8], line: &mut [u8], out: &mut [u8], progress: Progress) 
 // Takes lines from a place of the chunk until the chunk is used up or the output has no room for one more.
 pub(crate) fn pass_chunk(
     chunk: &[u8],
-    line: &mut [u8],
+    pending: &mut [u8],
     out: &mut [u8],
     progress: Progress,
 ) -> Progress
-    requires { ⌜ Ready (now chunk) (now line) (now out) progress ⌝ }
-    ensures { λ r. ⌜ Passes (now (chunk .entry)) (now (line .entry)) (now (out .entry)) progress (now (line .exit)) (now (out .exit)) r ⌝ }
+    requires { ⌜ Ready (now chunk) (now pending) (now out) progress ⌝ }
+    ensures { λ r. ⌜ Passes (now (chunk .entry)) (now (pending .entry)) (now (out .entry)) progress (now (pending .exit)) (now (out .exit)) r ⌝ }
 {
     let mut reached = progress;
     while reached.at < chunk.len() && reached.used + PRINTED_LIMIT <= out.len() {
-        reached = take_line(chunk, line, out, reached);
+        reached = take_line(chunk, pending, out, reached);
     }
     reached
 }

@@ -36,17 +36,17 @@ numbered-join (l ∷ lists) list is =
     ap (λ (k : List ℕ). k ++ joinedTo (length lists) (λ (number : ℕ). list (suc number))) (is 0 (omega arith))
     ∙ ap (λ (k : List ℕ). l ++ k) (numbered-join lists (λ (number : ℕ). list (suc number)) (λ number h. is (suc number) (suc-le-suc h)))
 
--- the part that an answer tells the place of
+-- the part at the place that an answer gives
 abbrev pub partBy : List ℕ → PartAnswer → List ℕ
 partBy word (At place size) = take size (drop place word)
 partBy word NoSyllable = []
 partBy word (Refused refusal) = []
 
-told-right : (word : List ℕ) (number : ℕ) (answer : PartAnswer) → PartAnswers word number (partOutcomeOf answer)
+answered-right : (word : List ℕ) (number : ℕ) (answer : PartAnswer) → PartAnswers word number (partOutcomeOf answer)
     → PartRight word number (partBy word answer)
-told-right word number (At place size) a = part-right word number place size a
-told-right word number NoSyllable a = part-beyond word number a
-told-right word number (Refused refusal) a = part-refused word number _ _ a
+answered-right word number (At place size) a = part-right word number place size a
+answered-right word number NoSyllable a = part-beyond word number a
+answered-right word number (Refused refusal) a = part-refused word number _ _ a
 
 module _ (row : Row) (word : List ℕ) (gives : Gives row word) (short : length word ≤ limit) where
   -- the parts of a word by number, from 0 to that of its last syllable, joined, are the word
@@ -55,7 +55,7 @@ module _ (row : Row) (word : List ℕ) (gives : Gives row word) (short : length 
       ap (λ (n : ℕ). joinedTo n at) (sym (parts-length no-final row))
       ∙ numbered-join (parts row) at (λ number _. right number .has (row-reads row word gives short .admissible) row gives) ∙ parts-joined row word gives
 
-  -- and so are the parts at the places and of the lengths that are told by number
+  -- and so are the parts at the places and of the lengths that are answered by number
   pub places-by-number : (answer : ℕ → PartAnswer) → ((number : ℕ) → PartAnswers word number (partOutcomeOf (answer number)))
       → joinedTo (length row) (λ (number : ℕ). partBy word (answer number)) ≡ word
-  places-by-number answer right = parts-by-number _ (λ number. told-right word number (answer number) (right number))
+  places-by-number answer right = parts-by-number _ (λ number. answered-right word number (answer number) (right number))

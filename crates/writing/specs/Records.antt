@@ -24,7 +24,7 @@ recordsOf bytes = firstRecords (length bytes / recordSize) bytes
 unfoldable pub rowOf : List ℕ → Row
 rowOf bytes = map syllableOf (recordsOf bytes)
 
--- each record may follow the one before it, of which the first has the link, and the last waits for none
+-- behind a record with the link: each may follow the one before it, and the last waits for none
 abbrev pub eachFollows : ℕ → List (List ℕ) → Bool
 eachFollows link [] = leb link 1
 eachFollows link (next ∷ records) = mayFollow link next && eachFollows (getD next linkPlace 0) records

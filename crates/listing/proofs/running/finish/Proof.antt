@@ -1,4 +1,4 @@
--- `listing::running::finish` meets its contract: at the end of the input a line is open with a byte exactly where a byte is kept.
+-- `listing::running::finish` meets its contract: at the end of the input a line is open with a byte exactly where a byte is held.
 -- Assumes nothing.
 use native.Mathlib.Omega.{arith}
 use mathlib.Core.Path.{sym}

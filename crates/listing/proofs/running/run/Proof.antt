@@ -29,7 +29,7 @@ loop-holds : tie.Need-loop-holds Inv-loop μ-loop
 loop-holds c =
     record {
       chunk-size = c .before .large-buffer .ensures;
-      kept-size = refl;
+      pending-size = refl;
       out-size = c .large-buffer2 .ensures;
       held = omega arith;
       numbers = omega arith;
@@ -48,7 +48,7 @@ enum-known-input : tie.Need-enum-known-input Inv-loop μ-loop
 enum-known-input c = search needs
 
 slice-aggregate-finish : tie.Need-slice-aggregate-finish Inv-loop μ-loop
-slice-aggregate-finish c = c .before .before .before .before .before .before .loop .inv .kept-size
+slice-aggregate-finish c = c .before .before .before .before .before .before .loop .inv .pending-size
 
 slice-aggregate-finish-2 : tie.Need-slice-aggregate-finish-2 Inv-loop μ-loop
 slice-aggregate-finish-2 c = c .before .before .before .before .before .before .before .loop .inv .out-size
@@ -79,7 +79,7 @@ slice-aggregate-answer-chunk : tie.Need-slice-aggregate-answer-chunk Inv-loop μ
 slice-aggregate-answer-chunk c = sym (length-take-le _ _ (within (c .before .before)))
 
 slice-aggregate-answer-chunk-2 : tie.Need-slice-aggregate-answer-chunk-2 Inv-loop μ-loop
-slice-aggregate-answer-chunk-2 c = c .before .before .before .before .before .before .before .before .before .loop .inv .kept-size
+slice-aggregate-answer-chunk-2 c = c .before .before .before .before .before .before .before .before .before .loop .inv .pending-size
 
 slice-aggregate-answer-chunk-3 : tie.Need-slice-aggregate-answer-chunk-3 Inv-loop μ-loop
 slice-aggregate-answer-chunk-3 c = c .before .before .before .before .before .before .before .before .before .before .loop .inv .out-size

@@ -32,7 +32,7 @@ loop-again c =
     along-more (c .before .before .before .before .before .before .before .before .before .before .before .before .before .before .before .pre) (c .before .before .before .before .before .before .before .before .before .before .before .loop .inv) (c .before .before .before .before .before .before .before .before .before .if1 .taken) (c .before .before .before .before .take-line .ensures) (c .before .before .before .before .take-line .kept .1 .0) (c .before .before .before .before .take-line .kept .1 .1 .0)
 
 same-length : tie.Need-same-length Inv-loop μ-loop
-same-length c = c .before .before .before .before .loop .inv .same-kept
+same-length c = c .before .before .before .before .loop .inv .same-pending
 
 same-length-2 : tie.Need-same-length-2 Inv-loop μ-loop
 same-length-2 c = c .before .before .before .before .loop .inv .same-out
@@ -41,7 +41,7 @@ returns : tie.Need-returns Inv-loop μ-loop
 returns c = taken-passes (along-taken (c .before .before .before .before .before .before .before .before .pre) (c .before .before .before .before .loop .inv) (λ h. leb-false _ _ (c .if2 .left)))
 
 same-length-3 : tie.Need-same-length-3 Inv-loop μ-loop
-same-length-3 c = c .before .before .loop .inv .same-kept
+same-length-3 c = c .before .before .loop .inv .same-pending
 
 same-length-4 : tie.Need-same-length-4 Inv-loop μ-loop
 same-length-4 c = c .before .before .loop .inv .same-out

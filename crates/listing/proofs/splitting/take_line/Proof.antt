@@ -1,4 +1,4 @@
--- `listing::splitting::take_line` meets its contract: up to the line's end no other line ends, and what is kept is answered as the whole line.
+-- `listing::splitting::take_line` meets its contract: up to the line's end no other line ends, and what is held is answered as the whole line.
 -- Assumes nothing.
 use native.Mathlib.Omega.{arith}
 use mathlib.Core.Path.{sym}
@@ -12,25 +12,25 @@ use Rattle.listing.proofs.splitting.take_line.Tie as tie
 line-end-requires : tie.Need-line-end-requires
 line-end-requires c κs = search needs
 
-sub-keep : tie.Need-sub-keep
-sub-keep c = search needs
+sub-hold : tie.Need-sub-hold
+sub-hold c = search needs
 
-part-keep-start : tie.Need-part-keep-start
-part-keep-start c = search needs
+part-hold-start : tie.Need-part-hold-start
+part-hold-start c = search needs
 
-part-keep-end : tie.Need-part-keep-end
-part-keep-end c = search needs
+part-hold-end : tie.Need-part-hold-end
+part-hold-end c = search needs
 
-keep-requires : tie.Need-keep-requires
-keep-requires c κs = search needs
+hold-requires : tie.Need-hold-requires
+hold-requires c κs = search needs
 
 same-length : tie.Need-same-length
 same-length c = search needs
 
 returns : tie.Need-returns
 returns c =
-    taken-open (now (c .before .before .before .before .before .before .before .before .before .before .args .chunk)) (now (c .before .before .before .before .before .before .before .before .before .before .args .line)) (now (c .before .before .before .before .before .before .before .before .before .before .args .out)) (c .before .before .before .before .before .before .before .before .before .before .args .progress) (c .before .before .before .keep .last .0)
-    (c .before .before .before .before .before .before .line-end .result) (c .before .before .before .keep .result) (c .before .before .before .before .before .before .before .before .before .before .pre) (c .before .before .before .before .before .before .line-end .ensures) (c .before .before .before .keep .ensures) (c .if1 .taken)
+    taken-open (now (c .before .before .before .before .before .before .before .before .before .before .args .chunk)) (now (c .before .before .before .before .before .before .before .before .before .before .args .pending)) (now (c .before .before .before .before .before .before .before .before .before .before .args .out)) (c .before .before .before .before .before .before .before .before .before .before .args .progress) (c .before .before .before .hold .last .0)
+    (c .before .before .before .before .before .before .line-end .result) (c .before .before .before .hold .result) (c .before .before .before .before .before .before .before .before .before .before .pre) (c .before .before .before .before .before .before .line-end .ensures) (c .before .before .before .hold .ensures) (c .if1 .taken)
 
 sub-put-line : tie.Need-sub-put-line
 sub-put-line c = search needs
@@ -48,7 +48,7 @@ slice-reshare-prefix-put-line : tie.Need-slice-reshare-prefix-put-line
 slice-reshare-prefix-put-line c = search needs
 
 slice-aggregate-put-line : tie.Need-slice-aggregate-put-line
-slice-aggregate-put-line c = sym (length-take-le _ _ (omega (arith, c .before .before .before .before .before .keep .ensures .fits, c .before .before .before .before .before .keep .kept .0)))
+slice-aggregate-put-line c = sym (length-take-le _ _ (omega (arith, c .before .before .before .before .before .hold .ensures .fits, c .before .before .before .before .before .hold .kept .0)))
 
 put-line-requires : tie.Need-put-line-requires
 put-line-requires c κs = search needs
@@ -72,19 +72,19 @@ same-length-3 c = search needs
 
 returns-2 : tie.Need-returns-2
 returns-2 c =
-    taken-ended (now (c .before .before .before .before .before .before .before .before .before .before .before .before .before .before .before .args .chunk)) (now (c .before .before .before .before .before .before .before .before .before .before .before .before .before .before .before .args .line)) (now (c .before .before .before .before .before .before .before .before .before .before .before .before .before .before .before .args .out)) (c .before .before .before .before .before .before .before .before .before .before .before .before .before .before .before .args .progress) (c .before .before .before .before .before .before .before .before .keep .last .0)
-    (c .before .before .put-line .last .0) (c .before .before .before .before .before .before .before .before .before .before .before .line-end .result) (c .before .before .before .before .before .before .before .before .keep .result) (c .before .before .put-line .result) (c .before .before .before .before .before .before .before .before .before .before .before .before .before .before .before .pre) (c .before .before .before .before .before .before .before .before .before .before .before .line-end .ensures)
-    (c .before .before .before .before .before .before .before .before .keep .ensures) (omega arith) (c .before .before .put-line .kept .0) (c .before .before .put-line .ensures)
+    taken-ended (now (c .before .before .before .before .before .before .before .before .before .before .before .before .before .before .before .args .chunk)) (now (c .before .before .before .before .before .before .before .before .before .before .before .before .before .before .before .args .pending)) (now (c .before .before .before .before .before .before .before .before .before .before .before .before .before .before .before .args .out)) (c .before .before .before .before .before .before .before .before .before .before .before .before .before .before .before .args .progress) (c .before .before .before .before .before .before .before .before .hold .last .0)
+    (c .before .before .put-line .last .0) (c .before .before .before .before .before .before .before .before .before .before .before .line-end .result) (c .before .before .before .before .before .before .before .before .hold .result) (c .before .before .put-line .result) (c .before .before .before .before .before .before .before .before .before .before .before .before .before .before .before .pre) (c .before .before .before .before .before .before .before .before .before .before .before .line-end .ensures)
+    (c .before .before .before .before .before .before .before .before .hold .ensures) (omega arith) (c .before .before .put-line .kept .0) (c .before .before .put-line .ensures)
 
 pub take-line-spec : {M : Type 1} → statement M
 take-line-spec =
     tie.close
     (tie.spec
     line-end-requires
-    sub-keep
-    part-keep-start
-    part-keep-end
-    keep-requires
+    sub-hold
+    part-hold-start
+    part-hold-end
+    hold-requires
     same-length
     returns
     sub-put-line

@@ -1,4 +1,4 @@
--- `listing::splitting::keep` meets its contract: what there is room for is copied behind the bytes that are kept.
+-- `listing::splitting::hold` meets its contract: what there is room for is copied behind the bytes that are held.
 -- Assumes nothing.
 use borrow.Author.Needs.{needs}
 use mathlib.Core.Path.{sym}
@@ -6,12 +6,12 @@ use mathlib.Core.Logic.{⊎-elim}
 use native.Mathlib.Omega.{arith}
 use lib.Seq.{length-take-le}
 use denote.Ref.{now}
-use Rattle.listing.proofs.Keeping.{Fills, fills-all, fills-room, kept-more}
-use Rattle.listing.proofs.splitting.keep.Statement.{statement}
-use Rattle.listing.proofs.splitting.keep.Tie as tie
+use Rattle.listing.proofs.Holding.{Fills, fills-all, fills-room, held-more}
+use Rattle.listing.proofs.splitting.hold.Statement.{statement}
+use Rattle.listing.proofs.splitting.hold.Tie as tie
 
 -- what is copied fills the room
-filled : (c : tie.Joined1) → Fills (now (c .before .before .before .args .part)) (c .before .before .before .args .kept) (c .if1 .count)
+filled : (c : tie.Joined1) → Fills (now (c .before .before .before .args .part)) (c .before .before .before .args .held) (c .if1 .count)
 filled c =
     let s = c .before .before .before in
     ⊎-elim (λ w. rw (w .1) (fills-all _ _ (s .pre .0) (w .0 .taken))) (λ w. rw (w .1) (fills-room _ _ (s .pre .0) (w .0 .left))) (c .if1 .came)
@@ -36,9 +36,9 @@ same-length c = search needs
 
 returns : tie.Need-returns
 returns c =
-    kept-more _ _ _ _ _ (c .before .before .before .before .before .before .before .before .before .pre .1) (filled (c .before .before .before .before .before .before)) (c .before .before .before .put-bytes .ensures)
+    held-more _ _ _ _ _ (c .before .before .before .before .before .before .before .before .before .pre .1) (filled (c .before .before .before .before .before .before)) (c .before .before .before .put-bytes .ensures)
 
-pub keep-spec : {M : Type 1} → statement M
-keep-spec =
+pub hold-spec : {M : Type 1} → statement M
+hold-spec =
     tie.close
     (tie.spec sub-room slice-aggregate-put-bytes put-bytes-requires add-result same-length returns)
