@@ -56,53 +56,27 @@ none-foreign arms t x n =
     (or-not (inArms arms y) (isAdmitted y) (on-chart (λ (z : ℕ). inArms arms z || not (isAdmitted z)) t y l h) (in-none arms y m))))
     (λ y e m. foreign-class y e) x n
 
--- a class that no arm has is none of the 23
-abbrev classArms : List (List ℕ)
-classArms =
-    (22 ∷ [])
-    ∷ (21 ∷ [])
-    ∷ (20 ∷ [])
-    ∷ (19 ∷ [])
-    ∷ (18 ∷ [])
-    ∷ (17 ∷ [])
-    ∷ (16 ∷ [])
-    ∷ (15 ∷ [])
-    ∷ (14 ∷ [])
-    ∷ (13 ∷ [])
-    ∷ (12 ∷ [])
-    ∷ (11 ∷ [])
-    ∷ (10 ∷ [])
-    ∷ (9 ∷ [])
-    ∷ (8 ∷ [])
-    ∷ (7 ∷ [])
-    ∷ (6 ∷ [])
-    ∷ (5 ∷ [])
-    ∷ (4 ∷ [])
-    ∷ (3 ∷ [])
-    ∷ (2 ∷ [])
-    ∷ (1 ∷ [])
-    ∷ (0 ∷ [])
-    ∷ []
-
 beyond : (l : List ℕ) (k : ℕ) → length l ≤ k → getD l k 0 ≡ 0
 beyond [] k h = refl
 beyond (y ∷ l) zero h = absurd (not-suc-le-zero h)
 beyond (y ∷ l) (suc k) h = beyond l k (le-of-suc-le-suc h)
 
-no-example : (class : ℕ) → InNone classArms class → getD examples class 0 ≡ 0
-no-example class n = go (decLt class 23)
+-- a class that no arm has is none of those that have an example, where the arms have every one of these
+no-example : (arms : List (List ℕ)) → T (upTo (inArms arms) (length examples)) → (class : ℕ) → InNone arms class → getD examples class 0 ≡ 0
+no-example arms t class n = go (decLt class (length examples))
   where
-    go : Dec (class < 23) → getD examples class 0 ≡ 0
-    go (yes h) = absurd (subst T (in-none classArms class n) (below (inArms classArms) 23 tt class h))
+    go : Dec (class < length examples) → getD examples class 0 ≡ 0
+    go (yes h) = absurd (subst T (in-none arms class n) (below (inArms arms) (length examples) t class h))
     go (no h) = beyond examples class (omega arith)
 
 no-rules-at : rulesAt 0 ≡ record { picks = 0; outcomes = 96; amounts = 0 }
 unfolding pick
 no-rules-at = refl
 
-pub no-rules : (class : ℕ) → InNone classArms class → rulesIn class ≡ record { picks = 0; outcomes = 96; amounts = 0 }
+pub no-rules : (arms : List (List ℕ)) → T (upTo (inArms arms) (length examples)) → (class : ℕ) → InNone arms class
+    → rulesIn class ≡ record { picks = 0; outcomes = 96; amounts = 0 }
 unfolding rulesIn
-no-rules class n = ap rulesAt (no-example class n) ∙ no-rules-at
+no-rules arms t class n = ap rulesAt (no-example arms t class n) ∙ no-rules-at
 
 -- the entry that a class has for a state, and what it adds there
 abbrev entryIn : ℕ → ℕ → ℕ

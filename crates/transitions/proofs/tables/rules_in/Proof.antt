@@ -1,12 +1,15 @@
 -- `transitions::tables::rules_in` meets its contract: each arm is what its class does, as antt computes it.
 -- Assumes nothing.
 use mathlib.Core.Path.{refl, sym}
+use mathlib.Core.List.{reverse}
 use Rattle.letters.specs.Choice.{pick}
+use Rattle.letters.proofs.Arms.{armsOf}
 use Rattle.formula.specs.Syllable.{carriesMarks, carriesFinal}
 use Rattle.transitions.specs.Tables.{rulesIn}
 use Rattle.transitions.proofs.Entered.{no-rules}
 use Rattle.transitions.proofs.tables.rules_in.Statement.{statement}
 use Rattle.transitions.proofs.tables.rules_in.Tie as tie
+use Rattle.transitions.proofs.tables.rules_in.Lts as lts
 
 returns : tie.Need-returns
 unfolding rulesIn pick carriesMarks carriesFinal
@@ -101,7 +104,7 @@ unfolding rulesIn pick carriesMarks carriesFinal
 returns-23 c = rw (c .match .keys23) refl
 
 returns-24 : tie.Need-returns-24
-returns-24 c = sym (no-rules (c .before .args .class) (c .match .rest))
+returns-24 c = sym (no-rules (reverse (armsOf lts.body)) tt (c .before .args .class) (c .match .rest))
 
 pub rules-in-spec : {M : Type 1} → statement M
 rules-in-spec =
