@@ -1,14 +1,12 @@
-// The weights of document 01, "Weights": of heads, medial groups, finals, vowels and tones.
+// The weights of document 01, "Weights": of heads, independent vowels and medial groups.
 ghost use mathlib.Core.Path.{_≡_};
 ghost use Rattle.letters.specs.Choice.{pick};
 ghost use Rattle.letters.specs.Letters.{within};
-ghost use Rattle.letters.specs.Weights.{headWeighed, independentVowelWeighed, medialSetWeight, finalNumbered, finalWeighed, vowelOfMark, vowelWith, toneWeighed, weightOr, medialTable};
+ghost use Rattle.letters.specs.Weights.{headWeighed, independentVowelWeighed, medialSetWeight, weightOr, medialTable};
 
 const FIRST_CONSONANT: u16 = 0x1000;
 
 const LAST_CONSONANT: u16 = 0x1021;
-
-const LAST_FINAL: u16 = 0x1020;
 
 // The independent vowels stand in two ranges, with 1028 between them.
 const FIRST_VOWEL: u16 = 0x1023;
@@ -18,18 +16,6 @@ const LAST_VOWEL: u16 = 0x1027;
 const FIRST_LATE_VOWEL: u16 = 0x1029;
 
 const LAST_LATE_VOWEL: u16 = 0x102A;
-
-const TALL_AA: u16 = 0x102B;
-
-const AA: u16 = 0x102C;
-
-const MARK_I: u16 = 0x102D;
-
-const MARK_U: u16 = 0x102F;
-
-const MARK_AM: u16 = 0x1036;
-
-const KILLER: u16 = 0x103A;
 
 const FIRST_DIGIT: u16 = 0x1040;
 
@@ -139,39 +125,6 @@ pub fn medial_weight(set: u8) -> Weighed
     weight_if(weight != FORBIDDEN, weight)
 }
 
-// The number of a final letter, as a syllable record has it.
-pub fn final_number(x: u16) -> Weighed
-    ensures { λ r. ⌜ r ≡ finalNumbered x ⌝ }
-{
-    if within(FIRST_CONSONANT, LAST_FINAL, x) {
-        return Weighed::Weight((x - FIRST_CONSONANT) as u8 + 1);
-    }
-    Weighed::Nothing
-}
-
-// The weight of a final letter, as a key has it: its number, whichever form the final has.
-pub fn final_weight(x: u16) -> Weighed
-    ensures { λ r. ⌜ r ≡ finalWeighed x ⌝ }
-{
-    final_number(x)
-}
-
-// The weight of the vowel that is written with one mark.
-fn vowel_of_mark(mark: u16) -> Weighed
-    ensures { λ r. ⌜ r ≡ vowelOfMark mark ⌝ }
-{
-    if within(TALL_AA, AA, mark) {
-        return Weighed::Weight(1);
-    }
-    if within(MARK_I, 0x1032, mark) {
-        return Weighed::Weight((mark - MARK_I) as u8 + 2);
-    }
-    if mark == MARK_AM {
-        return Weighed::Weight(10);
-    }
-    Weighed::Nothing
-}
-
 // The weight, where it is allowed.
 fn weight_if(allowed: bool, weight: u8) -> Weighed
     ensures { λ r. ⌜ r ≡ pick allowed (Weighed.Weight weight) Weighed.Nothing ⌝ }
@@ -180,30 +133,5 @@ fn weight_if(allowed: bool, weight: u8) -> Weighed
         Weighed::Weight(weight)
     } else {
         Weighed::Nothing
-    }
-}
-
-// The weight of the vowel that is written as the vowel of this weight, 0 for none, and then the mark.
-pub fn vowel_with(vowel: u8, mark: u16) -> Weighed
-    ensures { λ r. ⌜ r ≡ vowelWith vowel mark ⌝ }
-{
-    match vowel {
-        0 => vowel_of_mark(mark),
-        2 => weight_if(mark == MARK_U, 11),
-        4 => weight_if(mark == MARK_AM, 12),
-        6 => weight_if(within(TALL_AA, AA, mark), 8),
-        8 => weight_if(mark == KILLER, 9),
-        _ => Weighed::Nothing,
-    }
-}
-
-// The weight of a tone.
-pub fn tone_weight(x: u16) -> Weighed
-    ensures { λ r. ⌜ r ≡ toneWeighed x ⌝ }
-{
-    match x {
-        0x1037 => Weighed::Weight(1),
-        0x1038 => Weighed::Weight(2),
-        _ => Weighed::Nothing,
     }
 }
