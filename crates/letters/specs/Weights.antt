@@ -131,12 +131,6 @@ headWeighed x = pick (isHead x) (Weight (headWeight x)) Nothing
 abbrev pub independentVowelWeighed : ℕ → Weighed
 independentVowelWeighed x = pick (isIndependentVowel x) (Weight (independentVowelWeight x)) Nothing
 
-abbrev pub finalNumbered : ℕ → Weighed
-finalNumbered x = pick (isFinalLetter x) (Weight (finalNumber x)) Nothing
-
-abbrev pub finalWeighed : ℕ → Weighed
-finalWeighed x = pick (isFinalLetter x) (Weight (finalWeight x)) Nothing
-
 abbrev pub toneWeighed : ℕ → Weighed
 toneWeighed x = pick (eqb x 0x1037) (Weight 1) (pick (eqb x 0x1038) (Weight 2) Nothing)
 
