@@ -8,6 +8,7 @@ use lib.Dec.{T}
 use lib.ListN.{replicate}
 use Rattle.letters.specs.Choice.{pick}
 use Rattle.letters.specs.Marks.{ya, ra, MedialGroup, group, medialGroups, no-medial, medialText, Vowel, vowels, no-vowel, vowel-aa, vowel-ii, vowel-e-aa-killer, vowel-i-u, vowelText, ToneMark, toneMarks, no-tone, dot, visarga, toneText}
+use Rattle.formula.specs.Limits.{limit}
 use Rattle.formula.specs.Syllable.{no-final, plain, stacked, kinzi, great-sa, syllable, bare, carriesMarks, carriesFinal}
 use Rattle.formula.specs.Row.{Row, isRowAfter, join, Gives}
 use Rattle.formula.specs.Spelled.{spelled}
@@ -74,10 +75,10 @@ examples =
       spell = (0x1026 ∷ []) ∷ [];
     }
     ∷ record {
-      word = replicate 64 0x1000;
-      row = replicate 64 (bare 0x1000);
-      weigh = replicate 64 (13 ∷ 0 ∷ 0 ∷ 0 ∷ 0 ∷ []);
-      spell = replicate 64 (0x1000 ∷ []);
+      word = replicate limit 0x1000;
+      row = replicate limit (bare 0x1000);
+      weigh = replicate limit (13 ∷ 0 ∷ 0 ∷ 0 ∷ 0 ∷ []);
+      spell = replicate limit (0x1000 ∷ []);
     }
     ∷ []
 
