@@ -21,7 +21,7 @@ use Rattle.typed_places.proofs.Laws.{typed-values, typed-within, StandsOnce, on
 use Rattle.normaliser.specs.Admission.{too-long as word-too-long, foreign as word-foreign}
 use Rattle.normaliser.specs.Normal.{StoreRefusedWith, unadmitted, outcome, NormaliseRight}
 use Rattle.normaliser.specs.Form.{FormRight}
-use Rattle.normaliser.specs.Typed.{TypedAt, NothingTyped}
+use Rattle.normaliser.specs.Typed.{HasPlace, HasNoPlace}
 use Rattle.normaliser.proofs.Determined.{form-determined}
 
 -- what stands in a list, by places
@@ -90,7 +90,7 @@ module _ (word : List ℕ) where
     pub within : p < length word
     pub stands : StandsFor (getD word p 0) (getD (storedForm word) place 0)
 
-  pub typed-placed : (place p : ℕ) → TypedAt word place p → Placed place p
+  pub typed-placed : (place p : ℕ) → HasPlace word place p → Placed place p
   unfolding typedAt
   typed-placed place p t =
       let at = some-at (typedPlaces word) place p (t .typed) in
@@ -103,7 +103,7 @@ module _ (word : List ℕ) where
       }
 
   -- and none is told from the end of the stored form on
-  pub typed-beyond : (place : ℕ) → NothingTyped word place → length (storedForm word) ≤ place
+  pub typed-beyond : (place : ℕ) → HasNoPlace word place → length (storedForm word) ≤ place
   typed-beyond place t = omega (arith, none-at (typedPlaces word) place (t .nothing), typed-values word .long)
 
   -- no value stands at two places
@@ -111,12 +111,12 @@ module _ (word : List ℕ) where
   few p (once e) = omega arith
   few p (taken-up e v) = omega arith
 
-  pub typed-apart : (q r p : ℕ) → TypedAt word q p → TypedAt word r p → q ≡ r
+  pub typed-apart : (q r p : ℕ) → HasPlace word q p → HasPlace word r p → q ≡ r
   typed-apart q r p t u =
       once-at (typedPlaces word) q r p (few p (typed-once word p (typed-within word q p (t .typed)))) (t .typed) (u .typed)
 
   -- in a row of syllables each value stands where it was typed
-  pub row-placed : (row : Row) → Gives row word → (place p : ℕ) → TypedAt word place p → p ≡ place
+  pub row-placed : (row : Row) → Gives row word → (place p : ℕ) → HasPlace word place p → p ≡ place
   row-placed row g place p t =
       let e : getElem? (upFrom 0 (length word)) place ≡ some p = rw (row-typed word row g) at (t .typed) in
       omega (arith, numbered-at 0 (length word) place p e)

@@ -1,5 +1,5 @@
--- Where a value of the stored form was typed: its place in the word as handed in.
--- Assumes nothing.
+-- Document 01, "Storage order": a word is "refused, with a place in that outcome". Where the value at such a place was typed: its place in the
+-- word as handed in. Assumes nothing.
 use mathlib.Core.Path.{_≡_}
 use mathlib.Core.List.{List}
 use mathlib.Core.Option.{none, some}
@@ -20,18 +20,18 @@ typedOutcomeOf NoPlace = absent
 typedOutcomeOf (Refused r) = refuses (numberOf r) (placeOf r)
 
 -- the value at a place of the stored form was typed at p
-pub record TypedAt (word : List ℕ) (place p : ℕ) : Type 0 where
+pub record HasPlace (word : List ℕ) (place p : ℕ) : Type 0 where
   pub admissible : Admissible word
   pub typed : getElem? (typedPlaces word) place ≡ some p
 
 -- no value stands at that place of the stored form
-pub record NothingTyped (word : List ℕ) (place : ℕ) : Type 0 where
+pub record HasNoPlace (word : List ℕ) (place : ℕ) : Type 0 where
   pub admissible : Admissible word
   pub nothing : getElem? (typedPlaces word) place ≡ none
 
 -- the promise of a typed place
 abbrev pub TypedAnswers : List ℕ → ℕ → Outcome → Type 0
-TypedAnswers word place (accepts p) = TypedAt word place p
+TypedAnswers word place (accepts p) = HasPlace word place p
 TypedAnswers word place (accepts-both n m) = ⊥
-TypedAnswers word place absent = NothingTyped word place
+TypedAnswers word place absent = HasNoPlace word place
 TypedAnswers word place (refuses number p) = Unadmitted word number p

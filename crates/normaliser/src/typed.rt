@@ -19,7 +19,7 @@ pub fn typed_place(word: &[u16], place: usize) -> TypedPlace
     if let Counted::Refused(refusal) = answer {
         return TypedPlace::Refused(refusal);
     }
-    let typed = typed_places::place_typed(word, place);
+    let typed = typed_places::place_in_word(word, place);
     if typed < word.len() {
         return TypedPlace::At(typed);
     }

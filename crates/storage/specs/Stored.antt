@@ -42,13 +42,15 @@ module _ {A : Type 0} (value : A → ℕ) where
   sortRunsBy [] = []
   sortRunsBy (x ∷ word) = insertBy x (sortRunsBy word)
 
--- the value of a value
+-- a value is its own value
 abbrev pub itself : ℕ → ℕ
 itself x = x
 
+-- a value put before sorted values
 abbrev pub insert : ℕ → List ℕ → List ℕ
 insert = insertBy itself
 
+-- rule 1 over the values of a word
 abbrev pub sortRuns : List ℕ → List ℕ
 sortRuns = sortRunsBy itself
 

@@ -17,7 +17,7 @@ ghost use Rattle.typed_places.specs.Seeking.{PlaceRoom, Filled, SortedRo
 type Places = [usize; Word::LIMIT];
 
 // The place in the word of the value at `place` of its stored form, and the word's length where none stands there.
-pub fn place_typed(word: &[u16], place: usize) -> usize
+pub fn place_in_word(word: &[u16], place: usize) -> usize
     requires { ⌜ length (now word) ≤ limit ⌝ }
     ensures { λ r. ⌜ r ≡ getD (typedPlaces (now (word .entry))) place (length (now (word .entry))) ⌝ }
 {

@@ -32,14 +32,14 @@ returns c =
 enum-told : tie.Need-enum-told
 enum-told c = search needs
 
-place-typed-requires : tie.Need-place-typed-requires
-place-typed-requires c κs = admissible c .short
+place-in-word-requires : tie.Need-place-in-word-requires
+place-in-word-requires c κs = admissible c .short
 
 returns-2 : tie.Need-returns-2
 returns-2 c =
     let t = c .before in
     let start = t .before .before .before .before .before in
-    let e = t .place-typed .ensures in
+    let e = t .place-in-word .ensures in
     record {
       admissible = admissible (t .before);
       typed = typed-found (start .args .word .now) (start .args .place) (omega (arith, e, c .if1 .taken)) ∙ ap some (sym e);
@@ -51,7 +51,7 @@ returns-3 c =
     let start = t .before .before .before .before .before in
     record {
       admissible = admissible (t .before);
-      nothing = typed-none (start .args .word .now) (start .args .place) (omega (arith, t .place-typed .ensures, c .if1 .left));
+      nothing = typed-none (start .args .word .now) (start .args .place) (omega (arith, t .place-in-word .ensures, c .if1 .left));
     }
 
 pub typed-place-spec : {M : Type 1} → statement M
@@ -62,6 +62,6 @@ typed-place-spec =
     enum-known-answer
     returns
     enum-told
-    place-typed-requires
+    place-in-word-requires
     returns-2
     returns-3)

@@ -1,4 +1,4 @@
--- `typed_places::place_typed` meets its contract. The loop's invariant: what stands so many further on from here is what is asked for. The measure is how many are left.
+-- `typed_places::place_in_word` meets its contract. The loop's invariant: what stands so many further on from here is what is asked for. The measure is how many are left.
 -- Assumes nothing.
 use mathlib.Core.Path.{_≡_, ap, _∙_}
 use mathlib.Core.Logic.{⊎-elim}
@@ -10,8 +10,8 @@ use borrow.Author.Needs.{needs}
 use borrow.Author.Tests.{ltb-true, ltb-false}
 use Rattle.typed_places.specs.Typed.{typedPlaces}
 use Rattle.typed_places.proofs.Seeking.{filled-long, seen, seen-first, seen-next, seen-here, seen-none}
-use Rattle.typed_places.proofs.place_typed.Statement.{statement}
-use Rattle.typed_places.proofs.place_typed.Tie as tie
+use Rattle.typed_places.proofs.place_in_word.Statement.{statement}
+use Rattle.typed_places.proofs.place_in_word.Tie as tie
 
 abbrev Inv-loop : tie.InvT-loop
 Inv-loop word place places at₀ left₀ at left = seen word at left ≡ getD (typedPlaces word) place (length word)
@@ -77,8 +77,8 @@ returns-2 c =
     let at-loop = c .before .before in
     seen-none (now (at-loop .before .before .before .args .word)) (at-loop .loop .at) (at-loop .loop .left) (c .if2 .left) ∙ at-loop .loop .inv
 
-pub place-typed-spec : {M : Type 1} → statement M
-place-typed-spec =
+pub place-in-word-spec : {M : Type 1} → statement M
+place-in-word-spec =
     tie.close
     (tie.spec
     Inv-loop
