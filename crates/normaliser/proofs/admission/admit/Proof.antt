@@ -1,7 +1,10 @@
 -- `normaliser::admission::admit` meets its contract: a first foreign value that is not within the word is none.
 -- Assumes nothing.
 use mathlib.Core.Path.{refl}
+use Prim.Native.Nat.{_<_}
 use native.Mathlib.Omega.{arith}
+use lib.ListN.{length}
+use denote.Ref.{now}
 use borrow.Author.Needs.{needs}
 use Rattle.normaliser.specs.Admission.{too-long, foreign}
 use Rattle.normaliser.proofs.admission.admit.Statement.{statement}
@@ -16,11 +19,12 @@ first-foreign-requires c κs = search needs
 returns-2 : tie.Need-returns-2
 returns-2 c =
     let f = c .before .first-foreign .ensures in
+    let inside : c .before .first-foreign .result < length (now (c .before .before .before .before .args .word)) = omega arith in
     foreign
     (record {
       short = c .before .before .if1 .left;
-      within = c .if2 .taken;
-      foreign = f .foreign (c .if2 .taken);
+      within = inside;
+      foreign = f .foreign inside;
       before = λ k i. f .before k (omega arith) i;
     })
 
