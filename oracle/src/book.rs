@@ -6,7 +6,7 @@
 use crate::collation::compare;
 use crate::refusal::Refusal;
 use crate::storage::store;
-use crate::word::{Word, WORD_LIMIT};
+use crate::word::{hand_out, Word, WORD_LIMIT};
 use std::collections::BTreeMap;
 
 /// "A book is a lent buffer of at most 16,384 bytes".
@@ -25,6 +25,17 @@ pub struct Entry {
     pub start: usize,
     /// Its stock number.
     pub stock: u32,
+}
+
+/// What is told of the record that starts at a place.
+#[derive(Clone, Copy, Debug, PartialEq, Eq)]
+pub struct Told {
+    /// Its stock number.
+    pub stock: u32,
+    /// How many values its word has.
+    pub count: usize,
+    /// Whether it is live.
+    pub live: bool,
 }
 
 /// A record of a book.
@@ -56,14 +67,30 @@ pub fn find(buffer: &[u8], word: &[u16]) -> Result<Entry, Refusal> {
 /// records before it in word order."
 pub fn rank(buffer: &[u8], rank: usize) -> Result<Entry, Refusal> {
     let book = Book::of(buffer)?;
-    let mut live: Vec<&Record> = book.live().collect();
-    live.sort_by(|first, second| {
-        compare(&first.word, &second.word).expect("the words of a book are readable")
-    });
+    let live = book.in_order();
     match live.get(rank) {
         Some(record) => Ok(record.entry),
         None => Err(Refusal::rank_too_high(live.len())),
     }
+}
+
+/// Puts the starts of all live records into the output, in word order: refusals
+/// 11 and 5.
+pub fn order(buffer: &[u8], starts: &mut [u16]) -> Result<usize, Refusal> {
+    let book = Book::of(buffer)?;
+    let order: Vec<u16> = book.in_order().iter().map(|record| record.entry.start as u16).collect();
+    hand_out(&order, starts)
+}
+
+/// Puts the word of the record that starts at a place into the output, whether it
+/// is live or not: refusals 11 and 5; nothing where no record starts there.
+pub fn word_at(buffer: &[u8], start: usize, output: &mut [u16]) -> Result<Option<Told>, Refusal> {
+    let book = Book::of(buffer)?;
+    let Some(record) = book.records.iter().find(|record| record.entry.start == start) else {
+        return Ok(None);
+    };
+    let count = hand_out(&record.word, output)?;
+    Ok(Some(Told { stock: record.entry.stock, count, live: record.live }))
 }
 
 /// "Add puts a record with the normalised word just after the last record and
@@ -131,6 +158,14 @@ impl Book {
 
     fn live(&self) -> impl Iterator<Item = &Record> {
         self.records.iter().filter(|record| record.live)
+    }
+
+    fn in_order(&self) -> Vec<&Record> {
+        let mut live: Vec<&Record> = self.live().collect();
+        live.sort_by(|first, second| {
+            compare(&first.word, &second.word).expect("the words of a book are readable")
+        });
+        live
     }
 
     fn entry_of(&self, word: &[u16]) -> Option<Entry> {

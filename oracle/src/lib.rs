@@ -32,6 +32,6 @@ pub use line::decode;
 pub use reading::{part, read, record, Reading, RecordAnswer};
 pub use refusal::Refusal;
 pub use spelling::spell_out;
-pub use storage::normalise;
+pub use storage::{normalise, stored_form, typed_place};
 pub use word::Word;
 pub use writing::write;

@@ -44,12 +44,56 @@ pub fn normalise(word: &[u16], output: &mut [u16]) -> Result<usize, Refusal> {
 /// The stored form by value. "The outcome must be a row of syllables, else the
 /// word is refused, with a place in that outcome."
 pub fn store(word: &[u16]) -> Result<StoredWord, Refusal> {
+    let word = outcome(word)?;
+    let reading = row_or_refusal(&word)?;
+    Ok(StoredWord { word, reading })
+}
+
+/// Puts the outcome of rules 1 and 2 into the output, whether it is a row of
+/// syllables or not: refusals 1, 2 and 5.
+pub fn stored_form(word: &[u16], output: &mut [u16]) -> Result<usize, Refusal> {
+    hand_out(&outcome(word)?, output)
+}
+
+/// Which value of the word as typed stands at a place of that outcome, by its
+/// place in the word; nothing where the outcome has no such place.
+pub fn typed_place(word: &[u16], place: usize) -> Result<Option<usize>, Refusal> {
+    check_values(word)?;
+    Ok(typed_places(word).get(place).copied())
+}
+
+/// The outcome of rules 1 and 2.
+fn outcome(word: &[u16]) -> Result<Word, Refusal> {
     check_values(word)?;
     let mut word = Word::copy_of(word).ok_or(Refusal::TOO_LONG)?;
     sort_runs(word.values_mut());
     join_letter_u(&mut word);
-    let reading = row_or_refusal(&word)?;
-    Ok(StoredWord { word, reading })
+    Ok(word)
+}
+
+/// The typed place of each value of the outcome. Nothing is sorted here: the
+/// places of a run are dealt out mark by mark, in the marks' order, and a 102E that
+/// comes to stand behind a 1025 is taken up by it.
+fn typed_places(word: &[u16]) -> Vec<usize> {
+    let mut places: Vec<usize> = Vec::new();
+    let mut run = 0..0;
+    for end in 0..=word.len() {
+        run.end = end;
+        if end < word.len() && mark_rank(word[end]) != NO_MARK {
+            continue;
+        }
+        for mark in MARK_ORDER {
+            places.extend(run.clone().filter(|&place| word[place] == mark));
+        }
+        places.extend(Some(end).filter(|&end| end < word.len()));
+        run.start = end + 1;
+    }
+    let values = |place: usize| places.get(place).map(|&typed| word[typed]);
+    let taken_up = |place: usize| {
+        let before = place.checked_sub(1).and_then(values);
+        before == Some(LETTER_U) && values(place) == Some(MARK_II)
+    };
+    (0..places.len()).filter(|&place| !taken_up(place)).map(|place| places[place]).collect()
 }
 
 fn mark_rank(value: u16) -> u8 {
@@ -94,5 +138,38 @@ mod tests {
         let mut order = MARK_ORDER;
         order.sort_unstable();
         assert!(marks.eq(order));
+    }
+
+    fn places(word: &[u16]) -> Vec<usize> {
+        let all = (0..).map_while(|place| typed_place(word, place).unwrap());
+        all.collect()
+    }
+
+    #[test]
+    fn each_value_of_the_outcome_is_pointed_at_where_it_was_typed() {
+        assert_eq!(places(&[]), []);
+        assert_eq!(places(&[0x1000, 0x1014, 0x1037, 0x103A]), [0, 1, 3, 2]);
+        assert_eq!(places(&[0x1000, 0x102C, 0x1031]), [0, 2, 1]);
+        // Of equal marks the one typed first stands first.
+        assert_eq!(places(&[0x1000, 0x1038, 0x1038, 0x1037]), [0, 3, 1, 2]);
+        // 1025 102E is pointed at where the 1025 was typed.
+        assert_eq!(places(&[0x1025, 0x102E]), [0]);
+        assert_eq!(places(&[0x1025, 0x1038, 0x102E]), [0, 1]);
+        assert_eq!(places(&[0x1025, 0x1031, 0x102E]), [0, 1, 2]);
+        assert_eq!(places(&[0x1025, 0x103A]), [0, 1]);
+        assert_eq!(places(&[0x1037, 0x103B, 0x1039, 0x1038, 0x1031]), [1, 0, 2, 4, 3]);
+    }
+
+    #[test]
+    fn the_outcome_is_given_where_the_word_is_refused() {
+        let mut output = [0; 4];
+        assert_eq!(stored_form(&[0x1000, 0x102C, 0x1031, 0x103B], &mut output), Ok(4));
+        assert_eq!(output, [0x1000, 0x103B, 0x1031, 0x102C]);
+        let short = stored_form(&[0x1025, 0x102E, 0x1038], &mut output[..1]);
+        assert_eq!(short, Err(Refusal::output_too_short(2)));
+        assert_eq!(stored_form(&[0x1039, 0x1022], &mut []), Err(Refusal::foreign(1)));
+        assert_eq!(stored_form(&[0; 65], &mut []), Err(Refusal::TOO_LONG));
+        assert_eq!(typed_place(&[0x1039, 0x1022], 9), Err(Refusal::foreign(1)));
+        assert_eq!(typed_place(&[0; 65], 0), Err(Refusal::TOO_LONG));
     }
 }

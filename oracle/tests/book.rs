@@ -1,6 +1,6 @@
 //! The word book: document 01's sentences, with bytes and places worked out by hand.
 
-use oracle::book::{add, check, find, rank, remove, Entry};
+use oracle::book::{add, check, find, order, rank, remove, word_at, Entry, Told};
 use oracle::Refusal;
 
 fn refusal<T>(number: u8, place: usize) -> Result<T, Refusal> {
@@ -216,4 +216,36 @@ fn ranks_go_by_word_order() {
     assert_eq!(remove(&mut book, &[0x1000, 0x102C]), Ok(35));
     assert_eq!(rank(&book, 1), entry(8, 11));
     assert_eq!(rank(&book, 4), refusal(15, 4));
+}
+
+/// The starts of all live records in word order, each once.
+#[test]
+fn the_order_of_a_book_has_every_live_start() {
+    let book = [KHA, REMOVED_KA, KA, [0; 8]].as_flattened().to_vec();
+    let mut starts = [7; 3];
+    assert_eq!(order(&book, &mut starts), Ok(2));
+    assert_eq!(starts, [16, 0, 7]);
+    assert_eq!(order(&book, &mut starts[..1]), refusal(5, 2));
+    assert_eq!(order(&[], &mut []), Ok(0));
+    assert_eq!(order([KA, KA].as_flattened(), &mut []), refusal(11, 8));
+    assert_eq!(starts, [16, 0, 7]);
+}
+
+/// The word of a record, live or removed, by the place where it starts.
+#[test]
+fn a_record_is_told_by_its_start() {
+    let book = [REMOVED_KA, KHA, [0; 8]].as_flattened().to_vec();
+    let mut word = [7; 2];
+    let removed = Told { stock: 1, count: 1, live: false };
+    assert_eq!(word_at(&book, 0, &mut word), Ok(Some(removed)));
+    assert_eq!(word, [0x1000, 7]);
+    let live = Told { stock: 2, count: 1, live: true };
+    assert_eq!(word_at(&book, 8, &mut word), Ok(Some(live)));
+    assert_eq!(word, [0x1001, 7]);
+    for start in [1, 7, 9, 15, 16, 24, usize::MAX] {
+        assert_eq!(word_at(&book, start, &mut word), Ok(None));
+    }
+    assert_eq!(word_at(&book, 8, &mut []), refusal(5, 1));
+    assert_eq!(word_at(&book, 1, &mut []), Ok(None));
+    assert_eq!(word_at(b"M", 0, &mut []), refusal(11, 0));
 }
