@@ -1,9 +1,16 @@
-/* A day at the counter of a parts shop: names are filed, one is found, all are listed in dictionary order, and a misspelt one is pointed at. */
+/* A day at the counter of a parts shop: names are filed, one is found, all are listed in dictionary order, and in a misspelt one the letter that
+   breaks it is pointed at. */
 #include "jogcairn.h"
 
 #include <inttypes.h>
 #include <stdio.h>
 #include <string.h>
+
+/* A name as it was typed. */
+struct name {
+    uint16_t values[JOGCAIRN_WORD_LIMIT];
+    size_t count;
+};
 
 /* A part: its name as typed, and its stock number. */
 struct part {
@@ -19,6 +26,9 @@ static const struct part parts[] = {
     {"အပူပေးစက်", 15},     /* heater */
     {"လေဝင်ပေါက်", 310},   /* air inlet */
     {"လေအေးပေးစ်က", 9},   /* killer and letter exchanged */
+    {"ပုိက့း်", 5},           /* two tones, and its marks typed in another order */
+    {"ပန်ကက္", 6},          /* the stacker at the end waits for a letter */
+    {"fan", 7},             /* no Myanmar letters */
 };
 
 static uint8_t book[256];
@@ -30,86 +40,139 @@ static void print_values(const uint16_t *values, size_t count)
         printf("\xE1%c%c", 0x80 + ((values[at] >> 6) & 0x3F), 0x80 + (values[at] & 0x3F));
 }
 
-/* Says why an answer is a refusal; where a name breaks, what stands before the break. */
-static void print_refusal(uint64_t answer, const uint16_t *word)
+/* Prints a name with one of its values in brackets, on a dotted circle, since it may be a mark. */
+static void print_pointed(const struct name *name, size_t at)
+{
+    print_values(name->values, at);
+    printf("[\xE2\x97\x8C");
+    print_values(name->values + at, 1);
+    printf("]");
+    print_values(name->values + at + 1, name->count - at - 1);
+}
+
+/* Says why an answer is a refusal. The place of refusal 3 is a place in the stored spelling: there stands the value that nothing before it can be
+   continued with, and that is pointed at where it was typed. */
+static void print_refusal(uint64_t answer, const struct name *name)
 {
     printf("refusal %u, place %" PRIu32, jogcairn_tag(answer), jogcairn_first(answer));
     if (jogcairn_tag(answer) == JOGCAIRN_NO_CONTINUATION) {
-        printf(", right as far as ");
-        print_values(word, jogcairn_first(answer));
+        uint64_t typed = jogcairn_typed_place(name->values, name->count, jogcairn_first(answer));
+        printf(", typed ");
+        print_pointed(name, jogcairn_first(typed));
     }
     printf("\n");
 }
 
-static size_t decode(const char *name, uint16_t *word)
+/* Takes the values of a name; where that is refused, says why. */
+static int decode(const char *text, struct name *name)
 {
-    uint64_t answer = jogcairn_decode((const uint8_t *)name, strlen(name), word, JOGCAIRN_WORD_LIMIT);
-    return jogcairn_accepted(answer) ? jogcairn_first(answer) : 0;
+    uint64_t answer = jogcairn_decode((const uint8_t *)text, strlen(text), name->values, JOGCAIRN_WORD_LIMIT);
+    if (!jogcairn_accepted(answer)) {
+        print_refusal(answer, name);
+        return 0;
+    }
+    name->count = jogcairn_first(answer);
+    return 1;
 }
 
 static void file_part(struct part part)
 {
-    uint16_t word[JOGCAIRN_WORD_LIMIT];
-    size_t count = decode(part.name, word);
-    uint64_t answer = jogcairn_book_add(book, sizeof book, word, count, part.stock);
+    struct name name;
     printf("file %s: ", part.name);
+    if (!decode(part.name, &name))
+        return;
+    uint64_t answer = jogcairn_book_add(book, sizeof book, name.values, name.count, part.stock);
     if (jogcairn_accepted(answer))
-        printf("syllables %" PRIu32 ", at byte %" PRIu32 "\n", jogcairn_first(jogcairn_read(word, count)), jogcairn_first(answer));
+        printf("at byte %" PRIu32 "\n", jogcairn_first(answer));
     else
-        print_refusal(answer, word);
+        print_refusal(answer, &name);
 }
 
-static void find_part(const char *name)
+static void find_part(const char *text)
 {
-    uint16_t word[JOGCAIRN_WORD_LIMIT];
-    size_t count = decode(name, word);
-    uint64_t answer = jogcairn_book_find(book, sizeof book, word, count);
-    printf("find %s: ", name);
+    struct name name;
+    printf("find %s: ", text);
+    if (!decode(text, &name))
+        return;
+    uint64_t answer = jogcairn_book_find(book, sizeof book, name.values, name.count);
     if (jogcairn_accepted(answer))
         printf("stock number %" PRIu32 ", at byte %" PRIu32 "\n", jogcairn_first(answer), jogcairn_second(answer));
     else
-        print_refusal(answer, word);
+        print_refusal(answer, &name);
 }
 
-static void remove_part(const char *name)
+static void remove_part(const char *text)
+{
+    struct name name;
+    printf("remove %s: ", text);
+    if (!decode(text, &name))
+        return;
+    uint64_t answer = jogcairn_book_remove(book, sizeof book, name.values, name.count);
+    if (jogcairn_accepted(answer))
+        printf("at byte %" PRIu32 "\n", jogcairn_first(answer));
+    else
+        print_refusal(answer, &name);
+}
+
+/* The record that starts at a byte: its stock number, its word, and whether it is removed. */
+static void print_record(size_t start)
 {
     uint16_t word[JOGCAIRN_WORD_LIMIT];
-    size_t count = decode(name, word);
-    uint64_t answer = jogcairn_book_remove(book, sizeof book, word, count);
-    printf("remove %s: at byte %" PRIu32 "\n", name, jogcairn_first(answer));
+    uint64_t answer = jogcairn_book_word(book, sizeof book, start, word, JOGCAIRN_WORD_LIMIT);
+    if (!jogcairn_accepted(answer)) {
+        printf("  no record starts at byte %zu\n", start);
+        return;
+    }
+    printf("  %" PRIu32 " ", jogcairn_first(answer));
+    print_values(word, jogcairn_word_count(answer));
+    printf(jogcairn_word_live(answer) ? "\n" : ", removed\n");
 }
 
-/* Lists the book in dictionary order. A record has its count in the third byte, and its values minus 1000 from the eighth on. */
+/* Lists the book in dictionary order. */
 static void list_parts(void)
 {
-    size_t live = jogcairn_first(jogcairn_book_check(book, sizeof book));
-    printf("list of %zu:\n", live);
-    for (size_t rank = 0; rank < live; rank++) {
-        uint64_t answer = jogcairn_book_rank(book, sizeof book, rank);
-        const uint8_t *record = book + jogcairn_second(answer);
-        uint16_t word[JOGCAIRN_WORD_LIMIT];
-        for (size_t at = 0; at < record[2]; at++)
-            word[at] = (uint16_t)(0x1000 + record[7 + at]);
-        printf("  %" PRIu32 " ", jogcairn_first(answer));
-        print_values(word, record[2]);
-        printf("\n");
+    uint16_t starts[sizeof book / 8];
+    uint64_t answer = jogcairn_book_order(book, sizeof book, starts, sizeof starts / sizeof starts[0]);
+    if (!jogcairn_accepted(answer)) {
+        print_refusal(answer, NULL);
+        return;
     }
-    print_refusal(jogcairn_book_rank(book, sizeof book, live), NULL);
+    printf("list of %" PRIu32 ":\n", jogcairn_first(answer));
+    for (size_t at = 0; at < jogcairn_first(answer); at++)
+        print_record(starts[at]);
+}
+
+/* The part with so many before it in dictionary order. */
+static void print_rank(size_t rank)
+{
+    uint64_t answer = jogcairn_book_rank(book, sizeof book, rank);
+    printf("rank %zu of %" PRIu32 ": ", rank, jogcairn_first(jogcairn_book_check(book, sizeof book)));
+    if (jogcairn_accepted(answer))
+        printf("stock number %" PRIu32 "\n", jogcairn_first(answer));
+    else
+        print_refusal(answer, NULL);
 }
 
 /* The syllables of a name: the part that each is, its record, and how it is spelled. */
-static void print_syllables(const char *name)
+static void print_syllables(const char *text)
 {
-    uint16_t word[JOGCAIRN_WORD_LIMIT], values[JOGCAIRN_SPELLED_LIMIT], starts[JOGCAIRN_WORD_LIMIT];
-    size_t count = decode(name, word);
-    uint64_t spelled = jogcairn_spell(word, count, values, JOGCAIRN_SPELLED_LIMIT, starts, JOGCAIRN_WORD_LIMIT);
-    printf("syllables of %s:\n", name);
-    for (size_t number = 0; jogcairn_tag(jogcairn_part(word, count, number)) != JOGCAIRN_NONE; number++) {
-        uint64_t part = jogcairn_part(word, count, number);
-        uint64_t record = jogcairn_record(word, count, number);
+    uint16_t values[JOGCAIRN_SPELLED_LIMIT], starts[JOGCAIRN_WORD_LIMIT];
+    struct name name;
+    printf("syllables of %s: ", text);
+    if (!decode(text, &name))
+        return;
+    uint64_t spelled = jogcairn_spell(name.values, name.count, values, JOGCAIRN_SPELLED_LIMIT, starts, JOGCAIRN_WORD_LIMIT);
+    if (!jogcairn_accepted(spelled)) {
+        printf("refusal %u, place %" PRIu32 " of it as typed\n", jogcairn_tag(spelled), jogcairn_first(spelled));
+        return;
+    }
+    printf("%" PRIu32 "\n", jogcairn_second(spelled));
+    for (size_t number = 0; number < jogcairn_second(spelled); number++) {
+        uint64_t part = jogcairn_part(name.values, name.count, number);
+        uint64_t record = jogcairn_record(name.values, name.count, number);
         size_t end = number + 1 < jogcairn_second(spelled) ? starts[number + 1] : jogcairn_first(spelled);
         printf("  ");
-        print_values(word + jogcairn_first(part), jogcairn_second(part));
+        print_values(name.values + jogcairn_first(part), jogcairn_second(part));
         for (unsigned byte = 0; byte < JOGCAIRN_RECORD_SIZE; byte++)
             printf(" %02X", jogcairn_record_byte(record, byte));
         printf(" ");
@@ -118,36 +181,55 @@ static void print_syllables(const char *name)
     }
 }
 
-/* Two names, how they compare, and the used bytes of the first one's key. */
+/* How two names compare, and the used bytes of the first one's key. */
 static void print_order(const char *one, const char *other)
 {
     static const char *const orders[] = {"before", "the same as", "after"};
-    uint16_t first[JOGCAIRN_WORD_LIMIT], second[JOGCAIRN_WORD_LIMIT];
+    struct name first, second;
     uint8_t key[JOGCAIRN_KEY_SIZE];
-    size_t first_count = decode(one, first), second_count = decode(other, second);
-    uint64_t order = jogcairn_compare(first, first_count, second, second_count);
-    uint64_t keyed = jogcairn_key(first, first_count, key, sizeof key);
-    printf("%s is %s %s:", one, orders[jogcairn_first(order)], other);
+    printf("%s and %s: ", one, other);
+    if (!decode(one, &first) || !decode(other, &second))
+        return;
+    uint64_t order = jogcairn_compare(first.values, first.count, second.values, second.count);
+    if (!jogcairn_accepted(order)) {
+        print_refusal(order, jogcairn_second(order) == 1 ? &first : &second);
+        return;
+    }
+    uint64_t keyed = jogcairn_key(first.values, first.count, key, sizeof key);
+    printf("the first is %s the second, its key", orders[jogcairn_first(order)]);
     for (size_t byte = 0; byte < 5 * jogcairn_first(keyed); byte++)
         printf(byte % 5 == 0 ? " %02X" : "%02X", key[byte]);
     printf("\n");
 }
 
-/* The stored spelling of a name, and the same word written again from its records. */
-static void print_stored(const char *name)
+/* The word of a name, written again from its records. */
+static void print_written(const uint16_t *stored, size_t count)
 {
-    uint16_t word[JOGCAIRN_WORD_LIMIT], stored[JOGCAIRN_WORD_LIMIT], written[JOGCAIRN_WORD_LIMIT];
+    uint16_t written[JOGCAIRN_WORD_LIMIT];
     uint8_t records[JOGCAIRN_WORD_LIMIT * JOGCAIRN_RECORD_SIZE];
-    size_t count = decode(name, word);
-    size_t values = jogcairn_first(jogcairn_normalise(word, count, stored, JOGCAIRN_WORD_LIMIT));
-    size_t syllables = jogcairn_first(jogcairn_read(stored, values));
+    size_t syllables = jogcairn_first(jogcairn_read(stored, count));
     for (size_t byte = 0; byte < syllables * JOGCAIRN_RECORD_SIZE; byte++)
-        records[byte] = jogcairn_record_byte(jogcairn_record(stored, values, byte / JOGCAIRN_RECORD_SIZE), byte % JOGCAIRN_RECORD_SIZE);
+        records[byte] = jogcairn_record_byte(jogcairn_record(stored, count, byte / JOGCAIRN_RECORD_SIZE), byte % JOGCAIRN_RECORD_SIZE);
     uint64_t answer = jogcairn_write(records, syllables * JOGCAIRN_RECORD_SIZE, written, JOGCAIRN_WORD_LIMIT);
-    printf("%s is stored as ", name);
-    print_values(stored, values);
     printf(", written from its records ");
     print_values(written, jogcairn_first(answer));
+}
+
+/* The stored spelling of a name, and whether it is a word. */
+static void print_stored(const char *text)
+{
+    struct name name;
+    uint16_t stored[JOGCAIRN_WORD_LIMIT];
+    printf("%s is stored as ", text);
+    if (!decode(text, &name))
+        return;
+    uint64_t answer = jogcairn_stored_form(name.values, name.count, stored, JOGCAIRN_WORD_LIMIT);
+    print_values(stored, jogcairn_first(answer));
+    answer = jogcairn_normalise(name.values, name.count, stored, JOGCAIRN_WORD_LIMIT);
+    if (jogcairn_accepted(answer))
+        print_written(stored, jogcairn_first(answer));
+    else
+        printf(", right as far as %" PRIu32 " of its values", jogcairn_first(answer));
     printf("\n");
 }
 
@@ -158,12 +240,19 @@ int main(void)
     find_part("ပိုက်");
     find_part("ပန်းကာ");
     list_parts();
+    print_rank(4);
     remove_part("ပန်ကာ");
-    find_part("ပန်ကာ");
+    remove_part("ပန်ကာ");
     list_parts();
+    print_rank(4);
+    print_record(0);
+    print_record(1);
     print_syllables("တက္ကသိုလ်");
+    print_syllables("ပုိက်");
     print_order("ပိုက်", "ပန်ကာ");
     print_order("ပုိက်", "ပိုက်");
+    print_order("ပန်ကာ", "ပုိက့း်");
     print_stored("ပုိက်");
+    print_stored("ပုိက့း်");
     return 0;
 }

@@ -7,8 +7,11 @@
  * pointer and the number of its elements, never of its bytes. Nothing is kept between calls, nothing is allocated, and calls from several
  * threads do not touch each other, unless they share a book.
  *
- * The caller owes what C cannot say: a pointer is not null, also where the count is 0; it points to that many elements; and an output
- * shares no byte with any other argument of the call.
+ * The caller owes what C cannot say: a pointer points to as many elements as its count says, and an output shares no byte with any other
+ * argument of the call. Where a count is 0 the pointer is not looked at, and may be null.
+ *
+ * A call needs this much stack, its own frame and those of what it calls: JOGCAIRN_STACK_WORD bytes on words and lines,
+ * JOGCAIRN_STACK_BOOK on books, JOGCAIRN_STACK_ORDER for jogcairn_book_rank and jogcairn_book_order.
  *
  * Every answer is one number:
  *
@@ -17,7 +20,8 @@
  *     accepted: tag 0, and the two numbers as each function says; the second is 0 where nothing is said of it
  *     refused: the tag is the refusal, 1 to 15, the first number is its place, and the second is 0
  *         (in jogcairn_compare 1 or 2: the word that is refused)
- *     tag JOGCAIRN_NONE: there is no such syllable (jogcairn_record and jogcairn_part)
+ *     tag JOGCAIRN_NONE: there is no such syllable, place or record, which is no refusal (jogcairn_record, jogcairn_part,
+ *         jogcairn_typed_place, jogcairn_book_word)
  *
  * A refusal writes nothing. What is accepted is written to the front of an output, and the rest of the output is left as it was.
  */
@@ -38,7 +42,12 @@ extern "C" {
 #define JOGCAIRN_KEY_SIZE 320       /* the bytes of a key, of which five a syllable are used */
 #define JOGCAIRN_BOOK_LIMIT 16384   /* the most bytes of a book */
 
-/* The tag where there is no such syllable. */
+/* The most stack that a call needs, in bytes; tests/stack.c measures it. */
+#define JOGCAIRN_STACK_WORD 4096
+#define JOGCAIRN_STACK_BOOK 40960
+#define JOGCAIRN_STACK_ORDER 98304
+
+/* The tag where there is nothing of the number that is asked for. */
 #define JOGCAIRN_NONE 128
 
 /* The refusals. Each has a place, which is the first number of the answer. */
@@ -84,6 +93,17 @@ static inline uint8_t jogcairn_record_byte(uint64_t answer, unsigned byte)
     return (uint8_t)(answer >> (8 * byte));
 }
 
+/* Of what jogcairn_book_word answers: how many values the record's word has, and whether the record is live. */
+static inline unsigned jogcairn_word_count(uint64_t answer)
+{
+    return jogcairn_second(answer) & 0xFFu;
+}
+
+static inline int jogcairn_word_live(uint64_t answer)
+{
+    return jogcairn_second(answer) >> 8 != 0;
+}
+
 /* Words. The refusals that a call can give stand in brackets. */
 
 /* Reads a word as it is handed in. First: its syllables. [1 to 4] */
@@ -107,6 +127,15 @@ uint64_t jogcairn_write(const uint8_t *records, size_t bytes, uint16_t *word, si
    spelling, for the calls below too. [1 to 5] */
 uint64_t jogcairn_normalise(const uint16_t *word, size_t count, uint16_t *output, size_t room);
 
+/* Writes the stored spelling of any admitted values, whether or not it is a word: what the places of 3 and 4 of jogcairn_normalise, of the
+   calls below and of those on a book are places in. First: its values. [1, 2, 5] */
+uint64_t jogcairn_stored_form(const uint16_t *word, size_t count, uint16_t *output, size_t room);
+
+/* Which value of the word, as typed, stands at a place of the stored spelling. First: its place in the word. So a counter can point at the
+   letter that makes a word refused: refusal 3 at a place is the typed value that this call gives for that place. A 1026 that was typed as
+   1025 102E is pointed at by its 1025. None where the stored spelling ends before the place. [1, 2, none] */
+uint64_t jogcairn_typed_place(const uint16_t *word, size_t count, size_t place);
+
 /* Writes the collation key of a word, normalised, always JOGCAIRN_KEY_SIZE bytes: five a syllable, then zeros. memcmp orders keys as the
    dictionary files words; words that weigh the same have the same key, and jogcairn_compare tells them apart. First: the syllables.
    [1 to 5] */
@@ -119,8 +148,17 @@ uint64_t jogcairn_compare(const uint16_t *first, size_t first_count, const uint1
 /* Writes the values of a line of UTF-8, without the byte that ends it. First: the values. [1, 5, 7] */
 uint64_t jogcairn_decode(const uint8_t *line, size_t bytes, uint16_t *word, size_t room);
 
-/* A book: a buffer of at most JOGCAIRN_BOOK_LIMIT bytes. One of zeros is an empty book. Each call tests the whole buffer, and normalises
-   the word. */
+/*
+ * A book: a buffer of at most JOGCAIRN_BOOK_LIMIT bytes, which are its only state. It has records one behind the other from the first byte on,
+ * and zeros behind the last to the buffer's end, so that a buffer of zeros is an empty book. The bytes of a record:
+ *
+ *     0, 1        4D 57 ("MW") where it is live, 4D 2D ("M-") where it is removed
+ *     2           n, how many values its word has, 1 to JOGCAIRN_WORD_LIMIT
+ *     3 to 6      the stock number, lowest byte first
+ *     7 to 6 + n  the values of the word in the stored spelling, each minus 1000 (hexadecimal)
+ *
+ * No two live records have the same word. Each call tests the whole buffer, and normalises the word that is handed in.
+ */
 
 /* Whether the buffer is a book. First: its live records. [11] */
 uint64_t jogcairn_book_check(const uint8_t *book, size_t bytes);
@@ -136,6 +174,14 @@ uint64_t jogcairn_book_find(const uint8_t *book, size_t bytes, const uint16_t *w
 
 /* The live record with exactly `rank` live records before it in word order. First: its stock number; second: its start. [11, 15] */
 uint64_t jogcairn_book_rank(const uint8_t *book, size_t bytes, size_t rank);
+
+/* The whole book: writes the starts of all live records, in word order. First: how many there are. A book has at most
+   JOGCAIRN_BOOK_LIMIT / 8 records. [5, 11] */
+uint64_t jogcairn_book_order(const uint8_t *book, size_t bytes, uint16_t *starts, size_t room);
+
+/* The record that starts at a byte, live or removed: writes its word. First: its stock number; second: jogcairn_word_count and
+   jogcairn_word_live take it apart. None where no record starts there. [5, 11, none] */
+uint64_t jogcairn_book_word(const uint8_t *book, size_t bytes, size_t start, uint16_t *word, size_t room);
 
 /*
  * Example: file a part under the name that a line holds.

@@ -1,0 +1,144 @@
+/* How much stack each call needs: it runs on a stack of its own that was painted before, and the deepest byte that changed is looked for. Prints a line
+   for each call, and ends with status 1 where one needs more than the header says. */
+#define _XOPEN_SOURCE 700
+#include "jogcairn.h"
+
+#include <stdio.h>
+#include <string.h>
+#include <ucontext.h>
+
+enum { PAINT = 0xA5, STACK_SIZE = 1 << 18 };
+
+static unsigned char stack[STACK_SIZE];
+static ucontext_t here, there;
+static void (*measured)(void);
+
+/* The longest word, which is a row of syllables; one that has to be sorted; and one that is refused. */
+static uint16_t words[3][JOGCAIRN_WORD_LIMIT];
+static const uint16_t *word = words[0];
+
+/* The longest book, full, and a copy of it to be changed. */
+static uint8_t full[JOGCAIRN_BOOK_LIMIT], book[JOGCAIRN_BOOK_LIMIT];
+static uint16_t values[JOGCAIRN_SPELLED_LIMIT], starts[JOGCAIRN_BOOK_LIMIT / 8];
+static uint8_t bytes[JOGCAIRN_WORD_LIMIT * JOGCAIRN_RECORD_SIZE], key[JOGCAIRN_KEY_SIZE];
+
+static void run_nothing(void) {}
+static void run_read(void) { jogcairn_read(word, 64); }
+static void run_record(void) { jogcairn_record(word, 64, 63); }
+static void run_part(void) { jogcairn_part(word, 64, 63); }
+static void run_spell(void) { jogcairn_spell(word, 64, values, JOGCAIRN_SPELLED_LIMIT, starts, JOGCAIRN_WORD_LIMIT); }
+static void run_write(void) { jogcairn_write(bytes, sizeof bytes, values, JOGCAIRN_WORD_LIMIT); }
+static void run_normalise(void) { jogcairn_normalise(word, 64, values, JOGCAIRN_WORD_LIMIT); }
+static void run_stored_form(void) { jogcairn_stored_form(word, 64, values, JOGCAIRN_WORD_LIMIT); }
+static void run_typed_place(void) { jogcairn_typed_place(word, 64, 60); }
+static void run_key(void) { jogcairn_key(word, 64, key, sizeof key); }
+static void run_compare(void) { jogcairn_compare(word, 64, words[1], 64); }
+static void run_decode(void) { jogcairn_decode((const uint8_t *)"\xE1\x80\x80\xE1\x80\x81", 6, values, JOGCAIRN_WORD_LIMIT); }
+static void run_check(void) { jogcairn_book_check(book, sizeof book); }
+static void run_add(void) { jogcairn_book_add(book, sizeof book, word, 64, 1); }
+static void run_remove(void) { jogcairn_book_remove(book, sizeof book, word, 1); }
+static void run_find(void) { jogcairn_book_find(book, sizeof book, word, 64); }
+static void run_rank(void) { jogcairn_book_rank(book, sizeof book, 1000); }
+static void run_order(void) { jogcairn_book_order(book, sizeof book, starts, JOGCAIRN_BOOK_LIMIT / 8); }
+static void run_word(void) { jogcairn_book_word(book, sizeof book, 0, values, JOGCAIRN_WORD_LIMIT); }
+
+static const struct {
+    const char *name;
+    void (*run)(void);
+    size_t limit;
+} calls[] = {
+    {"jogcairn_read", run_read, JOGCAIRN_STACK_WORD},
+    {"jogcairn_record", run_record, JOGCAIRN_STACK_WORD},
+    {"jogcairn_part", run_part, JOGCAIRN_STACK_WORD},
+    {"jogcairn_spell", run_spell, JOGCAIRN_STACK_WORD},
+    {"jogcairn_write", run_write, JOGCAIRN_STACK_WORD},
+    {"jogcairn_normalise", run_normalise, JOGCAIRN_STACK_WORD},
+    {"jogcairn_stored_form", run_stored_form, JOGCAIRN_STACK_WORD},
+    {"jogcairn_typed_place", run_typed_place, JOGCAIRN_STACK_WORD},
+    {"jogcairn_key", run_key, JOGCAIRN_STACK_WORD},
+    {"jogcairn_compare", run_compare, JOGCAIRN_STACK_WORD},
+    {"jogcairn_decode", run_decode, JOGCAIRN_STACK_WORD},
+    {"jogcairn_book_check", run_check, JOGCAIRN_STACK_BOOK},
+    {"jogcairn_book_add", run_add, JOGCAIRN_STACK_BOOK},
+    {"jogcairn_book_remove", run_remove, JOGCAIRN_STACK_BOOK},
+    {"jogcairn_book_find", run_find, JOGCAIRN_STACK_BOOK},
+    {"jogcairn_book_word", run_word, JOGCAIRN_STACK_BOOK},
+    {"jogcairn_book_rank", run_rank, JOGCAIRN_STACK_ORDER},
+    {"jogcairn_book_order", run_order, JOGCAIRN_STACK_ORDER},
+};
+
+static void run_measured(void)
+{
+    measured();
+}
+
+/* The bytes of the painted stack that a run changes, from the deepest to its top. */
+static size_t depth_of(void (*run)(void))
+{
+    size_t untouched = 0;
+    memset(stack, PAINT, sizeof stack);
+    measured = run;
+    getcontext(&there);
+    there.uc_stack.ss_sp = stack;
+    there.uc_stack.ss_size = sizeof stack;
+    there.uc_link = &here;
+    makecontext(&there, run_measured, 0);
+    swapcontext(&here, &there);
+    while (untouched < sizeof stack && stack[untouched] == PAINT)
+        untouched++;
+    return sizeof stack - untouched;
+}
+
+/* The most that a call needs for any of the words, beyond what running nothing takes. */
+static size_t deepest(void (*run)(void))
+{
+    size_t most = 0;
+    for (size_t at = 0; at < sizeof words / sizeof words[0]; at++) {
+        word = words[at];
+        memcpy(book, full, sizeof book);
+        size_t depth = depth_of(run);
+        most = depth > most ? depth : most;
+    }
+    return most - depth_of(run_nothing);
+}
+
+static void make_words(void)
+{
+    static const uint16_t sorted[] = {0x1000, 0x1037, 0x103A, 0x102F}, refused[] = {0x1000, 0x1038, 0x1037, 0x103B};
+    for (size_t at = 0; at < JOGCAIRN_WORD_LIMIT; at++) {
+        words[0][at] = 0x1000;
+        words[1][at] = at < 2 ? 0x1000 : sorted[at % 4];
+        words[2][at] = refused[at % 4];
+    }
+}
+
+/* Fills a book with words of one, two and three letters until no other fits. */
+static int make_book(void)
+{
+    for (unsigned count = 1; count <= 3; count++)
+        for (unsigned number = 0; number < (count == 1 ? 33u : count == 2 ? 33u * 33 : 33u * 33 * 33); number++) {
+            uint16_t letters[] = {(uint16_t)(0x1000 + number % 33), (uint16_t)(0x1000 + number / 33 % 33), (uint16_t)(0x1000 + number / 33 / 33)};
+            uint64_t answer = jogcairn_book_add(full, sizeof full, letters, count, number);
+            if (jogcairn_tag(answer) == JOGCAIRN_BOOK_FULL)
+                return 1;
+            if (!jogcairn_accepted(answer))
+                return 0;
+        }
+    return 0;
+}
+
+int main(void)
+{
+    int wrong = 0;
+    make_words();
+    if (!make_book()) {
+        printf("the book is not filled\n");
+        return 1;
+    }
+    for (size_t at = 0; at < sizeof calls / sizeof calls[0]; at++) {
+        size_t depth = deepest(calls[at].run);
+        printf("%-22s %6zu of %6zu bytes\n", calls[at].name, depth, calls[at].limit);
+        wrong |= depth > calls[at].limit;
+    }
+    return wrong;
+}
