@@ -10,8 +10,8 @@ pub(crate) struct Answer(u64);
 /// The tag of an accepted input.
 const ACCEPTED: u8 = 0;
 
-/// The tag of a readable word that has no syllable of the number asked for.
-const NO_SUCH_SYLLABLE: u8 = 128;
+/// The tag where there is nothing of the number asked for, which is no refusal.
+const NONE: u8 = 128;
 
 impl Answer {
     /// The answer that a call gave.
@@ -46,10 +46,10 @@ impl Answer {
         }
     }
 
-    /// The two numbers of a syllable, or nothing where the word has no such syllable.
-    pub(crate) fn syllable(self) -> Result<Option<(u32, usize)>, Refusal> {
+    /// The two numbers of a thing asked for by number, or nothing where there is no such thing.
+    pub(crate) fn two_or_none(self) -> Result<Option<(u32, usize)>, Refusal> {
         match self.tag() {
-            NO_SUCH_SYLLABLE => {
+            NONE => {
                 self.demand(self.first() == 0 && self.second() == 0);
                 Ok(None)
             }
@@ -113,7 +113,7 @@ mod tests {
         assert_eq!(packed(0, 0, 64).one(), Ok(64));
         let most = packed(0, 0x00FF_FFFF, 0xFFFF_FFFF).two();
         assert_eq!(most, Ok((u32::MAX, 0x00FF_FFFF)));
-        assert_eq!(packed(128, 0, 0).syllable(), Ok(None));
+        assert_eq!(packed(128, 0, 0).two_or_none(), Ok(None));
         assert_eq!(Answer::new(0x0006_0504_0302_0100).seven_bytes(), [0, 1, 2, 3, 4, 5, 6]);
     }
 

@@ -4,9 +4,10 @@
 //! that are shared. Each call tests the word first and then the whole book, and changes nothing
 //! where it refuses. A buffer of zeros, and one of no bytes, is a book without records.
 
-use crate::entries::Entries;
+use crate::entries::{Entries, Entry, Listing};
 use crate::ffi;
 use crate::refusal::Refusal;
+use crate::{BOOK_LIMIT, WORD_LIMIT};
 
 /// Where a live record starts, and its stock number.
 #[derive(Clone, Copy, Debug, PartialEq, Eq, Hash)]
@@ -16,6 +17,20 @@ pub struct Found {
     /// The stock number.
     pub stock: u32,
 }
+
+/// What is told of a record that is asked for by its start.
+#[derive(Clone, Copy, Debug, PartialEq, Eq, Hash)]
+pub struct Told {
+    /// The stock number.
+    pub stock: u32,
+    /// How many values the word has.
+    pub count: usize,
+    /// Whether the record is live; a removed one keeps its word and its stock number.
+    pub live: bool,
+}
+
+/// The most live records that a book has: each has eight bytes or more.
+const MOST_LIVE: usize = BOOK_LIMIT / 8;
 
 /// Tells whether the bytes are a book, and gives the number of live records.
 ///
@@ -56,7 +71,67 @@ pub fn rank(book: &[u8], rank: usize) -> Result<Found, Refusal> {
     Ok(Found { start, stock })
 }
 
-/// The live records in word order.
+/// Writes the starts of all live records, in word order, to the front of `starts`, and gives their
+/// number.
+///
+/// ```
+/// // ပ, then က, which is filed first.
+/// let book = *b"MW\x01\x07\x00\x00\x00\x15MW\x01\x08\x00\x00\x00\x00";
+/// let mut starts = [7; 3];
+/// assert_eq!(jogcairn::book::order_into(&book, &mut starts)?, 2);
+/// assert_eq!(starts, [8, 0, 7]);
+/// assert_eq!(jogcairn::book::order_into(&book, &mut []).unwrap_err().place, 2);
+/// # Ok::<(), jogcairn::Refusal>(())
+/// ```
+pub fn order_into(book: &[u8], starts: &mut [u16]) -> Result<usize, Refusal> {
+    ffi::book_order(book, starts).one()
+}
+
+/// The starts of all live records in word order.
+///
+/// ```
+/// let book = *b"MW\x01\x07\x00\x00\x00\x15MW\x01\x08\x00\x00\x00\x00";
+/// assert_eq!(jogcairn::book::order(&book)?, [8, 0]);
+/// # Ok::<(), jogcairn::Refusal>(())
+/// ```
+pub fn order(book: &[u8]) -> Result<Vec<u16>, Refusal> {
+    let mut starts = [0; MOST_LIVE];
+    let count = order_into(book, &mut starts)?;
+    Ok(starts[..count].to_vec())
+}
+
+/// Writes the word of the record that starts at a byte to the front of `output`, be it live or
+/// removed; `None` where no record starts there.
+///
+/// ```
+/// let book = *b"M-\x02\x07\x00\x00\x00\x15\x2BMW\x01\x08\x00\x00\x00\x00";
+/// let mut word = [0; 3];
+/// let told = jogcairn::book::word_into(&book, 0, &mut word)?.unwrap();
+/// assert_eq!((told.stock, told.live, &word[..told.count]), (7, false, &[0x1015, 0x102B][..]));
+/// assert_eq!(jogcairn::book::word_into(&book, 8, &mut word)?, None);
+/// # Ok::<(), jogcairn::Refusal>(())
+/// ```
+pub fn word_into(book: &[u8], start: usize, output: &mut [u16]) -> Result<Option<Told>, Refusal> {
+    let told = ffi::book_word(book, start, output).two_or_none()?;
+    Ok(told.map(|(stock, second)| Told { stock, count: second % 0x100, live: second >= 0x100 }))
+}
+
+/// The word of the record that starts at a byte, be it live or removed, with what is told of it;
+/// `None` where no record starts there.
+///
+/// ```
+/// let book = *b"MW\x01\x08\x00\x00\x00\x15";
+/// let (word, told) = jogcairn::book::word_at(&book, 0)?.unwrap();
+/// assert_eq!((word, told.stock, told.live), (vec![0x1015], 8, true));
+/// # Ok::<(), jogcairn::Refusal>(())
+/// ```
+pub fn word_at(book: &[u8], start: usize) -> Result<Option<(Vec<u16>, Told)>, Refusal> {
+    let mut output = [0; WORD_LIMIT];
+    let told = word_into(book, start, &mut output)?;
+    Ok(told.map(|told| (output[..told.count].to_vec(), told)))
+}
+
+/// The live records in word order, which one call of the library gives.
 ///
 /// ```
 /// let book = *b"MW\x01\x07\x00\x00\x00\x15MW\x01\x08\x00\x00\x00\x00";
@@ -65,7 +140,7 @@ pub fn rank(book: &[u8], rank: usize) -> Result<Found, Refusal> {
 /// # Ok::<(), jogcairn::Refusal>(())
 /// ```
 pub fn entries(book: &[u8]) -> Result<Entries<'_>, Refusal> {
-    Ok(Entries::new(book, check(book)?))
+    Ok(Entries::new(book, order(book)?))
 }
 
 /// A word book in borrowed bytes, which are its only state.
@@ -192,6 +267,41 @@ impl<'b> Book<'b> {
         self::rank(self.bytes, rank)
     }
 
+    /// The starts of all live records in word order.
+    ///
+    /// ```
+    /// use jogcairn::Book;
+    ///
+    /// let mut bytes = [0; 20];
+    /// let mut book = Book::new(&mut bytes);
+    /// book.add(&[0x1015], 1)?;
+    /// book.add(&[0x1000], 2)?;
+    /// assert_eq!(book.order()?, [8, 0]);
+    /// # Ok::<(), jogcairn::Refusal>(())
+    /// ```
+    pub fn order(&self) -> Result<Vec<u16>, Refusal> {
+        order(self.bytes)
+    }
+
+    /// The word of the record that starts at a byte, be it live or removed; `None` where no record
+    /// starts there.
+    ///
+    /// ```
+    /// use jogcairn::Book;
+    ///
+    /// let mut bytes = [0; 20];
+    /// let mut book = Book::new(&mut bytes);
+    /// book.add(&[0x1015], 1)?;
+    /// book.remove(&[0x1015])?;
+    /// let (word, told) = book.word_at(0)?.unwrap();
+    /// assert_eq!((word, told.stock, told.live), (vec![0x1015], 1, false));
+    /// assert_eq!(book.word_at(8)?, None);
+    /// # Ok::<(), jogcairn::Refusal>(())
+    /// ```
+    pub fn word_at(&self, start: usize) -> Result<Option<(Vec<u16>, Told)>, Refusal> {
+        word_at(self.bytes, start)
+    }
+
     /// The live records in word order.
     ///
     /// ```
@@ -208,5 +318,41 @@ impl<'b> Book<'b> {
     /// ```
     pub fn entries(&self) -> Result<Entries<'_>, Refusal> {
         entries(self.bytes)
+    }
+}
+
+/// The live records in word order; where the bytes are no book, the refusal alone.
+///
+/// ```
+/// use jogcairn::Book;
+///
+/// let mut bytes = *b"MW\x01\x07\x00\x00\x00\x15MW\x01\x08\x00\x00\x00\x00";
+/// let mut stocks = Vec::new();
+/// for entry in &Book::new(&mut bytes) {
+///     stocks.push(entry?.stock());
+/// }
+/// assert_eq!(stocks, [8, 7]);
+/// let mut no_book = [1];
+/// let listed: Vec<_> = Book::new(&mut no_book).into_iter().collect();
+/// assert_eq!(listed.len(), 1);
+/// assert_eq!(listed[0].unwrap_err().number(), 11);
+/// # Ok::<(), jogcairn::Refusal>(())
+/// ```
+impl<'s> IntoIterator for &'s Book<'_> {
+    type Item = Result<Entry<'s>, Refusal>;
+    type IntoIter = Listing<'s>;
+
+    fn into_iter(self) -> Listing<'s> {
+        Listing::new(self.entries())
+    }
+}
+
+/// The live records in word order, of bytes that the book borrowed.
+impl<'b> IntoIterator for Book<'b> {
+    type Item = Result<Entry<'b>, Refusal>;
+    type IntoIter = Listing<'b>;
+
+    fn into_iter(self) -> Listing<'b> {
+        Listing::new(entries(self.bytes))
     }
 }

@@ -1,10 +1,10 @@
 //! The live records of a book, in word order.
 
-use crate::book::{rank, Found};
+use crate::refusal::Refusal;
 use crate::text::write_values;
 use std::fmt;
 use std::iter::FusedIterator;
-use std::ops::Range;
+use std::vec;
 
 /// A live record of a book.
 ///
@@ -16,17 +16,20 @@ use std::ops::Range;
 /// ```
 #[derive(Clone, Copy, Debug, PartialEq, Eq, Hash)]
 pub struct Entry<'b> {
-    found: Found,
+    start: usize,
+    stock: u32,
     /// The code values, each minus 1000.
     letters: &'b [u8],
 }
 
 impl<'b> Entry<'b> {
-    /// The entry of a record that was found in the book: after its mark of two bytes stand the
-    /// count of values, the stock number in four bytes, and the values.
-    fn new(book: &'b [u8], found: Found) -> Entry<'b> {
-        let count = usize::from(book[found.start + 2]);
-        Entry { found, letters: &book[found.start + 7..][..count] }
+    /// The entry of the record that starts at a byte of the book: after its mark of two bytes stand
+    /// the count of values, the stock number in four bytes, lowest first, and the values.
+    fn new(book: &'b [u8], start: usize) -> Entry<'b> {
+        let (head, behind) = book[start..].split_at(7);
+        let stock = [head[3], head[4], head[5], head[6]];
+        let letters = &behind[..usize::from(head[2])];
+        Entry { start, stock: u32::from_le_bytes(stock), letters }
     }
 
     /// The byte where the record starts.
@@ -38,7 +41,7 @@ impl<'b> Entry<'b> {
     /// # Ok::<(), jogcairn::Refusal>(())
     /// ```
     pub fn start(&self) -> usize {
-        self.found.start
+        self.start
     }
 
     /// The stock number.
@@ -49,7 +52,7 @@ impl<'b> Entry<'b> {
     /// # Ok::<(), jogcairn::Refusal>(())
     /// ```
     pub fn stock(&self) -> u32 {
-        self.found.stock
+        self.stock
     }
 
     /// The code values of the stored word.
@@ -73,8 +76,7 @@ impl fmt::Display for Entry<'_> {
 }
 
 /// The live records of a book in word order; made by [`Book::entries`](crate::Book::entries) and
-/// [`book::entries`](crate::book::entries). Each step asks the library for one rank, for which it
-/// tests the book anew.
+/// [`book::entries`](crate::book::entries).
 ///
 /// ```
 /// // ပ, အ and က as they were added, read from the word filed last to the one filed first.
@@ -87,21 +89,17 @@ impl fmt::Display for Entry<'_> {
 #[derive(Clone, Debug)]
 pub struct Entries<'b> {
     book: &'b [u8],
-    ranks: Range<usize>,
+    starts: vec::IntoIter<u16>,
 }
 
 impl<'b> Entries<'b> {
-    /// The entries of a book with so many live records.
-    pub(crate) fn new(book: &'b [u8], live: usize) -> Entries<'b> {
-        Entries { book, ranks: 0..live }
+    /// The entries of a book whose live records start there.
+    pub(crate) fn new(book: &'b [u8], starts: Vec<u16>) -> Entries<'b> {
+        Entries { book, starts: starts.into_iter() }
     }
 
-    /// The entry of a rank below the live count, for which there is a record.
-    fn entry(book: &'b [u8], number: usize) -> Entry<'b> {
-        match rank(book, number) {
-            Ok(found) => Entry::new(book, found),
-            Err(refusal) => unreachable!("a checked book has the rank {number}: {refusal}"),
-        }
+    fn entry(&self, start: u16) -> Entry<'b> {
+        Entry::new(self.book, usize::from(start))
     }
 }
 
@@ -109,24 +107,63 @@ impl<'b> Iterator for Entries<'b> {
     type Item = Entry<'b>;
 
     fn next(&mut self) -> Option<Entry<'b>> {
-        self.ranks.next().map(|rank| Entries::entry(self.book, rank))
+        self.starts.next().map(|start| self.entry(start))
     }
 
     fn size_hint(&self) -> (usize, Option<usize>) {
-        self.ranks.size_hint()
+        self.starts.size_hint()
     }
 
     fn nth(&mut self, skipped: usize) -> Option<Entry<'b>> {
-        self.ranks.nth(skipped).map(|rank| Entries::entry(self.book, rank))
+        self.starts.nth(skipped).map(|start| self.entry(start))
     }
 }
 
 impl DoubleEndedIterator for Entries<'_> {
     fn next_back(&mut self) -> Option<Self::Item> {
-        self.ranks.next_back().map(|rank| Entries::entry(self.book, rank))
+        self.starts.next_back().map(|start| self.entry(start))
     }
 }
 
 impl ExactSizeIterator for Entries<'_> {}
 
 impl FusedIterator for Entries<'_> {}
+
+/// The live records of a book in word order, or the refusal of bytes that are none; made by
+/// iterating over a [`Book`](crate::Book).
+#[derive(Clone, Debug)]
+pub struct Listing<'b> {
+    entries: Option<Entries<'b>>,
+    refusal: Option<Refusal>,
+}
+
+impl<'b> Listing<'b> {
+    /// What the entries of a book come to.
+    pub(crate) fn new(entries: Result<Entries<'b>, Refusal>) -> Listing<'b> {
+        match entries {
+            Ok(entries) => Listing { entries: Some(entries), refusal: None },
+            Err(refusal) => Listing { entries: None, refusal: Some(refusal) },
+        }
+    }
+}
+
+impl<'b> Iterator for Listing<'b> {
+    type Item = Result<Entry<'b>, Refusal>;
+
+    fn next(&mut self) -> Option<Result<Entry<'b>, Refusal>> {
+        match &mut self.entries {
+            Some(entries) => entries.next().map(Ok),
+            None => self.refusal.take().map(Err),
+        }
+    }
+
+    fn size_hint(&self) -> (usize, Option<usize>) {
+        let left = self.entries.as_ref().map_or(0, Entries::len);
+        let left = left + usize::from(self.refusal.is_some());
+        (left, Some(left))
+    }
+}
+
+impl ExactSizeIterator for Listing<'_> {}
+
+impl FusedIterator for Listing<'_> {}

@@ -21,6 +21,8 @@ unsafe extern "C" {
     ) -> u64;
     fn jogcairn_write(records: *const u8, bytes: usize, word: *mut u16, room: usize) -> u64;
     fn jogcairn_normalise(word: *const u16, count: usize, output: *mut u16, room: usize) -> u64;
+    fn jogcairn_stored_form(word: *const u16, count: usize, output: *mut u16, room: usize) -> u64;
+    fn jogcairn_typed_place(word: *const u16, count: usize, place: usize) -> u64;
     fn jogcairn_key(word: *const u16, count: usize, key: *mut u8, room: usize) -> u64;
     fn jogcairn_compare(a: *const u16, a_count: usize, b: *const u16, b_count: usize) -> u64;
     fn jogcairn_decode(line: *const u8, bytes: usize, word: *mut u16, room: usize) -> u64;
@@ -35,6 +37,14 @@ unsafe extern "C" {
     fn jogcairn_book_remove(book: *mut u8, bytes: usize, word: *const u16, count: usize) -> u64;
     fn jogcairn_book_find(book: *const u8, bytes: usize, word: *const u16, count: usize) -> u64;
     fn jogcairn_book_rank(book: *const u8, bytes: usize, rank: usize) -> u64;
+    fn jogcairn_book_order(book: *const u8, bytes: usize, starts: *mut u16, room: usize) -> u64;
+    fn jogcairn_book_word(
+        book: *const u8,
+        bytes: usize,
+        start: usize,
+        word: *mut u16,
+        room: usize,
+    ) -> u64;
 }
 
 pub(crate) fn read(word: &[u16]) -> Answer {
@@ -74,6 +84,18 @@ pub(crate) fn normalise(word: &[u16], output: &mut [u16]) -> Answer {
     // SAFETY: the pointers and counts are those of slices, of which the output is borrowed mutably
     // and so does not overlap the input.
     Answer::new(unsafe { jogcairn_normalise(word.as_ptr(), word.len(), output_at, room) })
+}
+
+pub(crate) fn stored_form(word: &[u16], output: &mut [u16]) -> Answer {
+    let (output_at, room) = (output.as_mut_ptr(), output.len());
+    // SAFETY: the pointers and counts are those of slices, of which the output is borrowed mutably
+    // and so does not overlap the input.
+    Answer::new(unsafe { jogcairn_stored_form(word.as_ptr(), word.len(), output_at, room) })
+}
+
+pub(crate) fn typed_place(word: &[u16], place: usize) -> Answer {
+    // SAFETY: the pointer and the count are those of a slice; every place is allowed.
+    Answer::new(unsafe { jogcairn_typed_place(word.as_ptr(), word.len(), place) })
 }
 
 pub(crate) fn key(word: &[u16], key: &mut [u8]) -> Answer {
@@ -125,4 +147,18 @@ pub(crate) fn book_find(book: &[u8], word: &[u16]) -> Answer {
 pub(crate) fn book_rank(book: &[u8], rank: usize) -> Answer {
     // SAFETY: the pointer and the count are those of a slice; every rank is allowed.
     Answer::new(unsafe { jogcairn_book_rank(book.as_ptr(), book.len(), rank) })
+}
+
+pub(crate) fn book_order(book: &[u8], starts: &mut [u16]) -> Answer {
+    let (starts_at, room) = (starts.as_mut_ptr(), starts.len());
+    // SAFETY: the pointers and counts are those of slices, of which the output is borrowed mutably
+    // and so does not overlap the book.
+    Answer::new(unsafe { jogcairn_book_order(book.as_ptr(), book.len(), starts_at, room) })
+}
+
+pub(crate) fn book_word(book: &[u8], start: usize, word: &mut [u16]) -> Answer {
+    let (word_at, room) = (word.as_mut_ptr(), word.len());
+    // SAFETY: the pointers and counts are those of slices, of which the output is borrowed mutably
+    // and so does not overlap the book; every start is allowed.
+    Answer::new(unsafe { jogcairn_book_word(book.as_ptr(), book.len(), start, word_at, room) })
 }

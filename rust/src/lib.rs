@@ -30,6 +30,7 @@
 //! | spell the syllables out | [`spell`], [`spell_into`] |
 //! | write a word from records | [`write()`], [`write_into`] |
 //! | store a word in its one spelling | [`Word`], [`normalise`], [`normalise_into`] |
+//! | point at the value that makes a word refused | [`stored_form`], [`typed_place`] |
 //! | file words | [`Word`], [`Key`], [`key_into`], [`compare`] |
 //! | take the values of a line of UTF-8 | [`decode`], [`decode_into`] |
 //! | keep a word book | [`Book`], and the functions of [`book`] for shared bytes |
@@ -58,16 +59,16 @@ mod text;
 mod word;
 mod writing;
 
-pub use book::{Book, Found};
+pub use book::{Book, Found, Told};
 pub use comparison::{compare, ComparisonRefusal, Which};
-pub use entries::{Entries, Entry};
+pub use entries::{Entries, Entry, Listing};
 pub use key::{key_into, Key};
 pub use line::{decode, decode_into};
 pub use reading::{part, read, record, Syllable, Syllables};
 pub use record::{Link, Record};
 pub use refusal::{Reason, Refusal, UnknownNumber};
 pub use spelling::{spell, spell_into, Spelled, SpelledLengths};
-pub use storage::{normalise, normalise_into};
+pub use storage::{normalise, normalise_into, stored_form, stored_form_into, typed_place};
 pub use word::Word;
 pub use writing::{write, write_into};
 

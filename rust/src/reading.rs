@@ -38,7 +38,7 @@ pub fn read(word: &[u16]) -> Result<Syllables<'_>, Refusal> {
 /// ```
 pub fn record(word: &[u16], number: usize) -> Result<Option<Record>, Refusal> {
     let answer = ffi::record(word, number);
-    let syllable = answer.syllable()?;
+    let syllable = answer.two_or_none()?;
     Ok(syllable.map(|_| Record::from_bytes(answer.seven_bytes())))
 }
 
@@ -52,7 +52,7 @@ pub fn record(word: &[u16], number: usize) -> Result<Option<Record>, Refusal> {
 /// # Ok::<(), jogcairn::Refusal>(())
 /// ```
 pub fn part(word: &[u16], number: usize) -> Result<Option<&[u16]>, Refusal> {
-    let syllable = ffi::part(word, number).syllable()?;
+    let syllable = ffi::part(word, number).two_or_none()?;
     Ok(syllable.map(|(place, length)| &word[place as usize..][..length]))
 }
 
