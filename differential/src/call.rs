@@ -11,6 +11,8 @@ pub enum Call {
     Spell,
     Write,
     Normalise,
+    StoredForm,
+    TypedPlace,
     Key,
     Compare,
     WordOrder,
@@ -20,12 +22,14 @@ pub enum Call {
     BookRemove,
     BookFind,
     BookRank,
+    BookOrder,
+    BookWord,
     BookEntries,
 }
 
 impl Call {
     /// All calls.
-    pub const ALL: [Call; 17] = [
+    pub const ALL: [Call; 21] = [
         Call::Read,
         Call::Record,
         Call::Part,
@@ -33,6 +37,8 @@ impl Call {
         Call::Spell,
         Call::Write,
         Call::Normalise,
+        Call::StoredForm,
+        Call::TypedPlace,
         Call::Key,
         Call::Compare,
         Call::WordOrder,
@@ -42,6 +48,8 @@ impl Call {
         Call::BookRemove,
         Call::BookFind,
         Call::BookRank,
+        Call::BookOrder,
+        Call::BookWord,
         Call::BookEntries,
     ];
 
@@ -55,6 +63,8 @@ impl Call {
             Call::Spell => "spell",
             Call::Write => "write",
             Call::Normalise => "normalise",
+            Call::StoredForm => "stored form",
+            Call::TypedPlace => "typed place",
             Call::Key => "key",
             Call::Compare => "compare",
             Call::WordOrder => "order of words",
@@ -64,23 +74,29 @@ impl Call {
             Call::BookRemove => "book remove",
             Call::BookFind => "book find",
             Call::BookRank => "book rank",
+            Call::BookOrder => "book order",
+            Call::BookWord => "book word",
             Call::BookEntries => "book entries",
         }
     }
 
-    /// The tags that its answers can have: 0 for accepted, a refusal number, or 128 for no such
-    /// syllable.
+    /// The tags that its answers can have: 0 for accepted, a refusal number, or 128 where there is
+    /// nothing of the number asked for.
     pub const fn tags(self) -> &'static [u8] {
         match self {
             Call::Read | Call::Syllables | Call::Compare | Call::WordOrder => &[0, 1, 2, 3, 4],
             Call::Record | Call::Part => &[0, 1, 2, 3, 4, 128],
             Call::Spell | Call::Normalise | Call::Key => &[0, 1, 2, 3, 4, 5],
+            Call::StoredForm => &[0, 1, 2, 5],
+            Call::TypedPlace => &[0, 1, 2, 128],
             Call::Write => &[0, 5, 6],
             Call::Decode => &[0, 1, 5, 7],
             Call::BookCheck | Call::BookEntries => &[0, 11],
             Call::BookAdd => &[0, 1, 2, 3, 4, 8, 11, 12, 14],
             Call::BookRemove | Call::BookFind => &[0, 1, 2, 3, 4, 8, 11, 13],
             Call::BookRank => &[0, 11, 15],
+            Call::BookOrder => &[0, 5, 11],
+            Call::BookWord => &[0, 5, 11, 128],
         }
     }
 
@@ -99,6 +115,8 @@ impl Call {
             | Call::BookRemove
             | Call::BookFind
             | Call::BookRank
+            | Call::BookOrder
+            | Call::BookWord
             | Call::BookEntries => Some("book"),
             _ => None,
         }
@@ -109,7 +127,14 @@ impl Call {
         match self {
             Call::Record | Call::Part => &["number"],
             Call::Spell => &["room", "room for starts"],
-            Call::Write | Call::Normalise | Call::Key | Call::Decode => &["room"],
+            Call::TypedPlace => &["place"],
+            Call::Write
+            | Call::Normalise
+            | Call::StoredForm
+            | Call::Key
+            | Call::Decode
+            | Call::BookOrder => &["room"],
+            Call::BookWord => &["room", "start"],
             Call::BookAdd => &["stock"],
             Call::BookRank => &["rank"],
             _ => &[],
@@ -120,7 +145,13 @@ impl Call {
     pub const fn takes_word(self) -> bool {
         !matches!(
             self,
-            Call::Write | Call::Decode | Call::BookCheck | Call::BookRank | Call::BookEntries
+            Call::Write
+                | Call::Decode
+                | Call::BookCheck
+                | Call::BookRank
+                | Call::BookOrder
+                | Call::BookWord
+                | Call::BookEntries
         )
     }
 }

@@ -14,7 +14,7 @@ pub struct Case {
     pub second: Vec<u16>,
     /// Records, a line or a book.
     pub bytes: Vec<u8>,
-    /// Rooms, a number, a rank or a stock number.
+    /// Rooms, a number, a place, a rank, a start or a stock number.
     pub numbers: [usize; 2],
 }
 

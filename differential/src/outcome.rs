@@ -8,8 +8,8 @@ use std::fmt;
 pub enum Answer {
     /// The numbers of an accepted input.
     Accepted(Vec<u64>),
-    /// A readable word without the syllable asked for.
-    NoSuchSyllable,
+    /// There is nothing of the number asked for, which is no refusal.
+    Nothing,
     /// A refusal.
     Refused {
         /// Its number.
@@ -24,12 +24,12 @@ pub enum Answer {
 }
 
 impl Answer {
-    /// The tag: 0 for accepted, a refusal number, 128 for no such syllable.
+    /// The tag: 0 for accepted, a refusal number, 128 for nothing.
     pub fn tag(&self) -> Option<u8> {
         match self {
             Answer::Accepted(_) => Some(0),
             Answer::Refused { number, .. } => Some(*number),
-            Answer::NoSuchSyllable => Some(128),
+            Answer::Nothing => Some(128),
             Answer::Panicked(_) => None,
         }
     }
@@ -42,7 +42,7 @@ impl fmt::Display for Answer {
                 f.write_str("accepted")?;
                 numbers.iter().try_for_each(|number| write!(f, " {number:X}"))
             }
-            Answer::NoSuchSyllable => f.write_str("no such syllable"),
+            Answer::Nothing => f.write_str("nothing"),
             Answer::Refused { number, place, which: 0 } => write!(f, "refused {number} at {place}"),
             Answer::Refused { number, place, which } => {
                 write!(f, "word {which} refused {number} at {place}")

@@ -5,7 +5,7 @@ use crate::case::Case;
 use crate::lent::{Lent, Memory};
 use crate::library::Library;
 use crate::outcome::{Answer, Outcome};
-use jogcairn::{Book, ComparisonRefusal, Found, Refusal, Which, Word};
+use jogcairn::{Book, ComparisonRefusal, Found, Refusal, Told, Which, Word};
 use std::cmp::Ordering;
 
 /// The proved library.
@@ -16,12 +16,15 @@ impl Library for Proved {
         match case.call {
             Call::Spell => spell(case),
             Call::Write | Call::Decode => bytes_to_values(case),
-            Call::Normalise => normalise(case),
+            Call::Normalise | Call::StoredForm => stored(case),
             Call::Key => key(case),
             Call::Compare | Call::WordOrder => of_two_words(case),
             Call::BookCheck | Call::BookRank | Call::BookEntries => of_book(case),
+            Call::BookOrder | Call::BookWord => from_book(case),
             Call::BookAdd | Call::BookRemove | Call::BookFind => of_book_and_word(case),
-            Call::Read | Call::Record | Call::Part | Call::Syllables => of_word(case),
+            Call::Read | Call::Record | Call::Part | Call::Syllables | Call::TypedPlace => {
+                of_word(case)
+            }
         }
     }
 }
@@ -44,10 +47,10 @@ fn many(result: Result<Vec<u64>, Refusal>) -> Answer {
     }
 }
 
-fn of_syllable(result: Result<Option<Vec<u64>>, Refusal>) -> Answer {
+fn many_or_nothing(result: Result<Option<Vec<u64>>, Refusal>) -> Answer {
     match result {
         Ok(Some(numbers)) => Answer::Accepted(numbers),
-        Ok(None) => Answer::NoSuchSyllable,
+        Ok(None) => Answer::Nothing,
         Err(refusal) => refused(refusal, 0),
     }
 }
@@ -57,16 +60,20 @@ fn of_word(case: &Case) -> Outcome {
     let values = word.inside();
     let number = case.numbers[0];
     let answer = match case.call {
-        Call::Record => of_syllable(jogcairn::record(values, number).map(|record| {
+        Call::Record => many_or_nothing(jogcairn::record(values, number).map(|record| {
             record.map(|record| record.bytes().into_iter().map(u64::from).collect())
         })),
-        Call::Part => of_syllable(jogcairn::part(values, number).map(|part| {
+        Call::Part => many_or_nothing(jogcairn::part(values, number).map(|part| {
             part.map(|part| {
                 let place = (part.as_ptr() as usize - values.as_ptr() as usize) / 2;
                 vec![place as u64, part.len() as u64]
             })
         })),
         Call::Syllables => many(syllables(values)),
+        Call::TypedPlace => many_or_nothing(
+            jogcairn::typed_place(values, number)
+                .map(|typed| typed.map(|typed| vec![typed as u64])),
+        ),
         _ => one(jogcairn::read(values).map(|syllables| syllables.len())),
     };
     Outcome { answer, lent: vec![word.after()] }
@@ -102,10 +109,13 @@ fn bytes_to_values(case: &Case) -> Outcome {
     Outcome { answer: one(count), lent: vec![bytes.after(), word.after()] }
 }
 
-fn normalise(case: &Case) -> Outcome {
+fn stored(case: &Case) -> Outcome {
     let word = Lent::input(&case.word);
     let mut output = Lent::output(case.numbers[0]);
-    let count = jogcairn::normalise_into(word.inside(), output.inside_mut());
+    let count = match case.call {
+        Call::Normalise => jogcairn::normalise_into(word.inside(), output.inside_mut()),
+        _ => jogcairn::stored_form_into(word.inside(), output.inside_mut()),
+    };
     Outcome { answer: one(count), lent: vec![word.after(), output.after()] }
 }
 
@@ -145,6 +155,24 @@ fn of_book(case: &Case) -> Outcome {
         _ => many(entries(book.inside())),
     };
     Outcome { answer, lent: vec![book.after()] }
+}
+
+/// A book, and an output for what is in it.
+fn from_book(case: &Case) -> Outcome {
+    let book = Lent::input(&case.bytes);
+    let mut output = Lent::output(case.numbers[0]);
+    let answer = match case.call {
+        Call::BookOrder => one(jogcairn::book::order_into(book.inside(), output.inside_mut())),
+        _ => many_or_nothing(
+            jogcairn::book::word_into(book.inside(), case.numbers[1], output.inside_mut())
+                .map(|told| told.map(numbers_of)),
+        ),
+    };
+    Outcome { answer, lent: vec![book.after(), output.after()] }
+}
+
+fn numbers_of(told: Told) -> Vec<u64> {
+    vec![told.count as u64, u64::from(told.stock), u64::from(told.live)]
 }
 
 fn found(found: Found) -> Vec<u64> {

@@ -17,12 +17,15 @@ impl Library for Reference {
         match case.call {
             Call::Spell => spell(case),
             Call::Write | Call::Decode => bytes_to_values(case),
-            Call::Normalise => normalise(case),
+            Call::Normalise | Call::StoredForm => stored(case),
             Call::Key => key(case),
             Call::Compare | Call::WordOrder => compare(case),
             Call::BookCheck | Call::BookRank | Call::BookEntries => of_book(case),
+            Call::BookOrder | Call::BookWord => from_book(case),
             Call::BookAdd | Call::BookRemove | Call::BookFind => of_book_and_word(case),
-            Call::Read | Call::Record | Call::Part | Call::Syllables => of_word(case),
+            Call::Read | Call::Record | Call::Part | Call::Syllables | Call::TypedPlace => {
+                of_word(case)
+            }
         }
     }
 }
@@ -38,6 +41,14 @@ fn accepted(result: Result<Vec<u64>, Refusal>) -> Answer {
     }
 }
 
+fn accepted_or_nothing(result: Result<Option<Vec<u64>>, Refusal>) -> Answer {
+    match result {
+        Ok(Some(numbers)) => Answer::Accepted(numbers),
+        Ok(None) => Answer::Nothing,
+        Err(refusal) => refused(refusal, 0),
+    }
+}
+
 fn one(number: usize) -> Vec<u64> {
     vec![number as u64]
 }
@@ -47,6 +58,9 @@ fn of_word(case: &Case) -> Outcome {
     let answer = match case.call {
         Call::Read => accepted(oracle::read(word.inside()).map(|read| one(read.syllables().len()))),
         Call::Syllables => accepted(syllables(word.inside())),
+        Call::TypedPlace => accepted_or_nothing(
+            oracle::typed_place(word.inside(), case.numbers[0]).map(|typed| typed.map(one)),
+        ),
         _ => of_syllable(case.call, word.inside(), case.numbers[0]),
     };
     Outcome { answer, lent: vec![word.after()] }
@@ -57,7 +71,7 @@ fn of_syllable(call: Call, word: &[u16], number: usize) -> Answer {
         Ok(reading) => reading,
         Err(refusal) => return refused(refusal, 0),
     };
-    let Some(syllable) = reading.syllables().get(number) else { return Answer::NoSuchSyllable };
+    let Some(syllable) = reading.syllables().get(number) else { return Answer::Nothing };
     Answer::Accepted(match call {
         Call::Record => oracle::record(word, number).record.map(u64::from).to_vec(),
         _ => vec![syllable.start as u64, oracle::part(word, number).len() as u64],
@@ -99,10 +113,13 @@ fn bytes_to_values(case: &Case) -> Outcome {
     Outcome { answer: accepted(count.map(one)), lent: vec![bytes.after(), word.after()] }
 }
 
-fn normalise(case: &Case) -> Outcome {
+fn stored(case: &Case) -> Outcome {
     let word = Lent::input(&case.word);
     let mut output = Lent::output(case.numbers[0]);
-    let count = oracle::normalise(word.inside(), output.inside_mut());
+    let count = match case.call {
+        Call::Normalise => oracle::normalise(word.inside(), output.inside_mut()),
+        _ => oracle::stored_form(word.inside(), output.inside_mut()),
+    };
     Outcome { answer: accepted(count.map(one)), lent: vec![word.after(), output.after()] }
 }
 
@@ -133,6 +150,24 @@ fn of_book(case: &Case) -> Outcome {
         _ => entries(bytes.inside()),
     });
     Outcome { answer, lent: vec![bytes.after()] }
+}
+
+/// A book, and an output for what is in it.
+fn from_book(case: &Case) -> Outcome {
+    let bytes = Lent::input(&case.bytes);
+    let mut output = Lent::output(case.numbers[0]);
+    let answer = match case.call {
+        Call::BookOrder => accepted(book::order(bytes.inside(), output.inside_mut()).map(one)),
+        _ => accepted_or_nothing(
+            book::word_at(bytes.inside(), case.numbers[1], output.inside_mut())
+                .map(|told| told.map(numbers_of)),
+        ),
+    };
+    Outcome { answer, lent: vec![bytes.after(), output.after()] }
+}
+
+fn numbers_of(told: book::Told) -> Vec<u64> {
+    vec![told.count as u64, u64::from(told.stock), u64::from(told.live)]
 }
 
 fn found(entry: book::Entry) -> Vec<u64> {

@@ -1,5 +1,6 @@
 //! Making a case smaller as long as it shows a difference.
 
+use crate::call::Call;
 use crate::case::Case;
 use std::iter::successors;
 use std::ops::Range;
@@ -30,6 +31,7 @@ fn shorter_cases(case: &Case) -> impl Iterator<Item = Case> + '_ {
     let books = fewer_records(book).chain(shorter(&case.bytes)).chain(shorter_records(book));
     books
         .map(|bytes| Case { bytes, ..case.clone() })
+        .chain(without_records_before(case))
         .chain(shorter(&case.word).map(|word| Case { word, ..case.clone() }))
         .chain(shorter(&case.second).map(|second| Case { second, ..case.clone() }))
 }
@@ -96,6 +98,16 @@ fn fewer_records(book: &[u8]) -> impl Iterator<Item = Vec<u8>> + '_ {
     let records = records(book);
     stretches(records.len())
         .map(move |taken| without(book, records[taken.start].start..records[taken.end - 1].end))
+}
+
+/// Cases without one of the records before the start that is asked for, which moves with its record.
+fn without_records_before(case: &Case) -> impl Iterator<Item = Case> + '_ {
+    let start = if case.call == Call::BookWord { case.numbers[1] } else { 0 };
+    let before = records(&case.bytes).into_iter().filter(move |record| record.end <= start);
+    before.map(move |record| {
+        let numbers = [case.numbers[0], start - record.len()];
+        Case { bytes: without(&case.bytes, record), numbers, ..case.clone() }
+    })
 }
 
 /// The book with one value less in a record.

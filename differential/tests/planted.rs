@@ -128,6 +128,43 @@ fn a_book_of_two_records_is_made_small() {
 }
 
 #[test]
+fn equal_marks_pointed_at_in_exchanged_order_are_found() {
+    let found = finding(|case, outcome| {
+        let twice = case.word.windows(2).position(|pair| pair == [0x1038, 0x1038]);
+        if let (Call::TypedPlace, Answer::Accepted(typed)) = (case.call, &mut outcome.answer) {
+            if twice.is_some_and(|first| first as u64 == typed[0]) {
+                typed[0] += 1;
+            }
+        }
+    });
+    assert_eq!(found.case, Case::of_word(Call::TypedPlace, vec![0x1038, 0x1038]));
+}
+
+#[test]
+fn starts_in_their_own_order_are_found() {
+    let found = finding(|case, outcome| {
+        if let (Call::BookOrder, Answer::Accepted(count)) = (case.call, &outcome.answer) {
+            if let Memory::Values(cells) = &mut outcome.lent[1] {
+                cells[MARGIN..][..count[0] as usize].sort_unstable();
+            }
+        }
+    });
+    assert_eq!(found.case.numbers, [2, 0]);
+    assert_eq!(found.case.bytes.len(), 16);
+}
+
+#[test]
+fn a_removed_record_told_as_live_is_found() {
+    let found = finding(|case, outcome| {
+        if let (Call::BookWord, Answer::Accepted(told)) = (case.call, &mut outcome.answer) {
+            told[2] = 1;
+        }
+    });
+    assert_eq!(found.case.bytes.len(), 8);
+    assert_eq!(found.difference.reference.answer, Answer::Accepted(vec![1, 0, 0]));
+}
+
+#[test]
 fn a_panic_is_found() {
     let found = finding(|case, _| {
         assert!(case.call != Call::Decode || case.bytes.len() < 4, "planted");

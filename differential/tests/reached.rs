@@ -82,6 +82,77 @@ fn books_come_in_every_state() {
 }
 
 #[test]
+fn records_are_asked_for_at_every_kind_of_start() {
+    demand(&[
+        ("a live record", |case, outcome| told(case, outcome).is_some_and(|told| told[2] == 1)),
+        ("a removed record", |case, outcome| told(case, outcome).is_some_and(|told| told[2] == 0)),
+        ("the last record", |case, outcome| {
+            let start = case.numbers[1];
+            told(case, outcome).is_some_and(|told| case.bytes.len() == start + 7 + told[0] as usize)
+        }),
+        ("within a record", |case, outcome| {
+            nothing(case, outcome)
+                .is_some_and(|start| case.bytes.get(start).is_some_and(|&b| b != 0))
+        }),
+        ("the first free byte", |case, outcome| {
+            nothing(case, outcome).is_some_and(|start| case.bytes.get(start) == Some(&0))
+        }),
+        ("the end of the buffer", |case, outcome| {
+            nothing(case, outcome).is_some_and(|start| start == case.bytes.len())
+        }),
+        ("far beyond", |case, outcome| {
+            nothing(case, outcome).is_some_and(|start| start > 2 * BOOK_LIMIT)
+        }),
+    ]);
+}
+
+/// What is told of a record by its start.
+fn told<'o>(case: &Case, outcome: &'o Outcome) -> Option<&'o [u64]> {
+    match &outcome.answer {
+        Answer::Accepted(numbers) if case.call == Call::BookWord => Some(numbers),
+        _ => None,
+    }
+}
+
+/// A start at which there is no record.
+fn nothing(case: &Case, outcome: &Outcome) -> Option<usize> {
+    let asked = case.call == Call::BookWord && outcome.answer == Answer::Nothing;
+    asked.then_some(case.numbers[1])
+}
+
+#[test]
+fn words_are_pointed_at_in_every_way() {
+    demand(&[
+        ("a value that did not move", |case, outcome| {
+            pointed(case, outcome).is_some_and(|typed| typed == case.numbers[0])
+        }),
+        ("a mark that moved to the front", |case, outcome| {
+            pointed(case, outcome).is_some_and(|typed| typed > case.numbers[0] + 1)
+        }),
+        ("a value behind 1025 102E", |case, outcome| {
+            let stored = oracle::stored_form(&case.word, &mut [0; WORD_LIMIT]);
+            pointed(case, outcome).is_some() && stored.is_ok_and(|count| count < case.word.len())
+        }),
+        ("a refused word", |case, outcome| {
+            pointed(case, outcome).is_some()
+                && oracle::normalise(&case.word, &mut [0; WORD_LIMIT]).is_err()
+        }),
+        ("the end of a word", |case, outcome| {
+            let at_end = case.numbers[0] == case.word.len();
+            case.call == Call::TypedPlace && outcome.answer == Answer::Nothing && at_end
+        }),
+    ]);
+}
+
+/// Where the value was typed that is asked for.
+fn pointed(case: &Case, outcome: &Outcome) -> Option<usize> {
+    match &outcome.answer {
+        Answer::Accepted(numbers) if case.call == Call::TypedPlace => Some(numbers[0] as usize),
+        _ => None,
+    }
+}
+
+#[test]
 fn books_are_damaged_in_every_way() {
     demand(&[
         ("overlong", |case, outcome| {
@@ -166,16 +237,19 @@ fn outputs_come_in_every_length_from_none_to_enough() {
             rooms_for_keys.insert(case.numbers[0]);
             continue;
         }
-        let enough = Case { numbers: [512; 2], ..case.clone() };
         if !case.call.number_names().contains(&"room") {
             continue;
         }
+        let rooms = if case.call == Call::Spell { [512; 2] } else { [512, case.numbers[1]] };
+        let enough = Case { numbers: rooms, ..case.clone() };
         if let Answer::Accepted(needed) = Reference.outcome(&enough).answer {
             seen.insert((case.call.name(), needed[0], case.numbers[0]));
         }
     }
-    for call in [Call::Spell, Call::Write, Call::Normalise, Call::Decode] {
-        for needed in 0..=LONGEST {
+    let of_values = [Call::Spell, Call::Write, Call::Normalise, Call::StoredForm, Call::Decode];
+    for call in of_values.into_iter().chain([Call::BookOrder, Call::BookWord]) {
+        // No record is without a value.
+        for needed in usize::from(call == Call::BookWord)..=LONGEST {
             for room in 0..=needed + 1 {
                 assert!(
                     seen.contains(&(call.name(), needed as u64, room)),

@@ -8,12 +8,17 @@ const REPRESENTATIVES: [u16; 24] = [
     0x102E, 0x102F, 0x1031, 0x1036, 0x1037, 0x1038, 0x1039, 0x103A, 0x103B, 0x103C, 0x103D, 0x103F,
 ];
 
-/// Tries each word of so many of the values.
+/// Tries each word of so many of the values, with room for whatever is written.
 fn try_all(values: &[u16], length: usize, call: Call) {
+    try_all_at(values, length, call, [320, 64]);
+}
+
+/// Tries each word of so many of the values, with these numbers.
+fn try_all_at(values: &[u16], length: usize, call: Call, numbers: [usize; 2]) {
     let mut places = vec![0; length];
     loop {
         let word = places.iter().map(|&place| values[place]).collect();
-        let case = Case { numbers: [320, 64], ..Case::of_word(call, word) };
+        let case = Case { numbers, ..Case::of_word(call, word) };
         assert!(difference(&Proved, &Reference, &case).is_none(), "{case}");
         // The next word: the places count like the digits of a number.
         let Some(digit) = places.iter().rposition(|&place| place + 1 < values.len()) else { break };
@@ -29,7 +34,7 @@ fn values() -> Vec<u16> {
 
 #[test]
 fn every_word_of_up_to_two_values() {
-    for call in [Call::Syllables, Call::Spell, Call::Normalise, Call::Key] {
+    for call in [Call::Syllables, Call::Spell, Call::Normalise, Call::StoredForm, Call::Key] {
         for length in 0..=2 {
             try_all(&values(), length, call);
         }
@@ -46,4 +51,14 @@ fn every_word_of_three_values() {
 fn every_word_of_four_representatives() {
     try_all(&REPRESENTATIVES, 4, Call::Syllables);
     try_all(&REPRESENTATIVES, 4, Call::Normalise);
+    try_all(&REPRESENTATIVES, 4, Call::StoredForm);
+}
+
+#[test]
+fn every_place_of_every_word_of_up_to_three_values() {
+    for place in 0..=3 {
+        for length in 0..=3 {
+            try_all_at(&REPRESENTATIVES, length, Call::TypedPlace, [place, 0]);
+        }
+    }
 }

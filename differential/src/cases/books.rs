@@ -1,5 +1,6 @@
 //! Calls on books: on the one that goes on, and on copies of it that were damaged.
 
+use super::near;
 use super::shelf::{letters, Shelf};
 use super::words::{self, valid};
 use crate::call::Call;
@@ -9,7 +10,7 @@ use oracle::lists::shuffle_runs;
 use oracle::random::Random;
 
 /// The calls, each as often as it stands here.
-const CALLS: [Call; 16] = [
+const CALLS: [Call; 19] = [
     Call::BookAdd,
     Call::BookAdd,
     Call::BookAdd,
@@ -24,6 +25,9 @@ const CALLS: [Call; 16] = [
     Call::BookRank,
     Call::BookRank,
     Call::BookRank,
+    Call::BookOrder,
+    Call::BookWord,
+    Call::BookWord,
     Call::BookCheck,
     Call::BookEntries,
 ];
@@ -36,6 +40,7 @@ pub fn case(random: &mut Random, shelf: &mut Shelf) -> Case {
     shelf.turn(random);
     let call = match random.pick(&CALLS) {
         Call::BookRank if shelf.starts.len() > MANY_RECORDS && random.chance(90) => Call::BookFind,
+        Call::BookOrder if shelf.starts.len() > MANY_RECORDS && random.chance(90) => Call::BookWord,
         Call::BookEntries if shelf.starts.len() > MANY_RECORDS => Call::BookCheck,
         call => call,
     };
@@ -48,12 +53,30 @@ pub fn case(random: &mut Random, shelf: &mut Shelf) -> Case {
     if call.takes_word() {
         case.word = word(random, shelf, call);
     }
-    case.numbers[0] = match call {
-        Call::BookAdd => stock(random),
-        Call::BookRank => rank(random, shelf),
-        _ => 0,
+    case.numbers = match call {
+        Call::BookAdd => [stock(random), 0],
+        Call::BookRank => [rank(random, shelf), 0],
+        Call::BookOrder => [near(random, oracle::book::check(&case.bytes).unwrap_or(0)), 0],
+        Call::BookWord => {
+            let start = start(random, shelf);
+            let count = case.bytes.get(start.saturating_add(2)).copied().unwrap_or(0);
+            [near(random, usize::from(count)), start]
+        }
+        _ => [0; 2],
     };
     case
+}
+
+/// Where a record starts, or where none does: within one, at the end of the records, or beyond.
+fn start(random: &mut Random, shelf: &Shelf) -> usize {
+    match random.below(12) {
+        0 => random.pick(&[usize::MAX, 1 << 16, 1 << 32, BOOK_LIMIT, BOOK_LIMIT - 1]),
+        1 => shelf.end,
+        2 => random.below(shelf.bytes.len() + 2),
+        3 if !shelf.starts.is_empty() => random.pick(&shelf.starts) + random.between(1, 8),
+        _ if !shelf.starts.is_empty() => random.pick(&shelf.starts),
+        _ => 0,
+    }
 }
 
 /// A word that is in the book, perhaps typed otherwise, or another.

@@ -22,7 +22,7 @@ pub struct Cases {
 }
 
 /// The calls on words and lines, each as often as it stands here.
-const WORD_CALLS: [Call; 18] = [
+const WORD_CALLS: [Call; 22] = [
     Call::Read,
     Call::Read,
     Call::Record,
@@ -34,6 +34,10 @@ const WORD_CALLS: [Call; 18] = [
     Call::Write,
     Call::Normalise,
     Call::Normalise,
+    Call::StoredForm,
+    Call::StoredForm,
+    Call::TypedPlace,
+    Call::TypedPlace,
     Call::Key,
     Call::Key,
     Call::Compare,
@@ -72,7 +76,8 @@ impl Cases {
         self.shelf.take_note(case, outcome);
     }
 
-    /// Numbers near those that decide: the rooms that are just enough, the number of syllables.
+    /// Numbers near those that decide: the rooms that are just enough, the number of syllables or
+    /// of stored values.
     fn numbers(&mut self, case: &Case) -> [usize; 2] {
         match case.call {
             Call::Key => [self.near(KEY_SIZE), 0],
@@ -80,7 +85,11 @@ impl Cases {
                 let syllables = accepted(&Case { call: Call::Read, ..case.clone() })[0];
                 [self.number(syllables), 0]
             }
-            Call::Spell | Call::Write | Call::Normalise | Call::Decode => {
+            Call::TypedPlace => {
+                let stored = Case { call: Call::StoredForm, numbers: [256; 2], ..case.clone() };
+                [self.number(accepted(&stored)[0]), 0]
+            }
+            Call::Spell | Call::Write | Call::Normalise | Call::StoredForm | Call::Decode => {
                 let enough = Case { numbers: [256; 2], ..case.clone() };
                 accepted(&enough).map(|needed| self.near(needed))
             }
@@ -88,24 +97,28 @@ impl Cases {
         }
     }
 
-    /// A room from none to more than enough.
     fn near(&mut self, needed: usize) -> usize {
-        match self.random.below(8) {
-            0..3 => needed,
-            3 => needed.saturating_sub(1),
-            4 => needed + self.random.pick(&[1, 1, 2, 5]),
-            5 => 0,
-            _ => self.random.below(needed + 1),
-        }
+        near(&mut self.random, needed)
     }
 
-    /// The number of a syllable, sometimes of one that is not there.
-    fn number(&mut self, syllables: usize) -> usize {
+    /// The number of one of so many, sometimes of one that is not there.
+    fn number(&mut self, count: usize) -> usize {
         match self.random.below(20) {
             0 => self.random.pick(&[usize::MAX, 1 << 32, 1 << 8, 1 << 16, 64, 63]),
-            1..4 => syllables + self.random.below(2),
-            _ => self.random.below(syllables.max(1)),
+            1..4 => count + self.random.below(2),
+            _ => self.random.below(count.max(1)),
         }
+    }
+}
+
+/// A room from none to more than enough.
+fn near(random: &mut Random, needed: usize) -> usize {
+    match random.below(8) {
+        0..3 => needed,
+        3 => needed.saturating_sub(1),
+        4 => needed + random.pick(&[1, 1, 2, 5]),
+        5 => 0,
+        _ => random.below(needed + 1),
     }
 }
 
