@@ -20,11 +20,15 @@ extern "C" {
 uint64_t peer_read(const uint16_t *, size_t);
 uint64_t peer_spell(const uint16_t *, size_t);
 uint64_t peer_normalise(const uint16_t *, size_t, uint16_t *, size_t);
+uint64_t peer_stored_form(const uint16_t *, size_t, uint16_t *, size_t);
+uint64_t peer_typed_place(const uint16_t *, size_t, size_t);
 uint64_t peer_key(const uint16_t *, size_t, size_t);
 uint64_t peer_compare(const uint16_t *, size_t, const uint16_t *, size_t);
 uint64_t peer_book_check(const uint8_t *, size_t);
 uint64_t peer_book_find(const uint8_t *, size_t, const uint16_t *, size_t);
 uint64_t peer_book_rank(const uint8_t *, size_t, size_t);
+uint64_t peer_book_order(const uint8_t *, size_t, uint16_t *, size_t);
+uint64_t peer_book_word(const uint8_t *, size_t, size_t, uint16_t *, size_t);
 }
 
 using Word = std::vector<uint16_t>;
@@ -122,7 +126,7 @@ static void time_words(const std::vector<Word> &words)
     auto ours_compare = [&](size_t i, size_t k) { return jogcairn_compare(words[i].data(), words[i].size(), words[k].data(), words[k].size()); };
     auto peer_order = [&](size_t i, size_t k) { return peer_compare(words[i].data(), words[i].size(), words[k].data(), words[k].size()); };
     auto icu_order = [&](size_t i, size_t k) { return uint64_t(ucol_strcoll(collator, text(i), size(i), text(k), size(k)) + 1); };
-    enum { PASS, READ, SPELL, NORMALISE, KEY, FAR, NEXT, PEER_READ, PEER_SPELL, PEER_NORMALISE, PEER_KEY, PEER_FAR, PEER_NEXT, NFC, ICU_KEY, ICU_FAR, ICU_NEXT };
+    enum { PASS, READ, SPELL, NORMALISE, STORED_FORM, TYPED_PLACE, KEY, FAR, NEXT, PEER_READ, PEER_SPELL, PEER_NORMALISE, PEER_STORED_FORM, PEER_TYPED_PLACE, PEER_KEY, PEER_FAR, PEER_NEXT, NFC, ICU_KEY, ICU_FAR, ICU_NEXT };
     std::vector<Case> cases = {
         timed("a plain pass, a table look a value", count,
               [&](size_t i) {
@@ -138,6 +142,9 @@ static void time_words(const std::vector<Word> &words)
               }),
         timed("normalise", count,
               [&](size_t i) { return jogcairn_normalise(words[i].data(), words[i].size(), form, JOGCAIRN_WORD_LIMIT) + form[i % 8]; }),
+        timed("stored form", count,
+              [&](size_t i) { return jogcairn_stored_form(words[i].data(), words[i].size(), form, JOGCAIRN_WORD_LIMIT) + form[i % 8]; }),
+        timed("typed place", count, [&](size_t i) { return jogcairn_typed_place(words[i].data(), words[i].size(), i % 8); }),
         timed("key", count, [&](size_t i) { return jogcairn_key(words[i].data(), words[i].size(), key, JOGCAIRN_KEY_SIZE) + key[i % 32]; }),
         timed("compare, words far off", count, [&](size_t i) { return ours_compare(i, far_from(i, count)); }),
         timed("compare, neighbours of the file", count, [&](size_t i) { return ours_compare(i, (i + 1) % count); }),
@@ -145,6 +152,9 @@ static void time_words(const std::vector<Word> &words)
         timed("other implementation: spell", count, [&](size_t i) { return peer_spell(words[i].data(), words[i].size()); }),
         timed("other implementation: normalise", count,
               [&](size_t i) { return peer_normalise(words[i].data(), words[i].size(), form, JOGCAIRN_WORD_LIMIT) + form[i % 8]; }),
+        timed("other implementation: stored form", count,
+              [&](size_t i) { return peer_stored_form(words[i].data(), words[i].size(), form, JOGCAIRN_WORD_LIMIT) + form[i % 8]; }),
+        timed("other implementation: typed place", count, [&](size_t i) { return peer_typed_place(words[i].data(), words[i].size(), i % 8); }),
         timed("other implementation: key", count, [&](size_t i) { return peer_key(words[i].data(), words[i].size(), i % 32); }),
         timed("other implementation: far off", count, [&](size_t i) { return peer_order(i, far_from(i, count)); }),
         timed("other implementation: neighbours", count, [&](size_t i) { return peer_order(i, (i + 1) % count); }),
@@ -219,6 +229,9 @@ static void time_book(const std::vector<Word> &names, size_t live, size_t record
     size_t turns = 1 + 20000 / (records + 20);
     uint8_t *bytes = book.data();
     size_t length = book.size();
+    static uint16_t starts[JOGCAIRN_BOOK_LIMIT / 8], values[JOGCAIRN_WORD_LIMIT];
+    size_t room = sizeof starts / sizeof starts[0];
+    size_t start = jogcairn_second(jogcairn_book_find(bytes, length, name.data(), name.size()));
     std::vector<Case> cases = {
         timed("pass", turns,
               [&](size_t) {
@@ -243,9 +256,13 @@ static void time_book(const std::vector<Word> &names, size_t live, size_t record
                   return answer;
               }),
         timed("rank", turns, [&](size_t i) { return jogcairn_book_rank(bytes, length, i % lives); }),
+        timed("order", turns, [&](size_t) { return jogcairn_book_order(bytes, length, starts, room) + starts[0]; }),
+        timed("word", turns, [&](size_t) { return jogcairn_book_word(bytes, length, start, values, JOGCAIRN_WORD_LIMIT) + values[0]; }),
         timed("check", turns, [&](size_t) { return peer_book_check(bytes, length); }),
         timed("find", turns, [&](size_t) { return peer_book_find(bytes, length, name.data(), name.size()); }),
         timed("rank", turns, [&](size_t i) { return peer_book_rank(bytes, length, i % lives); }),
+        timed("order", turns, [&](size_t) { return peer_book_order(bytes, length, starts, room) + starts[0]; }),
+        timed("word", turns, [&](size_t) { return peer_book_word(bytes, length, start, values, JOGCAIRN_WORD_LIMIT) + values[0]; }),
     };
     run(cases);
     std::printf("  %7zu %6zu", records, lives);
@@ -271,8 +288,12 @@ int main(int argc, char **argv)
 
     std::vector<Word> names = short_names();
     std::printf("\n  a call on a book of %d bytes, in microseconds; words of one and two values\n", JOGCAIRN_BOOK_LIMIT);
-    std::printf("  %7s %6s %8s %8s %8s %8s %8s %8s %26s\n", "", "", "plain", "", "", "", "", "", "other implementation");
-    std::printf("  %7s %6s %8s %8s %8s %8s %8s %8s %8s %8s %8s\n", "records", "live", "pass", "check", "find", "add", "remove", "rank", "check", "find", "rank");
+    std::printf("  %7s %6s %8s", "", "", "plain");
+    std::printf("%63s %53s\n", "the library", "the other implementation");
+    std::printf("  %7s %6s", "records", "live");
+    for (const char *name : {"pass", "check", "find", "add", "remove", "rank", "order", "word", "check", "find", "rank", "order", "word"})
+        std::printf(" %8s", name);
+    std::printf("\n");
     for (size_t records : {10, 100, 500})
         time_book(names, records, records);
     time_book(names, names.size(), names.size());

@@ -43,6 +43,20 @@ pub unsafe extern "C" fn peer_normalise(word: *const u16, count: usize, form: *m
 }
 
 /// # Safety
+/// As for [`part`] and [`output`].
+#[no_mangle]
+pub unsafe extern "C" fn peer_stored_form(word: *const u16, count: usize, form: *mut u16, room: usize) -> u64 {
+    storage::stored_form(unsafe { part(word, count) }, unsafe { output(form, room) }).map_or(REFUSED, |count| count as u64)
+}
+
+/// # Safety
+/// As for [`part`].
+#[no_mangle]
+pub unsafe extern "C" fn peer_typed_place(word: *const u16, count: usize, place: usize) -> u64 {
+    storage::typed_place(unsafe { part(word, count) }, place).map_or(REFUSED, |typed| typed.map_or(REFUSED, |typed| typed as u64))
+}
+
+/// # Safety
 /// As for [`part`].
 #[no_mangle]
 pub unsafe extern "C" fn peer_key(word: *const u16, count: usize, at: usize) -> u64 {
@@ -76,4 +90,19 @@ pub unsafe extern "C" fn peer_book_find(buffer: *const u8, bytes: usize, word: *
 #[no_mangle]
 pub unsafe extern "C" fn peer_book_rank(buffer: *const u8, bytes: usize, rank: usize) -> u64 {
     book::rank(unsafe { part(buffer, bytes) }, rank).map_or(REFUSED, |entry| entry.start as u64)
+}
+
+/// # Safety
+/// As for [`part`] and [`output`].
+#[no_mangle]
+pub unsafe extern "C" fn peer_book_order(buffer: *const u8, bytes: usize, starts: *mut u16, room: usize) -> u64 {
+    book::order(unsafe { part(buffer, bytes) }, unsafe { output(starts, room) }).map_or(REFUSED, |live| live as u64)
+}
+
+/// # Safety
+/// As for [`part`] and [`output`].
+#[no_mangle]
+pub unsafe extern "C" fn peer_book_word(buffer: *const u8, bytes: usize, start: usize, word: *mut u16, room: usize) -> u64 {
+    book::word_at(unsafe { part(buffer, bytes) }, start, unsafe { output(word, room) })
+        .map_or(REFUSED, |told| told.map_or(REFUSED, |told| u64::from(told.stock)))
 }
