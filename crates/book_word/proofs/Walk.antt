@@ -6,12 +6,12 @@ use mathlib.Core.List.{List, []}
 use mathlib.Core.Option.{none, some}
 use Prim.Native.Nat.{ℕ, _+_, _≤_, _<_}
 use borrow.Author.Tests.{eq-eqb, ne-eqb}
-use lib.Dec.{T, eqb}
+use lib.Dec.{eqb}
 use lib.ListN.{getD}
 use Rattle.letters.specs.Choice.{pick}
 use Rattle.letters.proofs.Tests.{pick-true, pick-false}
-use Rattle.entries.specs.Entries.{Entry, entryAt, isFramed}
-use Rattle.entries.specs.Book.{IsBook, Opened}
+use Rattle.entries.specs.Entries.{Entry, entryAt}
+use Rattle.entries.specs.Book.{Opened}
 use Rattle.entries.proofs.Records.{framed-is}
 use Rattle.entries.proofs.Agree.{only}
 use Rattle.entries.proofs.Walk.{Walk, walk-start, Turn, turn, walk-end}

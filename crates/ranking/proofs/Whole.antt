@@ -12,7 +12,7 @@ use lib.Seq.{take-at, drop-at}
 use Rattle.refusals.specs.Outcome.{Outcome, accepts, refuses}
 use Rattle.refusals.specs.Output.{refused, put, too-short}
 use Rattle.refusals.proofs.Determined.{Same, writes-determined}
-use Rattle.entries.specs.Entries.{Entry, entryAt, Entries, book, wrong, entries}
+use Rattle.entries.specs.Entries.{Entry, entryAt, Entries, book, entries}
 use Rattle.entries.specs.Book.{IsBook}
 use Rattle.entries.specs.Map.{liveCount}
 use Rattle.entries.specs.Rank.{liveBefore}
