@@ -30,7 +30,7 @@ module _ (b : List ℕ) (at : ℕ) (f : Framed b at) (count : ℕ) (e : count �
   told-short h =
       let no-room = lt-leb (length (wordAt b at)) (length before) (omega (arith, long)) in
       record {
-        told = ap (λ (n : ℕ). Refused (OutputTooShort n)) long ∙ sym (pick-false (leb (length (wordAt b at)) (length before)) _ _ no-room);
+        answer = ap (λ (n : ℕ). Refused (OutputTooShort n)) long ∙ sym (pick-false (leb (length (wordAt b at)) (length before)) _ _ no-room);
         output = sym (pick-false (leb (length (wordAt b at)) (length before)) _ _ no-room);
       }
 
@@ -41,7 +41,7 @@ module _ (b : List ℕ) (at : ℕ) (f : Framed b at) (count : ℕ) (e : count �
   told-whole after answer h p q =
       let room = le-leb (length (wordAt b at)) (length before) (omega (arith, long)) in
       record {
-        told =
+        answer =
             q ∙ ap (λ (n : ℕ). pick (entryAt b at .live) (Live (entryAt b at .stock) n) (Removed (entryAt b at .stock) n)) long
             ∙ sym (pick-true (leb (length (wordAt b at)) (length before)) _ _ room);
         output =
@@ -64,19 +64,19 @@ module _ (b : List ℕ) (free : ℕ) (o : Opened b free) (start : ℕ) (before :
   word-told after answer s t =
       let e = s .entry (o .list) (o .is-book) ∙ pick-true true (some (entryAt b start)) none refl in
       record {
-        told = t .told ∙ told-of (some (entryAt b start)) e;
+        answer = t .answer ∙ told-of (some (entryAt b start)) e;
         output = t .output ∙ output-of (some (entryAt b start)) e;
       }
 
   pub word-missing : StartRight b start false → WordRight b start before before NoRecord
   word-missing s =
       let e = s .entry (o .list) (o .is-book) ∙ pick-false false (some (entryAt b start)) none refl in
-      record { told = told-of none e; output = output-of none e }
+      record { answer = told-of none e; output = output-of none e }
 
 pub word-of-no-book : (b : List ℕ) (start place : ℕ) (before : List ℕ) → entries b ≡ wrong place
     → WordRight b start before before (Refused (NotABook place))
 word-of-no-book b start place before e =
     record {
-      told = sym (ap (λ (y : Entries). wordOfRecord y start (length before)) e);
+      answer = sym (ap (λ (y : Entries). wordOfRecord y start (length before)) e);
       output = sym (ap (λ (y : Entries). outputOfRecord y start before) e);
     }

@@ -46,13 +46,13 @@ outputOfRecord (book list free) start before = outputOfEntry (entryStarting list
 outputOfRecord (wrong place) start before = before
 
 -- the promise of `word_at`, with the output as it was and as it is
-pub record WordRight (bytes : List ℕ) (start : ℕ) (before after : List ℕ) (answer : RecordWord) : Type 0 where
-  pub told : answer ≡ wordOfRecord (entries bytes) start (length before)
+pub record WordRight (bytes : List ℕ) (start : ℕ) (before after : List ℕ) (told : RecordWord) : Type 0 where
+  pub answer : told ≡ wordOfRecord (entries bytes) start (length before)
   pub output : after ≡ outputOfRecord (entries bytes) start before
 
 -- the same of an entry; an inner contract cites it
-pub record ToldRight (entry : Entry) (before after : List ℕ) (answer : RecordWord) : Type 0 where
-  pub told : answer ≡ wordOfEntry (some entry) (length before)
+pub record ToldRight (entry : Entry) (before after : List ℕ) (told : RecordWord) : Type 0 where
+  pub answer : told ≡ wordOfEntry (some entry) (length before)
   pub output : after ≡ outputOfEntry (some entry) before
 
 -- whether an entry of the book starts at a place: then it is the one that is read there; an inner contract cites it

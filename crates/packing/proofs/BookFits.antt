@@ -27,7 +27,7 @@ use Rattle.entries.proofs.Agree.{Sound, sound}
 use Rattle.lookup.specs.Outcome.{checkOf, findOfEntry, findOf, removeOfEntry, removeOf, addOfEntry, addOf}
 use Rattle.book_change.proofs.Laws.{Bytes}
 use Rattle.ranking.specs.Rank.{startsInOrder, rankOf, Among}
-use Rattle.ranking.specs.Whole.{NotABook, not-a-book, Holds, OrderRight}
+use Rattle.ranking.specs.Whole.{NotABook, not-a-book, BookOf, OrderRight}
 use Rattle.ranking.proofs.InOrder.{starts-count}
 use Rattle.ranking.proofs.Laws.{rank-below, rank-too-high, rank-of-no-book}
 use Rattle.book_word.specs.WordAt.{entryStarting, wordOfEntry, wordOfRecord, WordRight}
@@ -236,7 +236,7 @@ module _ (bytes : List ℕ) (small : Bytes bytes) where
 
   pub order-fits : (before after : List ℕ) (o : Outcome) → OrderRight bytes before after o → Fits (outcomeNumbers o)
   order-fits =
-      writes-fits (NotABook bytes) (Holds bytes) startsInOrder (λ list. length (startsInOrder list)) not-a-book-fits
+      writes-fits (NotABook bytes) (BookOf bytes) startsInOrder (λ list. length (startsInOrder list)) not-a-book-fits
       (λ list h.
       let is = subst (Sound bytes) (h .is) (sound bytes small) .0 in
       let few : length (startsInOrder list) < 0x100000000 = omega (arith, starts-count bytes list is, live-within bytes list is) in
@@ -253,7 +253,7 @@ module _ (bytes : List ℕ) (small : Bytes bytes) where
   pub record-word-fits : (start : ℕ) (before after : List ℕ) (answer : RecordWord) → WordRight bytes start before after answer
       → Fits (recordWordNumbers answer)
   record-word-fits start before after answer right =
-      subst (λ (a : RecordWord). Fits (recordWordNumbers a)) (sym (right .told))
+      subst (λ (a : RecordWord). Fits (recordWordNumbers a)) (sym (right .answer))
       (record-by start (length before) (entries bytes) (bounded bytes) (sound bytes small))
 
   pub find-fits : (word : List ℕ) (o : Outcome) → FindAnswers bytes word o → Fits (outcomeNumbers o)

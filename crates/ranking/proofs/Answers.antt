@@ -22,7 +22,7 @@ use Rattle.book_keys.specs.Filing.{AllKeyed, HasRoom, FiledRight}
 use Rattle.book_keys.proofs.Live.{keyed-at}
 use Rattle.ranking.specs.Sorting.{inOrder, goesBefore, frontInOrder}
 use Rattle.ranking.specs.Rank.{rankOfEntry, rankOf, startsInOrder, SortedRight}
-use Rattle.ranking.specs.Whole.{Holds, OrderRight}
+use Rattle.ranking.specs.Whole.{BookOf, OrderRight}
 use Rattle.ranking.proofs.Merges.{length-in-order}
 use Rattle.ranking.proofs.Keyed.{keyed-in-order}
 use Rattle.ranking.proofs.InOrder.{starts-in-order, starts-count, entry-there, none-there}
@@ -80,8 +80,8 @@ module _ {bytes : List ℕ} {live free : ℕ} (o : Opened bytes free) (answer : 
   pub live-fits : (starts : List ℕ) → live ≤ length starts → HasRoom bytes starts
   live-fits starts h list k = omega (arith, live-is, ap liveCount (only bytes (o .list) list (o .is-book) k))
 
-  holds : Holds bytes (o .list)
-  holds = record { free = free; is = opened-is bytes free o }
+  book-of : BookOf bytes (o .list)
+  book-of = record { free = free; is = opened-is bytes free o }
 
   in-order-count : length (startsInOrder (o .list)) ≡ live
   in-order-count = starts-count bytes (o .list) (o .is-book) ∙ sym live-is
@@ -89,13 +89,13 @@ module _ {bytes : List ℕ} {live free : ℕ} (o : Opened bytes free) (answer : 
   pub order-too-short : (starts : List ℕ) → length starts < live → OrderRight bytes starts starts (refuses 5 live)
   order-too-short starts h =
       subst (λ (n : ℕ). OrderRight bytes starts starts (refuses 5 n)) in-order-count
-      (too-short {thing = o .list} holds (omega (arith, in-order-count)) refl)
+      (too-short {thing = o .list} book-of (omega (arith, in-order-count)) refl)
 
   pub order-put : {starts-before starts : List ℕ} {count : ℕ} → SortedRight bytes starts-before starts count → live ≤ length starts-before
       → OrderRight bytes starts-before starts (accepts count)
   order-put {starts-before} {starts} {count} s h =
       let long : length (startsInOrder (o .list)) ≡ count = in-order-count ∙ live-is ∙ sym (s .live (o .list) (o .is-book)) in
       subst (λ (n : ℕ). OrderRight bytes starts-before starts (accepts n)) long
-      (put {thing = o .list} holds (omega (arith, in-order-count))
+      (put {thing = o .list} book-of (omega (arith, in-order-count))
       (sym (take-append-drop count starts) ∙ (λ i. s .ordered (o .list) (o .is-book) i ++ s .other-starts i)
       ∙ ap (λ (n : ℕ). startsInOrder (o .list) ++ drop n starts-before) (sym long)))

@@ -20,7 +20,7 @@ use Rattle.entries.proofs.Agree.{complete}
 use Rattle.lookup.specs.Outcome.{finds}
 use Rattle.book_keys.specs.Filing.{before}
 use Rattle.ranking.specs.Rank.{rankOfEntry, rankOf, startsInOrder, Among}
-use Rattle.ranking.specs.Whole.{NotABook, not-a-book, Holds, OrderRight}
+use Rattle.ranking.specs.Whole.{NotABook, not-a-book, BookOf, OrderRight}
 use Rattle.ranking.proofs.InOrder.{starts-count, entry-there}
 use Rattle.ranking.proofs.Laws.{rank-below, rank-of-each, rank-once}
 
@@ -28,19 +28,19 @@ module _ (bytes : List ℕ) where
   pub refused-alike : (n p m q : ℕ) → NotABook bytes n p → NotABook bytes m q → refuses n p ≡ refuses m q
   refused-alike n p m q (not-a-book e) (not-a-book f) = cc
 
-  pub held-once : (list other : List Entry) → Holds bytes list → Holds bytes other → list ≡ other
-  held-once list other h k =
+  pub book-once : (list other : List Entry) → BookOf bytes list → BookOf bytes other → list ≡ other
+  book-once list other h k =
       let e : book list (h .free) ≡ book other (k .free) = sym (h .is) ∙ k .is in
       cc
 
-  pub held-or-refused : (list : List Entry) (n p : ℕ) → Holds bytes list → NotABook bytes n p → ⊥
-  held-or-refused list n p h (not-a-book e) = let z : _≡_ {A = ℕ} 0 1 = cc (h .is) in omega arith
+  pub book-or-refused : (list : List Entry) (n p : ℕ) → BookOf bytes list → NotABook bytes n p → ⊥
+  book-or-refused list n p h (not-a-book e) = let z : _≡_ {A = ℕ} 0 1 = cc (h .is) in omega arith
 
   -- one answer only, with one list
   pub order-determined : (starts after final : List ℕ) (first second : Outcome) → OrderRight bytes starts after first → OrderRight bytes starts final second
       → Same first second after final
   order-determined starts after final first second p q =
-      writes-determined (NotABook bytes) (Holds bytes) startsInOrder (λ list. length (startsInOrder list)) refused-alike held-once held-or-refused
+      writes-determined (NotABook bytes) (BookOf bytes) startsInOrder (λ list. length (startsInOrder list)) refused-alike book-once book-or-refused
       starts after final first second p q
 
 module _ (bytes : List ℕ) (list : List Entry) (k : IsBook bytes list) (starts after : List ℕ) (count : ℕ)
@@ -53,7 +53,7 @@ module _ (bytes : List ℕ) (list : List Entry) (k : IsBook bytes list) (starts 
       go o e (refused r s) = let z : _≡_ {A = ℕ} 0 1 = cc in let y : ⊥ = omega arith in absurd y
       go o e (too-short h l s) = let z : _≡_ {A = ℕ} 0 1 = cc in let y : ⊥ = omega arith in absurd y
       go o e (put {thing = other} h l s) =
-          let same : other ≡ list = held-once bytes other list h (record { free = _; is = complete bytes list k }) in
+          let same : other ≡ list = book-once bytes other list h (record { free = _; is = complete bytes list k }) in
           let number : count ≡ length (startsInOrder other) = cc in (
             number ∙ ap (λ (x : List Entry). length (startsInOrder x)) same,
             s ∙ (λ i. startsInOrder (same i) ++ drop (sym number i) starts),

@@ -13,11 +13,11 @@ use Rattle.ranking.specs.Rank.{startsInOrder}
 pub data NotABook (bytes : List ℕ) : ℕ → ℕ → Type 0 where
   not-a-book : {place : ℕ} → entries bytes ≡ wrong place → NotABook bytes 11 place
 
--- the buffer is a book that holds these entries
-pub record Holds (bytes : List ℕ) (list : List Entry) : Type 0 where
+-- the buffer is a book of these entries
+pub record BookOf (bytes : List ℕ) (list : List Entry) : Type 0 where
   pub free : ℕ
   pub is : entries bytes ≡ book list free
 
 -- the promise of `order`, with the list as it was and as it is: the starts in order, and how many there are
 abbrev pub OrderRight : List ℕ → List ℕ → List ℕ → Outcome → Type 0
-OrderRight bytes = Writes (NotABook bytes) (Holds bytes) startsInOrder (λ list. length (startsInOrder list))
+OrderRight bytes = Writes (NotABook bytes) (BookOf bytes) startsInOrder (λ list. length (startsInOrder list))

@@ -34,7 +34,7 @@ use Rattle.wordbook.proofs.Laws.{remove-makes-book}
 -- one answer only, with one output
 pub word-determined : (bytes : List ℕ) (start : ℕ) (before after final : List ℕ) (first second : RecordWord) → WordRight bytes start before after first
     → WordRight bytes start before final second → (first ≡ second) × (after ≡ final)
-word-determined bytes start before after final first second p q = (p .told ∙ sym (q .told), p .output ∙ sym (q .output))
+word-determined bytes start before after final first second p q = (p .answer ∙ sym (q .answer), p .output ∙ sym (q .output))
 
 -- what is told where there is room: all of an entry, and its word at the front of the output
 abbrev pub TellsEntry : Entry → List ℕ → List ℕ → RecordWord → Type 0
@@ -66,7 +66,7 @@ module _ (bytes : List ℕ) (list : List Entry) (k : IsBook bytes list) (e : Ent
   pub entry-told : TellsEntry e before after answer
   entry-told =
       let fits = le-leb (length (e .word)) (length before) room in (
-        p .told ∙ ap (λ (x : Entries). wordOfRecord x start (length before)) (complete bytes list k)
+        p .answer ∙ ap (λ (x : Entries). wordOfRecord x start (length before)) (complete bytes list k)
             ∙ ap (λ (o : Option Entry). wordOfEntry o (length before)) starting ∙ pick-true (leb (length (e .word)) (length before)) _ _ fits,
         p .output ∙ ap (λ (x : Entries). outputOfRecord x start before) (complete bytes list k)
             ∙ ap (λ (o : Option Entry). outputOfEntry o before) starting ∙ pick-true (leb (length (e .word)) (length before)) _ _ fits,

@@ -69,7 +69,8 @@ returns-2 c =
     let live : eqb (getD b (s .args .at + 1) 0) 0x57 ≡ true =
     eq-eqb (getD b (s .args .at + 1) 0) 0x57 (mark-met (getD b (s .args .at) 0) _ 0x4D 0x57 _ (m .has-mark .ensures) (c .if2 .taken) .1) in
     told-whole b (s .args .at) (frame s) (w .wide .result) (w .wide .ensures .0) (now (s .args .output)) _ _ (v .before .before .if1 .left)
-    (v .copy-values .ensures) (ap (λ (n : ℕ). Live n (w .wide .result)) (t .stock-at .ensures) ∙ sym (pick-true (eqb (getD b (s .args .at + 1) 0) 0x57) _ _ live))
+    (v .copy-values .ensures)
+    (ap (λ (n : ℕ). Live n (w .wide .result)) (t .stock-at .ensures) ∙ sym (pick-true (eqb (getD b (s .args .at + 1) 0) 0x57) _ _ live))
 
 same-length-2 : tie.Need-same-length-2
 same-length-2 c = search needs
@@ -87,7 +88,8 @@ returns-3 c =
     ne-eqb (getD b (s .args .at + 1) 0) 0x57
     (λ live. mark-missed (getD b (s .args .at) 0) _ 0x4D 0x57 _ (m .has-mark .ensures) (c .if2 .left) (f .first) live) in
     told-whole b (s .args .at) f (w .wide .result) (w .wide .ensures .0) (now (s .args .output)) _ _ (v .before .before .if1 .left)
-    (v .copy-values .ensures) (ap (λ (n : ℕ). Removed n (w .wide .result)) (t .stock-at .ensures) ∙ sym (pick-false (eqb (getD b (s .args .at + 1) 0) 0x57) _ _ removed))
+    (v .copy-values .ensures)
+    (ap (λ (n : ℕ). Removed n (w .wide .result)) (t .stock-at .ensures) ∙ sym (pick-false (eqb (getD b (s .args .at + 1) 0) 0x57) _ _ removed))
 
 pub tell-record-spec : {M : Type 1} → statement M
 tell-record-spec =
