@@ -1,74 +1,73 @@
--- A pass over the records of a book: the word is not among those passed, so it looks up what it does in those ahead.
--- Assumes nothing.
+-- A pass over the records of a book that searches for the first entry of a kind: none of those passed is of it, so the search finds in the whole list
+-- what it finds among those ahead. Assumes nothing.
 use mathlib.Core.Path.{_≡_, refl, sym, ap, _∙_}
-use mathlib.Core.Bool.{true, false, _&&_}
-use mathlib.Core.List.{List, []}
-use mathlib.Core.Option.{Option, some}
+use mathlib.Core.Bool.{Bool, true, false, _&&_}
+use mathlib.Core.List.{List, [], _∷_}
+use mathlib.Core.Option.{Option, none, some}
 use Prim.Native.Nat.{ℕ, _+_, _≤_, _<_}
-use lib.Dec.{eqb}
 use lib.ListN.{getD}
 use Rattle.letters.specs.Choice.{pick}
 use Rattle.letters.proofs.Tests.{pick-true, pick-false}
 use Rattle.formula.proofs.Lists.{sameList}
-use Rattle.entries.specs.Entries.{Entry, wordAt, entryAt, Entries, book, entries}
-use Rattle.entries.specs.Book.{Opened}
+use Rattle.entries.specs.Entries.{Entry, entryAt, Entries, book, entries}
+use Rattle.entries.specs.Book.{IsBook, Opened}
 use Rattle.entries.specs.Map.{lookup}
-use Rattle.entries.proofs.Agree.{opened-is}
+use Rattle.entries.proofs.Agree.{only, opened-is}
 use Rattle.entries.proofs.Walk.{Walk, walk-start, Turn, turn, walk-end}
 use Rattle.lookup.specs.Look.{lookOfEntry, lookOf}
-use Rattle.lookup.specs.declared.look.Look.the-variants.{Live, Missing}
+
+-- a search gives the first entry that passes a test
+pub record Searches (test : Entry → Bool) (search : List Entry → Option Entry) : Type 0 where
+  pub nothing : search [] ≡ none
+  pub first : (entry : Entry) (list : List Entry) → search (entry ∷ list) ≡ pick (test entry) (some entry) (search list)
 
 -- at a place: what is ahead, behind what is seen
-pub record Ahead (b : List ℕ) (at free : ℕ) (w : List ℕ) : Type 0 where
+pub record Ahead (search : List Entry → Option Entry) (b : List ℕ) (at free : ℕ) : Type 0 where
   pub list : List Entry
   pub seen : List Entry
   pub rest : List Entry
   pub walk : Walk b at free list seen rest
-  pub is : entries b ≡ book list free
-  pub looks : lookup list w ≡ lookup rest w
+  pub same : search list ≡ search rest
 
-pub ahead-start : (b : List ℕ) (free : ℕ) (w : List ℕ) → Opened b free → Ahead b 0 free w
-ahead-start b free w o =
-    record {
-      list = o .list;
-      seen = [];
-      rest = o .list;
-      walk = walk-start b free o;
-      is = opened-is b free o;
-      looks = refl;
-    }
+pub ahead-start : (search : List Entry → Option Entry) (b : List ℕ) (free : ℕ) → Opened b free → Ahead search b 0 free
+ahead-start search b free o = record { list = o .list; seen = []; rest = o .list; walk = walk-start b free o; same = refl }
 
-module _ (b : List ℕ) (at free : ℕ) (w : List ℕ) (a : Ahead b at free w) where
-  pub at-record : at < free → Turn b at free (a .list) (a .seen) (a .rest)
-  at-record h = turn b at free (a .list) (a .seen) (a .rest) (a .walk) h
+pub at-record : (search : List Entry → Option Entry) (b : List ℕ) (at free : ℕ) (a : Ahead search b at free) → at < free
+    → Turn b at free (a .list) (a .seen) (a .rest)
+at-record search b at free a h = turn b at free (a .list) (a .seen) (a .rest) (a .walk) h
 
-  -- what a word looks up ahead, by the record at the place
+module _ {test : Entry → Bool} {search : List Entry → Option Entry} (s : Searches test search) (b : List ℕ) (at free : ℕ) (a : Ahead search b at free) where
+  -- what the search finds, by the record at the place
   module _ (t : Turn b at free (a .list) (a .seen) (a .rest)) where
-    ahead-looks : lookup (a .list) w ≡ pick (eqb (getD b (at + 1) 0) 0x57 && sameList (wordAt b at) w) (some (entryAt b at)) (lookup (t .behind) w)
-    unfolding lookup
-    ahead-looks =
-        a .looks ∙ ap (λ (l : List Entry). lookup l w) (t .first)
-        ∙ ap (λ (x : Entry). pick (x .live && sameList (x .word) w) (some x) (lookup (t .behind) w)) (sym (t .stands .is))
+    ahead-finds : search (a .list) ≡ pick (test (entryAt b at)) (some (entryAt b at)) (search (t .behind))
+    ahead-finds =
+        a .same ∙ ap search (t .first) ∙ s .first (t .entry) (t .behind)
+        ∙ ap (λ (x : Entry). pick (test x) (some x) (search (t .behind))) (sym (t .stands .is))
 
-    pub hit : eqb (getD b (at + 1) 0) 0x57 && sameList (wordAt b at) w ≡ true → lookOf (entries b) w ≡ Live at (entryAt b at .stock)
-    hit e =
-        ap (λ (y : Entries). lookOf y w) (a .is)
-        ∙ ap (λ (o : Option Entry). lookOfEntry o free) (ahead-looks ∙ pick-true (eqb (getD b (at + 1) 0) 0x57 && sameList (wordAt b at) w) _ _ e)
+    pub hit : test (entryAt b at) ≡ true → search (a .list) ≡ some (entryAt b at)
+    hit e = ahead-finds ∙ pick-true (test (entryAt b at)) _ _ e
 
-    pub miss : eqb (getD b (at + 1) 0) 0x57 && sameList (wordAt b at) w ≡ false → Ahead b (at + 7 + getD b (at + 2) 0) free w
+    pub miss : test (entryAt b at) ≡ false → Ahead search b (at + 7 + getD b (at + 2) 0) free
     miss e =
         record {
           list = a .list;
           seen = _;
           rest = t .behind;
           walk = t .stands .next;
-          is = a .is;
-          looks = ahead-looks ∙ pick-false (eqb (getD b (at + 1) 0) 0x57 && sameList (wordAt b at) w) _ _ e;
+          same = ahead-finds ∙ pick-false (test (entryAt b at)) _ _ e;
         }
 
-  pub done : free ≤ at → lookOf (entries b) w ≡ Missing free
-  unfolding lookup
-  done h =
-      ap (λ (y : Entries). lookOf y w) (a .is)
-      ∙ ap (λ (o : Option Entry). lookOfEntry o free) (a .looks ∙ ap (λ (l : List Entry). lookup l w)
-      (walk-end b at free (a .list) (a .seen) (a .rest) (a .walk) h))
+  pub done : free ≤ at → search (a .list) ≡ none
+  done h = a .same ∙ ap search (walk-end b at free (a .list) (a .seen) (a .rest) (a .walk) h) ∙ s .nothing
+
+-- a word looks up the first live entry that has it
+pub lookup-searches : (w : List ℕ) → Searches (λ e. e .live && sameList (e .word) w) (λ l. lookup l w)
+unfolding lookup
+lookup-searches w = record { nothing = refl; first = λ entry list. refl }
+
+-- what looking a word up tells, by what it looks up in the book's entries
+pub looked : (b : List ℕ) (free : ℕ) (w : List ℕ) (o : Opened b free) (list : List Entry) → IsBook b list → (x : Option Entry) → lookup list w ≡ x
+    → lookOf (entries b) w ≡ lookOfEntry x free
+looked b free w o list k x e =
+    ap (λ (y : Entries). lookOf y w) (opened-is b free o) ∙ ap (λ (l : List Entry). lookOf (book l free) w) (only b (o .list) list (o .is-book) k)
+    ∙ ap (λ (y : Option Entry). lookOfEntry y free) e

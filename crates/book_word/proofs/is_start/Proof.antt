@@ -4,15 +4,18 @@ use borrow.Author.Needs.{needs}
 use mathlib.Core.Path.{_≡_, sym, subst}
 use Prim.Native.Nat.{ℕ, _+_, _-_}
 use native.Mathlib.Omega.{arith}
+use borrow.Author.Tests.{ne-eqb}
 use lib.ListN.{getD}
 use denote.Ref.{now}
 use Rattle.entries.proofs.Walk.{Turn}
-use Rattle.book_word.proofs.Walk.{Ahead, ahead-start, at-record, hit, miss, done}
+use Rattle.lookup.proofs.Walk.{Ahead, ahead-start, at-record, miss}
+use Rattle.book_word.specs.WordAt.{entryStarting}
+use Rattle.book_word.proofs.Walk.{starting-searches, start-met, start-missed}
 use Rattle.book_word.proofs.is_start.Statement.{statement}
 use Rattle.book_word.proofs.is_start.Tie as tie
 
 abbrev Inv-loop : tie.InvT-loop
-Inv-loop book free start at₀ at = Ahead book at free start
+Inv-loop book free start at₀ at = Ahead (λ l. entryStarting l start) book at free
 
 abbrev μ-loop : tie.MeasureT-loop
 μ-loop book free start at₀ at = free - at
@@ -25,7 +28,7 @@ loop-holds : tie.Need-loop-holds Inv-loop μ-loop
 loop-holds c = ahead-start _ _ _ (c .before .pre)
 
 returns : tie.Need-returns Inv-loop μ-loop
-returns c = hit _ _ _ _ (c .before .before .loop .inv) (at-turn (c .before)) (c .if1 .taken)
+returns c = start-met _ _ _ _ (c .before .before .loop .inv) (at-turn (c .before)) (c .if1 .taken)
 
 add-wide : tie.Need-add-wide Inv-loop μ-loop
 add-wide c = let t = at-turn (c .before) in omega (arith, t .stands .frame .room, c .before .before .loop .inv .walk .is-book .short)
@@ -52,11 +55,12 @@ loop-again c =
     let a = c .before .before .before .before in
     let s = a .before .before .args in
     let e : a .loop .at + (7 + c .wide .result) ≡ a .loop .at + 7 + getD (now (s .book)) (a .loop .at + 2) 0 = omega (arith, c .wide .ensures .0) in
-    subst (λ (p : ℕ). Ahead (now (s .book)) p (s .free) (s .start)) (sym e)
-    (miss _ _ _ _ (a .loop .inv) (at-turn (c .before .before .before)) (c .before .before .if1 .left))
+    subst (λ (p : ℕ). Ahead (λ l. entryStarting l (s .start)) (now (s .book)) p (s .free)) (sym e)
+    (miss (starting-searches (s .start)) _ _ _ (a .loop .inv) (at-turn (c .before .before .before))
+    (ne-eqb (a .loop .at) (s .start) (c .before .before .if1 .left)))
 
 returns-2 : tie.Need-returns-2 Inv-loop μ-loop
-returns-2 c = done _ _ _ _ (c .before .loop .inv) (c .loop-test .left)
+returns-2 c = start-missed _ _ _ _ (c .before .loop .inv) (c .loop-test .left)
 
 pub is-start-spec : {M : Type 1} → statement M
 is-start-spec =

@@ -7,15 +7,16 @@ use Prim.Native.Nat.{ℕ, _+_, _-_}
 use native.Mathlib.Omega.{arith}
 use lib.ListN.{getD}
 use denote.Ref.{now}
+use Rattle.entries.specs.Map.{lookup}
 use Rattle.entries.proofs.Records.{framed-is}
 use Rattle.entries.proofs.Walk.{Turn, free-within}
 use Rattle.lookup.specs.declared.look.Look.the-variants.{Live}
-use Rattle.lookup.proofs.Walk.{Ahead, ahead-start, at-record, hit, miss, done}
+use Rattle.lookup.proofs.Walk.{Ahead, ahead-start, at-record, hit, miss, done, lookup-searches, looked}
 use Rattle.lookup.proofs.look.locate.Statement.{statement}
 use Rattle.lookup.proofs.look.locate.Tie as tie
 
 abbrev Inv-loop : tie.InvT-loop
-Inv-loop book free word at₀ at = Ahead book at free word
+Inv-loop book free word at₀ at = Ahead (λ l. lookup l word) book at free
 
 abbrev μ-loop : tie.MeasureT-loop
 μ-loop book free word at₀ at = free - at
@@ -37,11 +38,14 @@ stock-at-requires c κs =
 
 returns : tie.Need-returns Inv-loop μ-loop
 returns c =
+    let a = c .before .before .before .before in
+    let l = a .loop in
+    let s = a .before .before .before in
     let t = at-turn (c .before .before .before) in
-    let l = c .before .before .before .before .loop in
+    let w = now (s .args .word) in
+    let found = hit (lookup-searches w) _ _ _ (l .inv) t (sym (c .before .before .has-word .ensures) ∙ c .before .if1 .taken) in
     record {
-      answer = ap (Live (l .at)) (c .stock-at .ensures)
-          ∙ sym (hit _ _ _ _ (l .inv) t (sym (c .before .before .has-word .ensures) ∙ c .before .if1 .taken));
+      answer = ap (Live (l .at)) (c .stock-at .ensures) ∙ sym (looked _ _ w (s .pre) (l .inv .list) (l .inv .walk .is-book) _ found);
       within = record { short = l .inv .walk .is-book .short; room = omega (arith, t .stands .frame .room) };
     }
 
@@ -71,15 +75,17 @@ loop-again c =
     let s = a .before .before .before .args in
     let t = at-turn (c .before .before .before .before) in
     let e : a .loop .at + (7 + c .wide .result) ≡ a .loop .at + 7 + getD (now (s .book)) (a .loop .at + 2) 0 = omega (arith, c .wide .ensures .0) in
-    subst (λ (p : ℕ). Ahead (now (s .book)) p (s .free) (now (s .word))) (sym e)
-    (miss _ _ _ _ (a .loop .inv) t (sym (c .before .before .before .has-word .ensures) ∙ c .before .before .if1 .left))
+    subst (λ (p : ℕ). Ahead (λ l. lookup l (now (s .word))) (now (s .book)) p (s .free)) (sym e)
+    (miss (lookup-searches (now (s .word))) _ _ _ (a .loop .inv) t (sym (c .before .before .before .has-word .ensures) ∙ c .before .before .if1 .left))
 
 returns-2 : tie.Need-returns-2 Inv-loop μ-loop
 returns-2 c =
     let l = c .before .loop in
-    let o = c .before .before .before .before .pre in
+    let s = c .before .before .before .before in
+    let o = s .pre in
+    let w = now (s .args .word) in
     record {
-      answer = sym (done _ _ _ _ (l .inv) (c .loop-test .left));
+      answer = sym (looked _ _ w o (l .inv .list) (l .inv .walk .is-book) _ (done (lookup-searches w) _ _ _ (l .inv) (c .loop-test .left)));
       within = record { short = l .inv .walk .is-book .short; room = omega (arith, free-within _ _ o) };
     }
 
