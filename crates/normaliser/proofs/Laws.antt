@@ -1,23 +1,26 @@
 -- The three calls on one word agree: they speak of one stored form, and its typed places are as many.
 -- Assumes nothing.
-use mathlib.Core.Path.{_≡_, refl, ap, subst}
+use mathlib.Core.Path.{_≡_, refl, sym, ap, subst}
+use mathlib.Core.Bool.{Bool}
 use mathlib.Core.List.{List, [], _∷_}
 use mathlib.Core.Logic.{_⊎_, ⊎-elim}
 use mathlib.Core.Option.{none, some}
 use Prim.Native.Nat.{ℕ, zero, suc, _+_, _≤_, _<_}
+use native.Mathlib.Decide.{ℕ-discrete}
 use native.Mathlib.Omega.{arith}
 use lib.Dec.{eqb}
 use lib.ListN.{length, getD, getElem?}
-use borrow.Author.Tests.{eq-eqb}
+use borrow.Author.Tests.{eq-eqb, ne-eqb}
+use Rattle.letters.specs.Weights.{bitIf}
 use Rattle.letters.specs.Counting.{upFrom, count}
 use Rattle.formula.specs.Row.{Row, Gives}
 use Rattle.refusals.specs.Outcome.{Outcome, accepts, refuses}
 use Rattle.refusals.specs.Output.{refused, put, too-short}
 use Rattle.refusals.proofs.Determined.{Same}
-use Rattle.recogniser.specs.Answer.{too-long, foreign, no-continuation, unfinished}
+use Rattle.recogniser.specs.Answer.{Admissible, too-long, foreign, no-continuation, unfinished}
 use Rattle.storage.specs.Stored.{storedForm}
 use Rattle.typed_places.specs.Typed.{typedAt, typedPlaces, StandsFor}
-use Rattle.typed_places.proofs.Laws.{typed-values, typed-within, StandsOnce, once, taken-up, typed-once, row-typed}
+use Rattle.typed_places.proofs.Laws.{typed-values, typed-within, TakenUp, StandsOnce, once, taken-up, typed-once, row-typed}
 use Rattle.normaliser.specs.Admission.{too-long as word-too-long, foreign as word-foreign}
 use Rattle.normaliser.specs.Normal.{StoreRefusedWith, unadmitted, outcome, NormaliseRight}
 use Rattle.normaliser.specs.Form.{FormRight}
@@ -39,6 +42,15 @@ counted-at : (list : List ℕ) (q p : ℕ) → getElem? list q ≡ some p → 1 
 counted-at [] q p e = let z : _≡_ {A = ℕ} 0 1 = cc in let y : ⊥ = omega arith in absurd y
 counted-at (x ∷ list) zero p e = let same : p ≡ x = cc in rw (eq-eqb p x same) (omega arith)
 counted-at (x ∷ list) (suc q) p e = omega (arith, counted-at list q p e)
+
+-- where something that is counted stands
+found-at : (list : List ℕ) (p : ℕ) → 1 ≤ count (eqb p) list → (q : ℕ) × (getElem? list q ≡ some p)
+found-at [] p h = let z : ⊥ = omega arith in absurd z
+found-at (x ∷ list) p h = go (ℕ-discrete p x) (found-at list p)
+  where
+    go : Dec (p ≡ x) → (1 ≤ count (eqb p) list → (q : ℕ) × (getElem? list q ≡ some p)) → (q : ℕ) × (getElem? (x ∷ list) q ≡ some p)
+    go (yes same) later = (0, ap some (sym same))
+    go (no other) later = let r = later (omega (arith, ap (λ (b : Bool). bitIf b 1) (ne-eqb p x other))) in (suc (r .0), r .1)
 
 once-at : (list : List ℕ) (q r p : ℕ) → count (eqb p) list ≤ 1 → getElem? list q ≡ some p → getElem? list r ≡ some p → q ≡ r
 once-at [] q r p h e f = let z : _≡_ {A = ℕ} 0 1 = cc in let y : ⊥ = omega arith in absurd y
@@ -114,6 +126,18 @@ module _ (word : List ℕ) where
   pub typed-apart : (q r p : ℕ) → HasPlace word q p → HasPlace word r p → q ≡ r
   typed-apart q r p t u =
       once-at (typedPlaces word) q r p (few p (typed-once word p (typed-within word q p (t .typed)))) (t .typed) (u .typed)
+
+  -- each typed value is pointed at, but for a 102E that a 1025 takes up
+  pub data Pointed (p : ℕ) : Type 0 where
+    pointed : (place : ℕ) → HasPlace word place p → Pointed p
+    in-another : TakenUp word p (typedPlaces word) (storedForm word) → Pointed p
+
+  pub typed-each : Admissible word → (p : ℕ) → p < length word → Pointed p
+  typed-each a p h = go (typed-once word p h)
+    where
+      go : StandsOnce word p → Pointed p
+      go (once e) = let r = found-at (typedPlaces word) p (omega arith) in pointed (r .0) (record { admissible = a; typed = r .1 })
+      go (taken-up e t) = in-another t
 
   -- in a row of syllables each value stands where it was typed
   pub row-placed : (row : Row) → Gives row word → (place p : ℕ) → HasPlace word place p → p ≡ place

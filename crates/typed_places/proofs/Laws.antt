@@ -1,4 +1,5 @@
--- What typed places come to: rule 2 over places leaves out what rule 2 over values takes up, so both go pairwise; and no place is left out but that of a 102E.
+-- What typed places come to: rule 2 over places leaves out what rule 2 over values takes up, so both go pairwise; and no place is left out but that of a 102E
+-- that a 1025 takes up.
 -- Assumes nothing.
 use mathlib.Core.Path.{_≡_, refl, sym, ap, subst, _∙_}
 use mathlib.Core.Bool.{Bool, true, false}
@@ -11,6 +12,7 @@ use lib.Dec.{T, eqb, eqb→eq, ltb, ltb→lt}
 use lib.ListN.{length, getD, getElem?}
 use borrow.Author.Tests.{ne-eqb}
 use Rattle.letters.specs.Choice.{pick}
+use Rattle.letters.specs.Weights.{bitIf}
 use Rattle.letters.specs.Counting.{upFrom, count}
 use Rattle.formula.specs.Row.{Row, Gives}
 use Rattle.formula.proofs.Lists.{every, both, both-left, both-right}
@@ -131,7 +133,7 @@ module _ (word : List ℕ) where
       go (x ∷ list) zero f h = let z : ⊥ = omega (arith, f x refl) in absurd z
       go (x ∷ list) (suc k) f h = go list k f h
 
-  -- a place stands as often as before, but for that of a 102E, which may be left out
+  -- no place stands more often than before
   compose-fewer : (f : ℕ → Bool) (places : List ℕ) → count f (composePlaces word places) ≤ count f places
   unfolding pick
   compose-fewer f [] = omega arith
@@ -143,46 +145,73 @@ module _ (word : List ℕ) where
       go true short long = omega arith
       go false short long = omega arith
 
-  taken-value : (x y : ℕ) → makesLongVowel x y ≡ true → y ≡ 0x102E
+  -- of a pair that rule 2 joins, the first is a 1025 and the second a 102E
+  joined-pair : (x y : ℕ) → makesLongVowel x y ≡ true → (x ≡ 0x1025) × (y ≡ 0x102E)
   unfolding makesLongVowel
-  taken-value x y e = eqb→eq y 0x102E (both-right (eqb x 0x1025) (eqb y 0x102E) (subst T (sym e) tt))
+  joined-pair x y e =
+      let t : T (makesLongVowel x y) = subst T (sym e) tt in
+      (eqb→eq x 0x1025 (both-left (eqb x 0x1025) (eqb y 0x102E) t), eqb→eq y 0x102E (both-right (eqb x 0x1025) (eqb y 0x102E) t))
 
-  compose-keeps : (r : ℕ) → (typedAt word r ≡ 0x102E → ⊥) → (places : List ℕ) → count (eqb r) (composePlaces word places) ≡ count (eqb r) places
+  -- a 102E was typed at r, and a 1025 takes it up, which stands among the values as a 1026
+  pub record TakenUp (r : ℕ) (places values : List ℕ) : Type 0 where
+    pub mark : typedAt word r ≡ 0x102E
+    pub by : ℕ
+    pub within : by < length values
+    pub vowel : typedAt word (getD places by 0) ≡ 0x1025
+    pub long : getD values by 0 ≡ 0x1026
+
+  later : (r p x : ℕ) (places values : List ℕ) → TakenUp r places values → TakenUp r (p ∷ places) (x ∷ values)
+  later r p x places values t =
+      let w = t .within in
+      record { mark = t .mark; by = suc (t .by); within = omega arith; vowel = t .vowel; long = t .long }
+
+  -- a place that rule 2 leaves out is taken up
+  left-out : (r : ℕ) (places : List ℕ) → 1 ≤ count (eqb r) places → count (eqb r) (composePlaces word places) ≡ 0
+      → TakenUp r (composePlaces word places) (compose (map (typedAt word) places))
   unfolding pick
-  compose-keeps r n [] = refl
-  compose-keeps r n (p ∷ []) = refl
-  compose-keeps r n (p ∷ q ∷ places) =
-      go (makesLongVowel (typedAt word p) (typedAt word q)) refl (compose-keeps r n places) (compose-keeps r n (q ∷ places))
+  left-out r [] held gone = let z : ⊥ = omega arith in absurd z
+  left-out r (p ∷ []) held gone = let z : ⊥ = omega arith in absurd z
+  left-out r (p ∷ q ∷ places) held gone =
+      go (makesLongVowel (typedAt word p) (typedAt word q)) refl (left-out r places) (left-out r (q ∷ places)) gone
     where
-      other : makesLongVowel (typedAt word p) (typedAt word q) ≡ true → eqb r q ≡ false
-      other e = ne-eqb r q (λ s. n (ap (typedAt word) s ∙ taken-value (typedAt word p) (typedAt word q) e))
+      go : (b : Bool) → makesLongVowel (typedAt word p) (typedAt word q) ≡ b
+          → (1 ≤ count (eqb r) places → count (eqb r) (composePlaces word places) ≡ 0
+          → TakenUp r (composePlaces word places) (compose (map (typedAt word) places)))
+          → (1 ≤ count (eqb r) (q ∷ places) → count (eqb r) (composePlaces word (q ∷ places)) ≡ 0
+          → TakenUp r (composePlaces word (q ∷ places)) (compose (map (typedAt word) (q ∷ places))))
+          → count (eqb r) (pick b (p ∷ composePlaces word places) (p ∷ composePlaces word (q ∷ places))) ≡ 0
+          → TakenUp r (pick b (p ∷ composePlaces word places) (p ∷ composePlaces word (q ∷ places)))
+          (pick b (0x1026 ∷ compose (map (typedAt word) places))
+          (pick (makesLetter (typedAt word p) (typedAt word q)) 0x1009 (typedAt word p) ∷ compose (map (typedAt word) (q ∷ places))))
+      go true e short long gone = here (ℕ-discrete r q)
+        where
+          here : Dec (r ≡ q) → TakenUp r (p ∷ composePlaces word places) (0x1026 ∷ compose (map (typedAt word) places))
+          here (yes same) =
+              let pair = joined-pair (typedAt word p) (typedAt word q) e in
+              record { mark = ap (typedAt word) same ∙ pair .1; by = 0; within = omega arith; vowel = pair .0; long = refl }
+          here (no other) =
+              let apart : eqb r q ≡ false = ne-eqb r q other in
+              later r p 0x1026 (composePlaces word places) (compose (map (typedAt word) places))
+              (short (omega (arith, ap (λ (b : Bool). bitIf b 1) apart)) (omega arith))
+      go false e short long gone =
+          later r p _ (composePlaces word (q ∷ places)) (compose (map (typedAt word) (q ∷ places))) (long (omega arith) (omega arith))
 
-      go : (b : Bool) → makesLongVowel (typedAt word p) (typedAt word q) ≡ b → count (eqb r) (composePlaces word places) ≡ count (eqb r) places
-          → count (eqb r) (composePlaces word (q ∷ places)) ≡ count (eqb r) (q ∷ places)
-          → count (eqb r) (pick b (p ∷ composePlaces word places) (p ∷ composePlaces word (q ∷ places))) ≡ count (eqb r) (p ∷ q ∷ places)
-      go true e short long = rw (other e) (omega arith)
-      go false e short long = omega arith
-
-  -- each place of the word stands once, or it stands nowhere and a 102E was typed there
+  -- each place of the word stands once, or it stands nowhere and is taken up
   pub data StandsOnce (p : ℕ) : Type 0 where
     once : count (eqb p) (typedPlaces word) ≡ 1 → StandsOnce p
-    taken-up : count (eqb p) (typedPlaces word) ≡ 0 → typedAt word p ≡ 0x102E → StandsOnce p
+    taken-up : count (eqb p) (typedPlaces word) ≡ 0 → TakenUp p (typedPlaces word) (storedForm word) → StandsOnce p
 
   pub typed-once : (p : ℕ) → p < length word → StandsOnce p
-  unfolding typedPlaces
-  typed-once p h = go (ℕ-discrete (typedAt word p) 0x102E)
+  unfolding typedPlaces storedForm
+  typed-once p h = either (count (eqb p) (typedPlaces word)) refl
     where
-      fewer : count (eqb p) (typedPlaces word) ≤ 1
-      fewer = omega (arith, compose-fewer (eqb p) (sortedPlaces word), sorted-once word p h)
-
-      either : (n : ℕ) → count (eqb p) (typedPlaces word) ≡ n → n ≤ 1 → typedAt word p ≡ 0x102E → StandsOnce p
-      either zero e l s = taken-up e s
-      either (suc zero) e l s = once e
-      either (suc (suc n)) e l s = let z : ⊥ = omega arith in absurd z
-
-      go : Dec (typedAt word p ≡ 0x102E) → StandsOnce p
-      go (yes s) = either (count (eqb p) (typedPlaces word)) refl fewer s
-      go (no n) = once (compose-keeps p n (sortedPlaces word) ∙ sorted-once word p h)
+      either : (n : ℕ) → count (eqb p) (typedPlaces word) ≡ n → StandsOnce p
+      either zero e =
+          taken-up e
+          (subst (λ (l : List ℕ). TakenUp p (typedPlaces word) (compose l)) (sorted-values word)
+          (left-out p (sortedPlaces word) (omega (arith, sorted-once word p h)) e))
+      either (suc zero) e = once e
+      either (suc (suc n)) e = let z : ⊥ = omega (arith, compose-fewer (eqb p) (sortedPlaces word), sorted-once word p h) in absurd z
 
   -- where each value stands before the next, so do the places
   sort-settled : (places : List ℕ) → Settled (map (typedAt word) places) → sortRunsBy (typedAt word) places ≡ places
