@@ -1,8 +1,8 @@
 //! The words that the scope document names, and the order of its tests.
 
 use jogcairn::{
-    compare, decode, key_into, normalise, part, read, spell_into, write, Book, Key, Reason,
-    Refusal, Which, Word, KEY_SIZE, WORD_LIMIT,
+    compare, decode, key_into, normalise, part, read, spell_into, stored_form, typed_place, write,
+    Book, Key, Reason, Refusal, Told, Which, Word, BOOK_LIMIT, KEY_SIZE, WORD_LIMIT,
 };
 use std::cmp::Ordering;
 
@@ -130,4 +130,59 @@ fn a_book_is_kept_through_its_calls() {
     assert_eq!(stocks(&book), [1]);
     assert_eq!(book.add(&[0x1000], 4), Ok(18));
     assert_eq!(bytes, *b"MW\x02\x01\0\0\0\x00\x2CM-\x02\x02\0\0\0\x00\x2BMW\x01\x04\0\0\0\x00");
+}
+
+/// A book of 16,384 bytes with all words of one and two letters from 1000 to 1020.
+fn long_book() -> Vec<u8> {
+    let mut bytes = vec![0; BOOK_LIMIT];
+    let mut book = Book::new(&mut bytes);
+    for number in 0..33 * 34 {
+        let (first, next) = (0x1000 + number % 33, 0x0FFF + number / 33);
+        let word = if next < 0x1000 { vec![first] } else { vec![first, next] };
+        book.add(&word, 7).unwrap();
+    }
+    bytes
+}
+
+#[test]
+fn a_thread_with_little_stack_lists_a_long_book() {
+    let listing = std::thread::Builder::new().stack_size(128 * 1024).spawn(|| {
+        let mut bytes = long_book();
+        let book = Book::new(&mut bytes);
+        let order = book.order().unwrap();
+        let last = book.rank(order.len() - 1).unwrap();
+        (order.len(), book.check().unwrap(), usize::from(order[order.len() - 1]) == last.start)
+    });
+    let (ordered, live, same) = listing.unwrap().join().unwrap();
+    assert_eq!(ordered, live);
+    assert!(same && live > 1_000);
+}
+
+#[test]
+fn a_refused_word_is_pointed_at_as_it_was_typed() {
+    let typed = [0x1015, 0x102F, 0x102D, 0x1000, 0x1037, 0x1038, 0x103A];
+    let stored = [0x1015, 0x102D, 0x102F, 0x1000, 0x103A, 0x1037, 0x1038];
+    assert_eq!(refused(normalise(&typed)), (3, 6));
+    assert_eq!(stored_form(&typed).unwrap(), stored);
+    assert_eq!(typed_place(&typed, 6).unwrap(), Some(5));
+    let places: Vec<usize> = (0..).map_while(|at| typed_place(&typed, at).unwrap()).collect();
+    assert_eq!(places, [0, 2, 1, 3, 6, 4, 5]);
+    assert_eq!(refused(typed_place(&[0x1000, 0x1022], 0)), (2, 1));
+    assert_eq!(refused(stored_form(&[0x1000; 65])), (1, 64));
+}
+
+#[test]
+fn every_record_of_a_book_is_told_by_its_start() {
+    let mut bytes = [0; 40];
+    let mut book = Book::new(&mut bytes);
+    book.add(&[0x1015, 0x102B], 1).unwrap();
+    book.add(&[0x1000], 2).unwrap();
+    book.remove(&[0x1015, 0x102B]).unwrap();
+    let told: Vec<_> =
+        (0..41).filter_map(|at| book.word_at(at).unwrap().map(|it| (at, it))).collect();
+    let removed = (0, (vec![0x1015, 0x102B], Told { stock: 1, count: 2, live: false }));
+    let live = (9, (vec![0x1000], Told { stock: 2, count: 1, live: true }));
+    assert_eq!(told, [removed, live]);
+    let listed: Result<Vec<_>, Refusal> = book.into_iter().collect();
+    assert_eq!(listed.unwrap().iter().map(|entry| entry.start()).collect::<Vec<_>>(), [9]);
 }
