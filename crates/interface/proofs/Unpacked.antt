@@ -20,7 +20,7 @@ use Rattle.ranking.specs.Whole.{OrderRight}
 use Rattle.book_word.specs.WordAt.{WordRight}
 use Rattle.wordbook.specs.Calls.{AddPromise, RemovePromise}
 use Rattle.packing.specs.Packing.{pack, unpack, Packed}
-use Rattle.packing.specs.Answers.{outcomeNumbers, bytesNumbers, RecordGivenRight, recordNumbers, compareNumbers, recordWordNumbers, FindAnswers}
+use Rattle.packing.specs.Answers.{outcomeNumbers, bytesNumbers, RecordGivenRight, recordNumbers, compareNumbers, FindAnswers}
 use Rattle.packing.proofs.Laws.{unpack-pack, packed-unpacked, RecordBits, record-bits}
 use Rattle.packing.proofs.WordFits.{read-fits, record-fits, record-small, part-fits, normalise-fits, form-fits, typed-fits, write-fits, spell-fits, compare-fits}
 use Rattle.packing.proofs.BookFits.{check-fits, rank-fits, order-fits, record-word-fits, find-fits, add-fits, remove-fits}
@@ -76,10 +76,10 @@ module _ (book : List ℕ) (small : Bytes book) (n : ℕ) where
   pub order-unpacked : (before after : List ℕ) (p : Packed (OrderRight book before after) outcomeNumbers n) → unpack n ≡ outcomeNumbers (p .outcome)
   order-unpacked before after p = packed-unpacked (OrderRight book before after) outcomeNumbers (order-fits book small before after) n p
 
-  pub record-word-unpacked : (start : ℕ) (before after : List ℕ) (p : Packed (WordRight book start before after) recordWordNumbers n)
-      → unpack n ≡ recordWordNumbers (p .outcome)
+  pub record-word-unpacked : (start : ℕ) (before after : List ℕ) (p : Packed (WordRight book start before after) outcomeNumbers n)
+      → unpack n ≡ outcomeNumbers (p .outcome)
   record-word-unpacked start before after p =
-      packed-unpacked (WordRight book start before after) recordWordNumbers (record-word-fits book small start before after) n p
+      packed-unpacked (WordRight book start before after) outcomeNumbers (record-word-fits book small start before after) n p
 
   pub find-unpacked : (word : List ℕ) (p : Packed (FindAnswers book word) outcomeNumbers n) → unpack n ≡ outcomeNumbers (p .outcome)
   find-unpacked word p = packed-unpacked (FindAnswers book word) outcomeNumbers (find-fits book small word) n p

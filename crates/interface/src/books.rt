@@ -7,7 +7,7 @@ ghost use Rattle.ranking.specs.Whole.{OrderRight};
 ghost use Rattle.book_word.specs.WordAt.{WordRight};
 ghost use Rattle.wordbook.specs.Calls.{AddPromise, RemovePromise};
 ghost use Rattle.packing.specs.Packing.{pack, Packed};
-ghost use Rattle.packing.specs.Answers.{outcomeNumbers, recordWordNumbers, FindAnswers};
+ghost use Rattle.packing.specs.Answers.{outcomeNumbers, FindAnswers};
 
 // Whether the buffer is a book.
 #[no_mangle]
@@ -38,7 +38,7 @@ pub extern "C" fn jogcairn_book_remove(book: &mut [u8], word: &[u16]) -> u64
 pub extern "C" fn jogcairn_book_find(book: &[u8], word: &[u16]) -> u64
     ensures { λ r. ⌜ Packed (FindAnswers (now (book .entry)) (now (word .entry))) outcomeNumbers r ⌝ }
 {
-    packing::of_found(wordbook::find(book, word))
+    packing::of_reply(wordbook::find(book, word))
 }
 
 // Stock number and start of the live record with `rank` live records before it in word order.
@@ -46,7 +46,7 @@ pub extern "C" fn jogcairn_book_find(book: &[u8], word: &[u16]) -> u64
 pub extern "C" fn jogcairn_book_rank(book: &[u8], rank: usize) -> u64
     ensures { λ r. ⌜ r ≡ pack (outcomeNumbers (rankOf (entries (now (book .entry))) rank)) ⌝ }
 {
-    packing::of_found(wordbook::rank(book, rank))
+    packing::of_reply(wordbook::rank(book, rank))
 }
 
 // Writes the starts of all live records, in word order.
@@ -60,7 +60,7 @@ pub extern "C" fn jogcairn_book_order(book: &[u8], starts: &mut [u16]) -> u64
 // Writes the word of the record that starts at `start`, and tells its stock number, its length and whether it is live.
 #[no_mangle]
 pub extern "C" fn jogcairn_book_word(book: &[u8], start: usize, word: &mut [u16]) -> u64
-    ensures { λ r. ⌜ Packed (WordRight (now (book .entry)) start (now (word .entry)) (now (word .exit))) recordWordNumbers r ⌝ }
+    ensures { λ r. ⌜ Packed (WordRight (now (book .entry)) start (now (word .entry)) (now (word .exit))) outcomeNumbers r ⌝ }
 {
-    packing::of_record_word(wordbook::word_at(book, start, word))
+    packing::of_reply(wordbook::word_at(book, start, word))
 }

@@ -35,7 +35,7 @@ pub extern "C" fn jogcairn_record(word: &[u16], number: usize) -> u64
 pub extern "C" fn jogcairn_part(word: &[u16], number: usize) -> u64
     ensures { λ r. ⌜ Packed (PartAnswers (now (word .entry)) number) outcomeNumbers r ⌝ }
 {
-    packing::of_part(reading::parts::part_place(word, number))
+    packing::of_reply(reading::parts::part_place(word, number))
 }
 
 // Writes a word's spelled syllables and where each begins.
@@ -45,7 +45,7 @@ pub extern "C" fn jogcairn_spell(word: &[u16], values: &mut [u16], starts: &mut 
         (SpellRight (now (word .entry)) (lists (now (values .entry)) (now (starts .entry))) (lists (now (values .exit)) (now (starts .exit))))
         outcomeNumbers r ⌝ }
 {
-    packing::of_spelling(spelling::spell(word, values, starts))
+    packing::of_reply(spelling::spell(word, values, starts))
 }
 
 // Writes the word of records, seven bytes a syllable.
@@ -77,7 +77,7 @@ pub extern "C" fn jogcairn_stored_form(word: &[u16], output: &mut [u16]) -> u64
 pub extern "C" fn jogcairn_typed_place(word: &[u16], place: usize) -> u64
     ensures { λ r. ⌜ Packed (TypedAnswers (now (word .entry)) place) outcomeNumbers r ⌝ }
 {
-    packing::of_typed_place(normaliser::typed::typed_place(word, place))
+    packing::of_reply(normaliser::typed::typed_place(word, place))
 }
 
 // Writes the collation key of a word.

@@ -1,4 +1,3 @@
 pub mod Words
 pub mod Walk
 pub mod Plans
-pub mod Answers

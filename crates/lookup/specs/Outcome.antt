@@ -7,20 +7,13 @@ use lib.Dec.{leb}
 use lib.ListN.{length}
 use Rattle.entries.specs.Limits.{headSize}
 use Rattle.letters.specs.Choice.{pick}
-use Rattle.refusals.specs.Refusal.{numberOf, placeOf}
 use Rattle.refusals.specs.Outcome.{Outcome, accepts, accepts-both, refuses}
 use Rattle.entries.specs.Entries.{Entry, Entries, book, wrong}
 use Rattle.entries.specs.Map.{liveCount, lookup}
-use Rattle.lookup.specs.declared.plan.Found.{Found}
-use Rattle.lookup.specs.declared.plan.Found.the-variants as found
 
 -- a record is told by its stock number and its start
 abbrev pub finds : ℕ → ℕ → Outcome
 finds start stock = accepts-both stock start
-
-abbrev pub foundOutcome : Found → Outcome
-foundOutcome (found.Entry start stock) = finds start stock
-foundOutcome (found.Refused refusal) = refuses (numberOf refusal) (placeOf refusal)
 
 -- check: "not a book", or the live count
 abbrev pub checkOf : Entries → Outcome

@@ -4,28 +4,23 @@ use crate::look::look_up;
 use book_frame::HEAD;
 use refusals::Counted;
 use refusals::Refusal;
+use refusals::Reply;
 ghost use mathlib.Core.Path.{_≡_};
 ghost use lib.ListN.{length};
-ghost use Rattle.refusals.specs.Outcome.{outcomeOf};
+ghost use Rattle.refusals.specs.Outcome.{outcomeOf, replyOutcome};
 ghost use Rattle.entries.specs.Entries.{entries};
 ghost use Rattle.entries.specs.Change.{Storable};
-ghost use Rattle.lookup.specs.Outcome.{foundOutcome, findOf, addOf, removeOf};
+ghost use Rattle.lookup.specs.Outcome.{findOf, addOf, removeOf};
 ghost use Rattle.lookup.specs.Look.{PlacedRight};
 
-// The answer of find.
-pub enum Found {
-    Entry { start: usize, stock: u32 },
-    Refused(Refusal),
-}
-
-// Start and stock number of the live record with the word.
-pub fn find(book: &[u8], word: &[u16]) -> Found
-    ensures { λ r. ⌜ foundOutcome r ≡ findOf (entries (now (book .entry))) (now (word .entry)) ⌝ }
+// Stock number and start of the live record with the word.
+pub fn find(book: &[u8], word: &[u16]) -> Reply
+    ensures { λ r. ⌜ replyOutcome r ≡ findOf (entries (now (book .entry))) (now (word .entry)) ⌝ }
 {
     match look_up(book, word) {
-        Look::Wrong(place) => Found::Refused(Refusal::NotABook(place)),
-        Look::Live { start, stock } => Found::Entry { start, stock },
-        Look::Missing { free: _ } => Found::Refused(Refusal::NotLive),
+        Look::Wrong(place) => Reply::Refused(Refusal::NotABook(place)),
+        Look::Live { start, stock } => Reply::Two(stock as usize, start),
+        Look::Missing { free: _ } => Reply::Refused(Refusal::NotLive),
     }
 }
 

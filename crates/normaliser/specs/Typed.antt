@@ -5,19 +5,10 @@ use mathlib.Core.List.{List}
 use mathlib.Core.Option.{none, some}
 use Prim.Native.Nat.{ℕ}
 use lib.ListN.{getElem?}
-use Rattle.refusals.specs.Refusal.{numberOf, placeOf}
 use Rattle.refusals.specs.Outcome.{Outcome, accepts, accepts-both, absent, refuses}
 use Rattle.recogniser.specs.Answer.{Admissible}
 use Rattle.typed_places.specs.Typed.{typedPlaces}
 use Rattle.normaliser.specs.Admission.{Unadmitted}
-use Rattle.normaliser.specs.declared.typed.TypedPlace.{TypedPlace}
-use Rattle.normaliser.specs.declared.typed.TypedPlace.the-variants.{At, NoPlace, Refused}
-
--- a place, none, or a refusal
-abbrev pub typedOutcomeOf : TypedPlace → Outcome
-typedOutcomeOf (At p) = accepts p
-typedOutcomeOf NoPlace = absent
-typedOutcomeOf (Refused r) = refuses (numberOf r) (placeOf r)
 
 -- the value at a place of the stored form was typed at p
 pub record HasPlace (word : List ℕ) (place p : ℕ) : Type 0 where
@@ -29,7 +20,7 @@ pub record HasNoPlace (word : List ℕ) (place : ℕ) : Type 0 where
   pub admissible : Admissible word
   pub nothing : getElem? (typedPlaces word) place ≡ none
 
--- the promise of a typed place
+-- the promise of a typed place: a place, none, or a refusal
 abbrev pub TypedAnswers : List ℕ → ℕ → Outcome → Type 0
 TypedAnswers word place (accepts p) = HasPlace word place p
 TypedAnswers word place (accepts-both n m) = ⊥

@@ -15,8 +15,7 @@ use Rattle.letters.specs.Choice.{pick}
 use Rattle.letters.proofs.Tests.{is-true}
 use Rattle.formula.proofs.Lists.{sameList, both-left}
 use Rattle.formula.specs.Limits.{limit}
-use Rattle.refusals.specs.Outcome.{Outcome, accepts, refuses}
-use Rattle.refusals.specs.declared.Refusal.the-variants.{OutputTooShort}
+use Rattle.refusals.specs.Outcome.{Outcome, accepts, accepts-both, refuses}
 use Rattle.storage.specs.Stored.{storedForm}
 use Rattle.entries.specs.Limits.{bookLimit}
 use Rattle.entries.specs.Entries.{Entry, entryAt, isFramed, mayFollow, Entries, book, wrong, zeroTail, entriesFrom, entries}
@@ -30,12 +29,10 @@ use Rattle.ranking.specs.Rank.{startsInOrder, rankOf, Among}
 use Rattle.ranking.specs.Whole.{NotABook, not-a-book, BookOf, OrderRight}
 use Rattle.ranking.proofs.InOrder.{starts-count}
 use Rattle.ranking.proofs.Laws.{rank-below, rank-too-high, rank-of-no-book}
-use Rattle.book_word.specs.WordAt.{entryStarting, wordOfEntry, wordOfRecord, WordRight}
-use Rattle.book_word.specs.declared.RecordWord.{RecordWord}
-use Rattle.book_word.specs.declared.RecordWord.the-variants.{Live, Removed, Refused}
+use Rattle.book_word.specs.WordAt.{entryStarting, markedCount, wordOfEntry, wordOfRecord, WordRight}
 use Rattle.wordbook.specs.Calls.{WordRefused, empty, refused, CallAnswers, word-refused, word-stored, AddPromise, RemovePromise}
 use Rattle.packing.specs.Packing.{Fits}
-use Rattle.packing.specs.Answers.{outcomeNumbers, FindAnswers, recordWordNumbers}
+use Rattle.packing.specs.Answers.{outcomeNumbers, FindAnswers}
 use Rattle.packing.proofs.WordFits.{small-fits, store-refused-small, writes-fits}
 
 -- the first wrong place is at most n
@@ -187,7 +184,7 @@ module _ (bytes word : List ℕ) where
   add-by room (wrong place) b s = wrong-fits place b
 
 -- what is told of an entry that can be held: its stock number has four bytes, and its word is no longer than a word may be
-told-fits : (room : ℕ) (entry : Entry) → GoodEntry entry → Fits (recordWordNumbers (wordOfEntry (some entry) room))
+told-fits : (room : ℕ) (entry : Entry) → GoodEntry entry → Fits (outcomeNumbers (wordOfEntry (some entry) room))
 unfolding pick
 told-fits room entry good = go (leb (length (entry .word)) room) (entry .live)
   where
@@ -195,7 +192,7 @@ told-fits room entry good = go (leb (length (entry .word)) room) (entry .live)
     few = good .readable .admissible .short
 
     go : (fits live : Bool)
-        → Fits (recordWordNumbers (pick fits (pick live (Live (entry .stock) (length (entry .word))) (Removed (entry .stock) (length (entry .word)))) (Refused (OutputTooShort (length (entry .word))))))
+        → Fits (outcomeNumbers (pick fits (accepts-both (entry .stock) (markedCount live (length (entry .word)))) (refuses 5 (length (entry .word)))))
     go true true = record { tag = omega arith; second = omega (arith, few); first = good .stock }
     go true false = record { tag = omega arith; second = omega (arith, few); first = good .stock }
     go false live = record { tag = omega arith; second = omega arith; first = omega (arith, few) }
@@ -242,18 +239,18 @@ module _ (bytes : List ℕ) (small : Bytes bytes) where
       let few : length (startsInOrder list) < 0x100000000 = omega (arith, starts-count bytes list is, live-within bytes list is) in
       (few, few))
 
-  record-by : (start room : ℕ) (e : Entries) → Bounded bookLimit e → Sound bytes e → Fits (recordWordNumbers (wordOfRecord e start room))
+  record-by : (start room : ℕ) (e : Entries) → Bounded bookLimit e → Sound bytes e → Fits (outcomeNumbers (wordOfRecord e start room))
   record-by start room (book es free) b s = go (entryStarting es start) refl
     where
-      go : (o : Option Entry) → entryStarting es start ≡ o → Fits (recordWordNumbers (wordOfEntry o room))
+      go : (o : Option Entry) → entryStarting es start ≡ o → Fits (outcomeNumbers (wordOfEntry o room))
       go none e = record { tag = omega arith; second = omega arith; first = omega arith }
       go (some entry) e = told-fits room entry (started 0 [] es start entry (s .0 .good) e)
   record-by start room (wrong place) b s = wrong-fits bytes [] place b
 
-  pub record-word-fits : (start : ℕ) (before after : List ℕ) (answer : RecordWord) → WordRight bytes start before after answer
-      → Fits (recordWordNumbers answer)
+  pub record-word-fits : (start : ℕ) (before after : List ℕ) (answer : Outcome) → WordRight bytes start before after answer
+      → Fits (outcomeNumbers answer)
   record-word-fits start before after answer right =
-      subst (λ (a : RecordWord). Fits (recordWordNumbers a)) (sym (right .answer))
+      subst (λ (a : Outcome). Fits (outcomeNumbers a)) (sym (right .answer))
       (record-by start (length before) (entries bytes) (bounded bytes) (sound bytes small))
 
   pub find-fits : (word : List ℕ) (o : Outcome) → FindAnswers bytes word o → Fits (outcomeNumbers o)

@@ -2,10 +2,10 @@
 -- Assumes nothing.
 use mathlib.Core.Path.{_≡_, sym, ap, _∙_}
 use mathlib.Core.List.{List}
-use Prim.Native.Nat.{ℕ, _+_, _/_, _%_, _<_}
+use Prim.Native.Nat.{ℕ, _/_, _%_, _<_}
 use native.Mathlib.Omega.{arith}
 use lib.ListN.{getD}
-use Rattle.packing.specs.Packing.{Answer, answer, pack, unpack, Fits, Packed}
+use Rattle.packing.specs.Packing.{Answer, pack, unpack, Fits, Packed}
 use Rattle.packing.specs.Answers.{bytesNumbers}
 
 pub unpack-pack : (a : Answer) → Fits a → unpack (pack a) ≡ a
@@ -18,11 +18,6 @@ unpack-pack a f =
     let second : pack a / 0x100000000 % 0x1000000 ≡ a .second = omega arith in
     let first : pack a % 0x100000000 ≡ a .first = omega arith in
     rw (tag, second, first)
-
--- a second number may be cut before another is added to it
-pub second-cut : (tag second more first : ℕ) → pack (answer tag (second % 0x1000000 + more) first) ≡ pack (answer tag (second + more) first)
-unfolding pack
-second-cut tag second more first = let same : (second % 0x1000000 + more) % 0x1000000 ≡ (second + more) % 0x1000000 = omega arith in rw same
 
 -- answers that fit are told apart by their numbers
 pub pack-injective : (a b : Answer) → Fits a → Fits b → pack a ≡ pack b → a ≡ b

@@ -11,8 +11,6 @@ use Rattle.collation.specs.Comparison.{CompareOutcome, ordered, first-refuses, 
 use Rattle.storage.specs.Stored.{storedForm}
 use Rattle.entries.specs.Entries.{number, entries}
 use Rattle.lookup.specs.Outcome.{findOf}
-use Rattle.book_word.specs.WordAt.{recordWordOutcome}
-use Rattle.book_word.specs.declared.RecordWord.{RecordWord}
 use Rattle.wordbook.specs.Calls.{CallAnswers}
 use Rattle.packing.specs.Packing.{Answer, answer}
 
@@ -62,7 +60,3 @@ compareNumbers (second-refuses number place) = answer number 2 place
 -- what find answers to a word as it is handed in
 abbrev pub FindAnswers : List ℕ → List ℕ → Outcome → Type 0
 FindAnswers book word = CallAnswers word (findOf (entries book) (storedForm word))
-
--- what is told of the record at a start, by its outcome
-abbrev pub recordWordNumbers : RecordWord → Answer
-recordWordNumbers answer = outcomeNumbers (recordWordOutcome answer)

@@ -1,27 +1,18 @@
 // Answers as one number of 64 bits each, for callers in other languages.
-use book_word::RecordWord;
 use collation::compare::Compared;
 use formula::Word;
-use lookup::plan::Found;
-use normaliser::typed::TypedPlace;
-use reading::parts::PartAnswer;
 use reading::records::RecordAnswer;
 use reading::records::SyllableRecord;
 use refusals::Counted;
 use refusals::Refusal;
-use spelling::SpellAnswer;
+use refusals::Reply;
 ghost use mathlib.Core.Path.{_≡_};
 ghost use Prim.Native.Nat.{_<_};
 ghost use Rattle.refusals.specs.Refusal.{numberOf, placeOf};
-ghost use Rattle.refusals.specs.Outcome.{outcomeOf};
+ghost use Rattle.refusals.specs.Outcome.{outcomeOf, replyOutcome};
 ghost use Rattle.reading.specs.Records.{recordOutcomeOf};
-ghost use Rattle.reading.specs.Parts.{partOutcomeOf};
-ghost use Rattle.normaliser.specs.Typed.{typedOutcomeOf};
-ghost use Rattle.spelling.specs.Spell.{spellOutcomeOf};
 ghost use Rattle.collation.specs.Comparison.{compareOutcomeOf};
 ghost use Rattle.entries.specs.Entries.{number};
-ghost use Rattle.lookup.specs.Outcome.{foundOutcome};
-ghost use Rattle.book_word.specs.WordAt.{recordWordOutcome};
 ghost use Rattle.packing.specs.Packing.{answer, pack};
 ghost use Rattle.packing.specs.Answers.{outcomeNumbers, bytesNumbers, givenNumbers, compareNumbers};
 
@@ -72,6 +63,18 @@ pub fn of_counted(answer: Counted) -> u64
     }
 }
 
+// What a call replies: its first number, and its second where it has two; or that there is nothing of the number asked for.
+pub fn of_reply(answer: Reply) -> u64
+    ensures { λ r. ⌜ r ≡ pack (outcomeNumbers (replyOutcome answer)) ⌝ }
+{
+    match answer {
+        Reply::One(first) => packed(0, 0, first as u64),
+        Reply::Two(first, second) => packed(0, second as u64, first as u64),
+        Reply::Nothing => packed(128, 0, 0),
+        Reply::Refused(refusal) => refused(refusal, 0),
+    }
+}
+
 // A record, or that there is no such syllable.
 pub fn of_record(given: SyllableRecord) -> u64
     ensures { λ r. ⌜ r ≡ pack (givenNumbers (recordOutcomeOf (given .answer)) (given .bytes)) ⌝ }
@@ -87,38 +90,6 @@ pub fn of_record(given: SyllableRecord) -> u64
     }
 }
 
-// Place and length of a part, or that there is no such syllable.
-pub fn of_part(answer: PartAnswer) -> u64
-    ensures { λ r. ⌜ r ≡ pack (outcomeNumbers (partOutcomeOf answer)) ⌝ }
-{
-    match answer {
-        PartAnswer::At { place, size } => packed(0, size as u64, place as u64),
-        PartAnswer::NoSyllable => packed(128, 0, 0),
-        PartAnswer::Refused(refusal) => refused(refusal, 0),
-    }
-}
-
-// The place where a value was typed, or that the stored form has no such place.
-pub fn of_typed_place(answer: TypedPlace) -> u64
-    ensures { λ r. ⌜ r ≡ pack (outcomeNumbers (typedOutcomeOf answer)) ⌝ }
-{
-    match answer {
-        TypedPlace::At(place) => packed(0, 0, place as u64),
-        TypedPlace::NoPlace => packed(128, 0, 0),
-        TypedPlace::Refused(refusal) => refused(refusal, 0),
-    }
-}
-
-// The numbers of values and of syllables.
-pub fn of_spelling(answer: SpellAnswer) -> u64
-    ensures { λ r. ⌜ r ≡ pack (outcomeNumbers (spellOutcomeOf answer)) ⌝ }
-{
-    match answer {
-        SpellAnswer::Spelled { values, starts } => packed(0, starts as u64, values as u64),
-        SpellAnswer::Refused(refusal) => refused(refusal, 0),
-    }
-}
-
 // The order: 0, 1 or 2; or the refusal, with the word that it is of.
 pub fn of_comparison(answer: Compared) -> u64
     ensures { λ r. ⌜ r ≡ pack (compareNumbers (compareOutcomeOf answer)) ⌝ }
@@ -129,31 +100,5 @@ pub fn of_comparison(answer: Compared) -> u64
         Compared::Greater => packed(0, 0, 2),
         Compared::FirstRefused(refusal) => refused(refusal, 1),
         Compared::SecondRefused(refusal) => refused(refusal, 2),
-    }
-}
-
-// The stock number and the start of a record.
-pub fn of_found(answer: Found) -> u64
-    ensures { λ r. ⌜ r ≡ pack (outcomeNumbers (foundOutcome answer)) ⌝ }
-{
-    match answer {
-        Found::Entry { start, stock } => packed(0, start as u64, stock as u64),
-        Found::Refused(refusal) => refused(refusal, 0),
-    }
-}
-
-// The stock number of a record, and how many values its word has, with 256 more where it is live; or that no record starts there.
-pub fn of_record_word(answer: RecordWord) -> u64
-    ensures { λ r. ⌜ r ≡ pack (outcomeNumbers (recordWordOutcome answer)) ⌝ }
-{
-    match answer {
-        RecordWord::Live { stock, count } => packed(
-            0,
-            count as u64 % 0x100_0000 + 256,
-            stock as u64,
-        ),
-        RecordWord::Removed { stock, count } => packed(0, count as u64, stock as u64),
-        RecordWord::NoRecord => packed(128, 0, 0),
-        RecordWord::Refused(refusal) => refused(refusal, 0),
     }
 }

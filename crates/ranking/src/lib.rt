@@ -5,15 +5,14 @@ use book_keys::keys::KEY_ROOM;
 use book_keys::keys::MOST_LIVE;
 use book_keys::keys::file_records;
 use lookup::look::stock_at;
-use lookup::plan::Found;
 use memory::casts::place_of;
 use refusals::Counted;
 use refusals::Refusal;
+use refusals::Reply;
 ghost use mathlib.Core.Path.{_≡_};
-ghost use Rattle.refusals.specs.Outcome.{outcomeOf};
+ghost use Rattle.refusals.specs.Outcome.{outcomeOf, replyOutcome};
 ghost use Rattle.entries.specs.Entries.{entries};
 ghost use Rattle.entries.specs.Book.{Opened};
-ghost use Rattle.lookup.specs.Outcome.{foundOutcome};
 ghost use Rattle.book_keys.specs.Filing.{HasRoom};
 ghost use Rattle.ranking.specs.Rank.{rankOf, SortedRight};
 ghost use Rattle.ranking.specs.Whole.{OrderRight};
@@ -34,21 +33,21 @@ pub fn sort_records(book: &[u8], free: usize, starts: &mut [u16]) -> usize
     count
 }
 
-// Start and stock number of the live record with `number` live records before it in word order.
-pub fn rank(book: &[u8], number: usize) -> Found
-    ensures { λ r. ⌜ foundOutcome r ≡ rankOf (entries (now (book .entry))) number ⌝ }
+// Stock number and start of the live record with `number` live records before it in word order.
+pub fn rank(book: &[u8], number: usize) -> Reply
+    ensures { λ r. ⌜ replyOutcome r ≡ rankOf (entries (now (book .entry))) number ⌝ }
 {
     match open_book(book) {
-        Opening::Wrong(place) => Found::Refused(Refusal::NotABook(place)),
+        Opening::Wrong(place) => Reply::Refused(Refusal::NotABook(place)),
         Opening::Book { live, free } => {
             if live <= number {
-                return Found::Refused(Refusal::RankTooHigh(live));
+                return Reply::Refused(Refusal::RankTooHigh(live));
             }
             let mut starts = [0u16; MOST_LIVE];
             sort_records(book, free, &mut starts);
             let start = place_of(starts[number]);
-            let stock = stock_at(book, start);
-            Found::Entry { start, stock }
+            let stock = stock_at(book, start) as usize;
+            Reply::Two(stock, start)
         }
     }
 }

@@ -8,10 +8,11 @@ use lib.ListN.{length, getD, take, drop}
 use Rattle.formula.specs.Limits.{limit}
 use Rattle.formula.specs.Syllable.{Final, no-final, finalOf, part}
 use Rattle.formula.specs.Row.{Row, partsAfter, parts, joinAfter, Gives}
+use Rattle.refusals.specs.Outcome.{replyOutcome}
+use Rattle.refusals.specs.declared.Reply.{Reply}
+use Rattle.refusals.specs.declared.Reply.the-variants.{One, Two, Nothing, Refused}
 use Rattle.recogniser.proofs.Answered.{row-reads}
-use Rattle.reading.specs.Parts.{PartRight, partOutcomeOf, PartAnswers}
-use Rattle.reading.specs.declared.parts.PartAnswer.{PartAnswer}
-use Rattle.reading.specs.declared.parts.PartAnswer.the-variants.{At, NoSyllable, Refused}
+use Rattle.reading.specs.Parts.{PartRight, PartAnswers}
 use Rattle.reading.proofs.Parted.{parts-length, part-right, part-beyond, part-refused}
 
 parts-join : (f : Final) (row : Row) → flatten (partsAfter f row) ≡ joinAfter f row
@@ -37,15 +38,17 @@ numbered-join (l ∷ lists) list is =
     ∙ ap (λ (k : List ℕ). l ++ k) (numbered-join lists (λ (number : ℕ). list (suc number)) (λ number h. is (suc number) (suc-le-suc h)))
 
 -- the part at the place that an answer gives
-abbrev pub partBy : List ℕ → PartAnswer → List ℕ
-partBy word (At place size) = take size (drop place word)
-partBy word NoSyllable = []
+abbrev pub partBy : List ℕ → Reply → List ℕ
+partBy word (One n) = []
+partBy word (Two place size) = take size (drop place word)
+partBy word Nothing = []
 partBy word (Refused refusal) = []
 
-answered-right : (word : List ℕ) (number : ℕ) (answer : PartAnswer) → PartAnswers word number (partOutcomeOf answer)
+answered-right : (word : List ℕ) (number : ℕ) (answer : Reply) → PartAnswers word number (replyOutcome answer)
     → PartRight word number (partBy word answer)
-answered-right word number (At place size) a = part-right word number place size a
-answered-right word number NoSyllable a = part-beyond word number a
+answered-right word number (One n) a = absurd a
+answered-right word number (Two place size) a = part-right word number place size a
+answered-right word number Nothing a = part-beyond word number a
 answered-right word number (Refused refusal) a = part-refused word number _ _ a
 
 module _ (row : Row) (word : List ℕ) (gives : Gives row word) (short : length word ≤ limit) where
@@ -56,6 +59,6 @@ module _ (row : Row) (word : List ℕ) (gives : Gives row word) (short : length 
       ∙ numbered-join (parts row) at (λ number _. right number .has (row-reads row word gives short .admissible) row gives) ∙ parts-joined row word gives
 
   -- and so are the parts at the places and of the lengths that are answered by number
-  pub places-by-number : (answer : ℕ → PartAnswer) → ((number : ℕ) → PartAnswers word number (partOutcomeOf (answer number)))
+  pub places-by-number : (answer : ℕ → Reply) → ((number : ℕ) → PartAnswers word number (replyOutcome (answer number)))
       → joinedTo (length row) (λ (number : ℕ). partBy word (answer number)) ≡ word
   places-by-number answer right = parts-by-number _ (λ number. answered-right word number (answer number) (right number))

@@ -1,6 +1,7 @@
 -- The part by number is the row's: a syllable's part lies between the places where it and the next one begin.
 -- Assumes nothing.
 use mathlib.Core.Path.{_≡_, refl, ap, sym, _∙_}
+use mathlib.Core.Logic.{inl, inr}
 use mathlib.Core.List.{List, [], _∷_, _++_, append-assoc, append-nil, reverseAux}
 use Prim.Native.Nat.{ℕ, zero, suc, _+_, _-_, _≤_, _<_}
 use native.Mathlib.Nat.{le-of-suc-le-suc, not-suc-le-zero}
@@ -8,17 +9,23 @@ use native.Mathlib.Decide.{decLt}
 use native.Mathlib.Numerals.{add-one}
 use native.Mathlib.Omega.{arith}
 use borrow.Author.Tests.{lt-ltb, le-ltb}
+use denote.Enum.Declared.{tagOf}
+use types.Run.{OneOf}
 use lib.ListN.{length, getD, take, drop, length-append, List·getD-append, List·getD-eq-default}
 use lib.Seq.{take-at, drop-at}
 use Rattle.letters.specs.Choice.{pick}
 use Rattle.formula.specs.Syllable.{Final, no-final, finalOf, part}
 use Rattle.formula.specs.Row.{Row, joinAfter, partsAfter, parts}
+use Rattle.refusals.specs.Outcome.{replyOutcome}
+use Rattle.refusals.specs.declared.Reply.{Reply}
+use Rattle.refusals.specs.declared.Reply.the-variants.{One, Two, Nothing, Refused}
+use Rattle.refusals.proofs.Reply.{the-type}
 use Rattle.rows.specs.Machine.{endOf, keptJoin}
 use Rattle.rows.proofs.Viable.{only-row}
 use Rattle.recogniser.specs.Answer.{RefusedWith, Reads}
 use Rattle.recogniser.specs.Walked.{WalkStopped}
 use Rattle.recogniser.proofs.Answered.{refused-no-row}
-use Rattle.reading.specs.Parts.{endBy, HasPart, NoPart, PartRight}
+use Rattle.reading.specs.Parts.{endBy, HasPart, NoPart, PartRight, PartAnswers}
 use Rattle.reading.specs.Scanned.{keptStarts, StartsOf}
 use Rattle.reading.proofs.Reach.{starts-length}
 use Rattle.reading.proofs.Stopped.{kept-is, kept-count}
@@ -164,3 +171,13 @@ part-beyond word k p =
 
 pub part-refused : (word : List ℕ) (k number place : ℕ) → RefusedWith word number place → PartRight word k []
 part-refused word k number place w = record { has = λ a row g. absurd (refused-no-row word number place w a row g); refused = λ _. refl }
+
+-- an answer that is told by its tag to be other than a place and a length
+pub part-none : (word : List ℕ) (k : ℕ) (answer : Reply) → OneOf (0 ∷ 2 ∷ 3 ∷ []) (tagOf the-type answer) → PartAnswers word k (replyOutcome answer)
+    → PartRight word k []
+part-none word k (One n) other a = absurd a
+part-none word k Nothing other a = part-beyond word k a
+part-none word k (Refused refusal) other a = part-refused word k _ _ a
+part-none word k (Two place size) (inl t) a = absurd (omega arith)
+part-none word k (Two place size) (inr (inl t)) a = absurd (omega arith)
+part-none word k (Two place size) (inr (inr t)) a = absurd (omega arith)

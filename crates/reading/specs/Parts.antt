@@ -7,23 +7,14 @@ use lib.Dec.{ltb}
 use lib.ListN.{length, getD, take, drop}
 use Rattle.letters.specs.Choice.{pick}
 use Rattle.formula.specs.Row.{Row, parts, join, Gives}
-use Rattle.refusals.specs.Refusal.{numberOf, placeOf}
 use Rattle.refusals.specs.Outcome.{Outcome, accepts, accepts-both, absent, refuses}
 use Rattle.recogniser.specs.Answer.{Admissible, RefusedWith}
-use Rattle.reading.specs.declared.parts.PartAnswer.{PartAnswer}
-use Rattle.reading.specs.declared.parts.PartAnswer.the-variants.{At, NoSyllable, Refused}
 
 -- "The syllable asked for by number, from 0, comes back as a part of the caller's own word. Where the word is refused or has no such
 -- syllable, that part is empty."
 pub record PartRight (word : List ℕ) (number : ℕ) (part : List ℕ) : Type 0 where
   pub has : Admissible word → (row : Row) → Gives row word → part ≡ getD (parts row) number []
   pub refused : (Admissible word → (row : Row) → Gives row word → ⊥) → part ≡ []
-
--- a part tells its place and its length
-abbrev pub partOutcomeOf : PartAnswer → Outcome
-partOutcomeOf (At place size) = accepts-both place size
-partOutcomeOf NoSyllable = absent
-partOutcomeOf (Refused r) = refuses (numberOf r) (placeOf r)
 
 -- "Parts joined give the word": the part begins where those before it, joined, end
 pub record HasPart (word : List ℕ) (number place size : ℕ) : Type 0 where
@@ -43,6 +34,7 @@ pub record NoPart (word : List ℕ) (number : ℕ) : Type 0 where
   pub gives : Gives row word
   pub beyond : length row ≤ number
 
+-- a part tells its place and its length
 abbrev pub PartAnswers : List ℕ → ℕ → Outcome → Type 0
 PartAnswers word number (accepts size) = ⊥
 PartAnswers word number (accepts-both place size) = HasPart word number place size

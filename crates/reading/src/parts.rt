@@ -5,10 +5,12 @@ use memory::casts::wide;
 use recogniser::walk::answer_at;
 use refusals::Counted;
 use refusals::Refusal;
+use refusals::Reply;
 ghost use mathlib.Core.Path.{_≡_};
 ghost use Prim.Native.Nat.{_<_, _≤_};
 ghost use Rattle.formula.specs.Limits.{limit};
-ghost use Rattle.reading.specs.Parts.{endBy, PartAnswers, partOutcomeOf, PartRight};
+ghost use Rattle.refusals.specs.Outcome.{replyOutcome};
+ghost use Rattle.reading.specs.Parts.{endBy, PartAnswers, PartRight};
 
 // Where the syllable `number` ends: where the next one begins, or at the word's end.
 fn end_of(starts: &[u8; Word::LIMIT], count: usize, number: usize, end: usize) -> usize
@@ -22,48 +24,35 @@ fn end_of(starts: &[u8; Word::LIMIT], count: usize, number: usize, end: usize) -
     end
 }
 
-// Where the part of a syllable stands in the word.
-pub enum PartAnswer {
-    At { place: usize, size: usize },
-    NoSyllable,
-    Refused(Refusal),
-}
-
 // The place and the length of the part of the syllable `number`, from 0.
-pub fn part_place(word: &[u16], number: usize) -> PartAnswer
-    ensures { λ r. ⌜ PartAnswers (now (word .entry)) number (partOutcomeOf r) ⌝ }
+pub fn part_place(word: &[u16], number: usize) -> Reply
+    ensures { λ r. ⌜ PartAnswers (now (word .entry)) number (replyOutcome r) ⌝ }
 {
     if Word::LIMIT < word.len() {
-        return PartAnswer::Refused(Refusal::TooLong);
+        return Reply::Refused(Refusal::TooLong);
     }
     let scan = scan_word(word);
     let answer = answer_at(word, scan.at, scan.state, scan.count);
     let count = match answer {
-        Counted::Refused(refusal) => return PartAnswer::Refused(refusal),
+        Counted::Refused(refusal) => return Reply::Refused(refusal),
         Counted::Count(count) => count,
     };
     if count <= number {
-        return PartAnswer::NoSyllable;
+        return Reply::Nothing;
     }
     let starts = scan.starts;
     let from = wide(starts[number]);
     let to = end_of(&starts, count, number, word.len());
-    PartAnswer::At {
-        place: from,
-        size: to - from,
-    }
+    Reply::Two(from, to - from)
 }
 
 // The part of the syllable `number`, from 0; empty where the word is refused or has no such syllable.
 pub fn part_at(word: &[u16], number: usize) -> &[u16]
     ensures { λ r. ⌜ PartRight (now (word .entry)) number (now r) ⌝ }
 {
-    match part_place(word, number) {
-        PartAnswer::Refused(_) => &word[..0],
-        PartAnswer::NoSyllable => &word[..0],
-        PartAnswer::At { place, size } => {
-            let end = place + size;
-            &word[place..end]
-        }
-    }
+    let Reply::Two(place, size) = part_place(word, number) else {
+        return &word[..0];
+    };
+    let end = place + size;
+    &word[place..end]
 }

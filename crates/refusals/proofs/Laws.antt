@@ -1,4 +1,4 @@
--- Number and place determine the refusal: both give it back, the number as the index of its variant. So an outcome determines a counted answer.
+-- Number and place determine the refusal: both give it back, the number as the index of its variant. So an outcome determines a counted answer, and a reply.
 -- Assumes nothing.
 use mathlib.Core.Path.{_≡_, refl}
 use mathlib.Core.List.{[], _∷_}
@@ -8,8 +8,10 @@ use Rattle.refusals.specs.declared.Refusal.{Refusal}
 use Rattle.refusals.specs.declared.Refusal.the-variants.{TooLong, Foreign, NoContinuation, Unfinished, OutputTooShort, NoSuchRow, FaultyLine, EmptyWord, NotABook, AlreadyLive, NotLive, BookFull, RankTooHigh}
 use Rattle.refusals.specs.declared.Counted.{Counted}
 use Rattle.refusals.specs.declared.Counted.the-variants.{Count, Refused}
+use Rattle.refusals.specs.declared.Reply.{Reply}
+use Rattle.refusals.specs.declared.Reply.the-variants as reply
 use Rattle.refusals.specs.Refusal.{numberOf, placeOf}
-use Rattle.refusals.specs.Outcome.{outcomeOf}
+use Rattle.refusals.specs.Outcome.{outcomeOf, replyOutcome}
 
 -- the refusal of a number and a place; `NotLive` stands where there is no refusal, at 0, 9 and 10
 refusalOf : ℕ → ℕ → Refusal
@@ -46,3 +48,22 @@ counted-once (Count n) (Count m) e = cc
 counted-once (Count n) (Refused s) e = cc
 counted-once (Refused r) (Count m) e = cc
 counted-once (Refused r) (Refused s) e = cc (number-place-injective r s (cc) (cc))
+
+-- replies with equal outcomes are equal
+pub reply-once : (a b : Reply) → replyOutcome a ≡ replyOutcome b → a ≡ b
+reply-once (reply.One n) (reply.One m) e = cc
+reply-once (reply.One n) (reply.Two f s) e = cc
+reply-once (reply.One n) reply.Nothing e = cc
+reply-once (reply.One n) (reply.Refused r) e = cc
+reply-once (reply.Two f s) (reply.One m) e = cc
+reply-once (reply.Two f s) (reply.Two g t) e = cc
+reply-once (reply.Two f s) reply.Nothing e = cc
+reply-once (reply.Two f s) (reply.Refused r) e = cc
+reply-once reply.Nothing (reply.One m) e = cc
+reply-once reply.Nothing (reply.Two g t) e = cc
+reply-once reply.Nothing reply.Nothing e = refl
+reply-once reply.Nothing (reply.Refused r) e = cc
+reply-once (reply.Refused r) (reply.One m) e = cc
+reply-once (reply.Refused r) (reply.Two g t) e = cc
+reply-once (reply.Refused r) reply.Nothing e = cc
+reply-once (reply.Refused r) (reply.Refused s) e = cc (number-place-injective r s (cc) (cc))

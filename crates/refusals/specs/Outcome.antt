@@ -3,6 +3,8 @@
 use Prim.Native.Nat.{ℕ}
 use Rattle.refusals.specs.declared.Counted.{Counted}
 use Rattle.refusals.specs.declared.Counted.the-variants.{Count, Refused}
+use Rattle.refusals.specs.declared.Reply.{Reply}
+use Rattle.refusals.specs.declared.Reply.the-variants as reply
 use Rattle.refusals.specs.Refusal.{numberOf, placeOf}
 
 -- an answer in document 01's terms
@@ -20,3 +22,14 @@ pub data Outcome : Type 0 where
 abbrev pub outcomeOf : Counted → Outcome
 outcomeOf (Count n) = accepts n
 outcomeOf (Refused refusal) = refuses (numberOf refusal) (placeOf refusal)
+
+-- what a reply comes to
+abbrev pub replyOutcome : Reply → Outcome
+-- one number: success that tells it
+replyOutcome (reply.One n) = accepts n
+-- two numbers: success that tells both, in their order
+replyOutcome (reply.Two first second) = accepts-both first second
+-- nothing of the number asked for: no refusal
+replyOutcome reply.Nothing = absent
+-- a refusal: its number and its place
+replyOutcome (reply.Refused refusal) = refuses (numberOf refusal) (placeOf refusal)

@@ -69,3 +69,11 @@ pub enum Counted {
     Count(usize),
     Refused(Refusal),
 }
+
+// What a call replies: one number, two numbers, that there is nothing of the number asked for, or why it is refused.
+pub enum Reply {
+    One(usize),
+    Two(usize, usize),
+    Nothing,
+    Refused(Refusal),
+}

@@ -7,11 +7,8 @@ use lib.ListN.{length, drop}
 use Rattle.formula.specs.Limits.{limit}
 use Rattle.formula.specs.Row.{Row, Gives}
 use Rattle.formula.specs.Spelled.{spelled}
-use Rattle.refusals.specs.Refusal.{numberOf, placeOf}
 use Rattle.refusals.specs.Outcome.{Outcome, accepts-both, refuses}
 use Rattle.recogniser.specs.Answer.{Admissible, RefusedWith}
-use Rattle.spelling.specs.declared.SpellAnswer.{SpellAnswer}
-use Rattle.spelling.specs.declared.SpellAnswer.the-variants.{Spelled, Refused}
 
 -- "The values go joined to one lent list"
 abbrev pub joined : List (List ℕ) → List ℕ
@@ -30,11 +27,6 @@ spelledStarts syllables = startsFrom 0 syllables
 -- "The longest spelled word has 190 values": three for each value of a word of the limit, less two
 abbrev pub spelledLimit : ℕ
 spelledLimit = 3 * limit - 2
-
--- "Success .. tells how many values or bytes it wrote to each"
-abbrev pub spellOutcomeOf : SpellAnswer → Outcome
-spellOutcomeOf (Spelled values starts) = accepts-both values starts
-spellOutcomeOf (Refused refusal) = refuses (numberOf refusal) (placeOf refusal)
 
 -- the word passes the tests 1 and 2, and the row gives it
 pub record ReadAs (word : List ℕ) (row : Row) : Type 0 where
@@ -56,6 +48,7 @@ pub record Written (row : Row) (before after : Lists) : Type 0 where
 
 -- what the outcome says of the word, and of the lists before and after; a refusal "writes nothing"
 pub data SpellRight (word : List ℕ) (before after : Lists) : Outcome → Type 0 where
+  -- "Success .. tells how many values or bytes it wrote to each"
   spelled-out : {row : Row} → ReadAs word row → length (joined (spelled row)) ≤ length (before .values) → length (spelled row) ≤ length (before .starts)
       → Written row before after → SpellRight word before after (accepts-both (length (joined (spelled row))) (length (spelled row)))
   -- 1 to 4: "The reader and the spelling-out do not" normalise

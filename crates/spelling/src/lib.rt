@@ -2,20 +2,16 @@
 use formula::Word;
 use refusals::Counted;
 use refusals::Refusal;
+use refusals::Reply;
 ghost use mathlib.Core.Path.{_≡_};
 ghost use Prim.Native.Nat.{_≤_};
 ghost use lib.ListN.{length};
 ghost use Rattle.formula.specs.Limits.{limit};
+ghost use Rattle.refusals.specs.Outcome.{replyOutcome};
 ghost use Rattle.reading.specs.Records.{bytesBy};
 ghost use Rattle.spelling.specs.Plain.{plainLink, plainBytes};
 ghost use Rattle.spelling.specs.Put.{SpelledSize, SyllableRoom, SyllablePut, Room, SyllablesPut};
-ghost use Rattle.spelling.specs.Spell.{spellOutcomeOf, lists, SpellRight};
-
-// How many values and how many starts were written, or why none was.
-pub enum SpellAnswer {
-    Spelled { values: usize, starts: usize },
-    Refused(Refusal),
-}
+ghost use Rattle.spelling.specs.Spell.{lists, SpellRight};
 
 // The link of a final that is spelled: plain, where there is one.
 fn plain_link(link: u8) -> u8
@@ -75,28 +71,26 @@ fn put(syllables: &[u64; Word::LIMIT], count: usize, values: &mut [u16], starts:
     }
 }
 
-// Writes a word's spelled syllables to the front of `values`, and the place there where each begins to the front of `starts`.
-pub fn spell(word: &[u16], values: &mut [u16], starts: &mut [u16]) -> SpellAnswer
-    ensures { λ r. ⌜ SpellRight (now (word .entry)) (lists (now (values .entry)) (now (starts .entry))) (lists (now (values .exit)) (now (starts .exit))) (spellOutcomeOf r) ⌝ }
+// Writes a word's spelled syllables to the front of `values`, and the place there where each begins to the front of `starts`;
+// tells how many of each were written.
+pub fn spell(word: &[u16], values: &mut [u16], starts: &mut [u16]) -> Reply
+    ensures { λ r. ⌜ SpellRight (now (word .entry)) (lists (now (values .entry)) (now (starts .entry))) (lists (now (values .exit)) (now (starts .exit))) (replyOutcome r) ⌝ }
 {
     let reading = reading::read::read(word);
     let answer = reading.answer;
     match answer {
-        Counted::Refused(refusal) => SpellAnswer::Refused(refusal),
+        Counted::Refused(refusal) => Reply::Refused(refusal),
         Counted::Count(count) => {
             let syllables = reading.syllables;
             let size = measure(&syllables, count);
             if values.len() < size {
-                return SpellAnswer::Refused(Refusal::OutputTooShort(size));
+                return Reply::Refused(Refusal::OutputTooShort(size));
             }
             if starts.len() < count {
-                return SpellAnswer::Refused(Refusal::OutputTooShort(count));
+                return Reply::Refused(Refusal::OutputTooShort(count));
             }
             put(&syllables, count, values, starts);
-            SpellAnswer::Spelled {
-                values: size,
-                starts: count,
-            }
+            Reply::Two(size, count)
         }
     }
 }

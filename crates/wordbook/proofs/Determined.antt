@@ -4,16 +4,15 @@ use mathlib.Core.Path.{_≡_, refl, sym, ap, _∙_}
 use mathlib.Core.List.{List}
 use Prim.Native.Nat.{ℕ}
 use native.Mathlib.Omega.{arith}
-use Rattle.refusals.specs.Outcome.{Outcome, refuses, outcomeOf}
+use Rattle.refusals.specs.Outcome.{Outcome, refuses, outcomeOf, replyOutcome}
 use Rattle.refusals.specs.declared.Counted.{Counted}
-use Rattle.refusals.proofs.Laws.{counted-once}
+use Rattle.refusals.specs.declared.Reply.{Reply}
+use Rattle.refusals.proofs.Laws.{counted-once, reply-once}
 use Rattle.refusals.proofs.Determined.{Same}
 use Rattle.storage.specs.Stored.{storedForm}
 use Rattle.normaliser.proofs.Determined.{store-refused-alike}
 use Rattle.entries.specs.Entries.{entries}
-use Rattle.lookup.specs.Outcome.{foundOutcome, checkOf, findOf}
-use Rattle.lookup.specs.declared.plan.Found.{Found}
-use Rattle.lookup.proofs.Answers.{found-once}
+use Rattle.lookup.specs.Outcome.{checkOf, findOf}
 use Rattle.book_change.specs.Written.{bytesAdded, bytesRemoved}
 use Rattle.ranking.specs.Rank.{rankOf}
 use Rattle.wordbook.specs.Calls.{WordRefused, empty, refused, CallAnswers, word-refused, word-stored, AddPromise, RemovePromise}
@@ -37,12 +36,12 @@ module _ (book : List ℕ) where
   pub check-determined : (a b : Counted) → outcomeOf a ≡ checkOf (entries book) → outcomeOf b ≡ checkOf (entries book) → a ≡ b
   check-determined a b e f = counted-once a b (e ∙ sym f)
 
-  pub rank-determined : (number : ℕ) (a b : Found) → foundOutcome a ≡ rankOf (entries book) number → foundOutcome b ≡ rankOf (entries book) number → a ≡ b
-  rank-determined number a b e f = found-once a b (e ∙ sym f)
+  pub rank-determined : (number : ℕ) (a b : Reply) → replyOutcome a ≡ rankOf (entries book) number → replyOutcome b ≡ rankOf (entries book) number → a ≡ b
+  rank-determined number a b e f = reply-once a b (e ∙ sym f)
 
-  pub find-determined : (word : List ℕ) (a b : Found) → CallAnswers word (findOf (entries book) (storedForm word)) (foundOutcome a)
-      → CallAnswers word (findOf (entries book) (storedForm word)) (foundOutcome b) → a ≡ b
-  find-determined word a b c d = found-once a b (call-alike word (findOf (entries book) (storedForm word)) (foundOutcome a) (foundOutcome b) c d)
+  pub find-determined : (word : List ℕ) (a b : Reply) → CallAnswers word (findOf (entries book) (storedForm word)) (replyOutcome a)
+      → CallAnswers word (findOf (entries book) (storedForm word)) (replyOutcome b) → a ≡ b
+  find-determined word a b c d = reply-once a b (call-alike word (findOf (entries book) (storedForm word)) (replyOutcome a) (replyOutcome b) c d)
 
 module _ (word before after final : List ℕ) (first second : Outcome) where
   pub add-determined : (stock : ℕ) → AddPromise word stock before after first → AddPromise word stock before final second → Same first second after final

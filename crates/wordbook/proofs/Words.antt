@@ -13,11 +13,14 @@ use lib.Dec.{T, eqb, leb}
 use lib.ListN.{length, getD, drop}
 use Rattle.letters.specs.Choice.{pick}
 use Rattle.letters.proofs.Tests.{is-true, of-true, both-left, both-right, pick-true, pick-false}
+use Rattle.formula.specs.Limits.{limit}
 use Rattle.formula.proofs.Lists.{sameList, sameList-equal}
-use Rattle.refusals.specs.Outcome.{Outcome, accepts}
+use Rattle.refusals.specs.Outcome.{Outcome, accepts, accepts-both, replyOutcome}
+use Rattle.refusals.specs.declared.Reply.{Reply}
+use Rattle.refusals.proofs.Laws.{reply-once}
 use Rattle.storage.specs.Stored.{storedForm}
 use Rattle.entries.specs.Entries.{Entry, Entries, book, wrong, entries}
-use Rattle.entries.specs.Book.{size, GoodAfter, IsBook}
+use Rattle.entries.specs.Book.{size, GoodEntry, GoodAfter, IsBook}
 use Rattle.entries.specs.Map.{lookup, removed, without}
 use Rattle.entries.proofs.Agree.{Sound, sound, complete}
 use Rattle.lookup.specs.Outcome.{finds, findOfEntry, findOf}
@@ -25,19 +28,33 @@ use Rattle.book_change.proofs.Laws.{Bytes}
 use Rattle.ranking.specs.Rank.{Among}
 use Rattle.ranking.specs.Whole.{OrderRight}
 use Rattle.ranking.proofs.Whole.{order-only}
-use Rattle.book_word.specs.WordAt.{entryStarting, entryTold, wordOfEntry, wordOfRecord, outputOfEntry, outputOfRecord, WordRight}
-use Rattle.book_word.specs.declared.RecordWord.{RecordWord}
-use Rattle.book_word.specs.declared.RecordWord.the-variants.{Live, Removed}
+use Rattle.book_word.specs.WordAt.{entryStarting, markedCount, entryTold, wordOfEntry, wordOfRecord, outputOfEntry, outputOfRecord, WordRight}
 use Rattle.wordbook.specs.Calls.{CallAnswers, word-refused, word-stored, RemovePromise}
 use Rattle.wordbook.proofs.Laws.{remove-makes-book}
 
 -- one answer only, with one output
-pub word-determined : (bytes : List ℕ) (start : ℕ) (before after final : List ℕ) (first second : RecordWord) → WordRight bytes start before after first
-    → WordRight bytes start before final second → (first ≡ second) × (after ≡ final)
-word-determined bytes start before after final first second p q = (p .answer ∙ sym (q .answer), p .output ∙ sym (q .output))
+pub word-determined : (bytes : List ℕ) (start : ℕ) (before after final : List ℕ) (first second : Reply)
+    → WordRight bytes start before after (replyOutcome first) → WordRight bytes start before final (replyOutcome second)
+    → (first ≡ second) × (after ≡ final)
+word-determined bytes start before after final first second p q = (reply-once first second (p .answer ∙ sym (q .answer)), p .output ∙ sym (q .output))
+
+-- what is told of an entry says whether it is live: no word has as many values as live adds
+pub told-once : (e f : Entry) → GoodEntry e → GoodEntry f → entryTold e ≡ entryTold f
+    → (e .stock ≡ f .stock) × (e .live ≡ f .live) × (length (e .word) ≡ length (f .word))
+told-once e f g h told =
+    let stock : e .stock ≡ f .stock = cc in
+    let marked : markedCount (e .live) (length (e .word)) ≡ markedCount (f .live) (length (f .word)) = cc in
+    let same = counts (e .live) (f .live) _ _ (g .readable .admissible .short) (h .readable .admissible .short) marked in
+    (stock, same .0, same .1)
+  where
+    counts : (live other : Bool) (n m : ℕ) → n ≤ limit → m ≤ limit → markedCount live n ≡ markedCount other m → (live ≡ other) × (n ≡ m)
+    counts true true n m few less e = (refl, omega arith)
+    counts true false n m few less e = absurd (omega arith)
+    counts false true n m few less e = absurd (omega arith)
+    counts false false n m few less e = (refl, e)
 
 -- what is told where there is room: all of an entry, and its word at the front of the output
-abbrev pub TellsEntry : Entry → List ℕ → List ℕ → RecordWord → Type 0
+abbrev pub TellsEntry : Entry → List ℕ → List ℕ → Outcome → Type 0
 TellsEntry entry before after answer = (answer ≡ entryTold entry) × (after ≡ entry .word ++ drop (length (entry .word)) before)
 
 -- no entry starts before the place from which they are written on
@@ -58,7 +75,7 @@ starting-own at seen (x ∷ list) g e (inr m) =
     ∙ starting-own (at + size x) (seen ++ (x ∷ [])) list (g .3) e m
 
 module _ (bytes : List ℕ) (list : List Entry) (k : IsBook bytes list) (e : Entry) (m : Among e list) (start : ℕ) (own : e .start ≡ start)
-    (before after : List ℕ) (answer : RecordWord) (p : WordRight bytes start before after answer) (room : length (e .word) ≤ length before) where
+    (before after : List ℕ) (answer : Outcome) (p : WordRight bytes start before after answer) (room : length (e .word) ≤ length before) where
   starting : entryStarting list start ≡ some e
   starting = ap (entryStarting list) (sym own) ∙ starting-own 0 [] list (k .good) e m
 
@@ -136,20 +153,20 @@ module _ (word bytes : List ℕ) (start stock : ℕ) (small : Bytes bytes)
   word-is = found-among (given .list) (storedForm word) (given .entry) (given .found) .2
 
   -- the record that find gives is live, and has the stored form of the word and the stock number that find gives
-  pub word-of-found : (before after : List ℕ) (answer : RecordWord) → WordRight bytes start before after answer → length (storedForm word) ≤ length before
-      → (answer ≡ Live stock (length (storedForm word))) × (after ≡ storedForm word ++ drop (length (storedForm word)) before)
+  pub word-of-found : (before after : List ℕ) (answer : Outcome) → WordRight bytes start before after answer → length (storedForm word) ≤ length before
+      → (answer ≡ accepts-both stock (markedCount true (length (storedForm word)))) × (after ≡ storedForm word ++ drop (length (storedForm word)) before)
   word-of-found before after answer p room =
       let g = given in
       let a = found-among (g .list) (storedForm word) (g .entry) (g .found) in
       let t = entry-told bytes (g .list) (g .is-book) (g .entry) (a .0) start (g .start-is) before after answer p (omega (arith, ap length word-is)) in (
-        t .0 ∙ pick-true (g .entry .live) _ _ (is-true (g .entry .live) (a .1)) ∙ (λ i. Live (g .stock-is i) (length (word-is i))),
+        t .0 ∙ (λ i. accepts-both (g .stock-is i) (markedCount (is-true (g .entry .live) (a .1) i) (length (word-is i)))),
         t .1 ∙ ap (λ (w : List ℕ). w ++ drop (length w) before) word-is,
       )
 
   -- and after remove it has the same word and the same stock number, and is removed
   pub word-after-remove : (final : List ℕ) → RemovePromise word bytes final (accepts start)
-      → (before after : List ℕ) (answer : RecordWord) → WordRight final start before after answer → length (storedForm word) ≤ length before
-      → (answer ≡ Removed stock (length (storedForm word))) × (after ≡ storedForm word ++ drop (length (storedForm word)) before)
+      → (before after : List ℕ) (answer : Outcome) → WordRight final start before after answer → length (storedForm word) ≤ length before
+      → (answer ≡ accepts-both stock (markedCount false (length (storedForm word)))) × (after ≡ storedForm word ++ drop (length (storedForm word)) before)
   word-after-remove final r before after answer p room =
       let g = given in
       let made = remove-makes-book word bytes final start small r in
@@ -158,14 +175,14 @@ module _ (word bytes : List ℕ) (start stock : ℕ) (small : Bytes bytes)
       let k : IsBook final (without (g .list) (storedForm word)) = subst (λ (l : List Entry). IsBook final (without l (storedForm word))) same (made .is-book) in
       let m = removed-among (g .list) (storedForm word) (g .entry) (g .found) in
       let t = entry-told final _ k (removed (g .entry)) m start (g .start-is) before after answer p (omega (arith, ap length word-is)) in (
-        t .0 ∙ pick-false false _ _ refl ∙ (λ i. Removed (g .stock-is i) (length (word-is i))),
+        t .0 ∙ (λ i. accepts-both (g .stock-is i) (markedCount false (length (word-is i)))),
         t .1 ∙ ap (λ (w : List ℕ). w ++ drop (length w) before) word-is,
       )
 
 -- with the order of a book, each live entry is told, from the start at its place of the list
 module _ (bytes : List ℕ) (list : List Entry) (k : IsBook bytes list) (lent starts : List ℕ) (count : ℕ) (o : OrderRight bytes lent starts (accepts count)) where
   pub order-told : (place : ℕ) → place < count → (e : Entry) × Among e list × T (e .live)
-      × ((before after : List ℕ) (answer : RecordWord) → WordRight bytes (getD starts place 0) before after answer → length (e .word) ≤ length before
+      × ((before after : List ℕ) (answer : Outcome) → WordRight bytes (getD starts place 0) before after answer → length (e .word) ≤ length before
       → TellsEntry e before after answer)
   order-told place h =
       let r = order-only bytes list k lent starts count o place h in (

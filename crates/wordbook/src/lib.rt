@@ -1,16 +1,15 @@
 // The word book: the calls on a book in a lent buffer, for every buffer and every word.
 use book_check::open::Opening;
 use book_check::open::open_book;
-use book_word::RecordWord;
 use formula::Word;
-use lookup::plan::Found;
 use refusals::Counted;
 use refusals::Refusal;
+use refusals::Reply;
 ghost use mathlib.Core.Path.{_≡_};
-ghost use Rattle.refusals.specs.Outcome.{outcomeOf};
+ghost use Rattle.refusals.specs.Outcome.{outcomeOf, replyOutcome};
 ghost use Rattle.storage.specs.Stored.{storedForm};
 ghost use Rattle.entries.specs.Entries.{entries};
-ghost use Rattle.lookup.specs.Outcome.{foundOutcome, checkOf, findOf};
+ghost use Rattle.lookup.specs.Outcome.{checkOf, findOf};
 ghost use Rattle.ranking.specs.Rank.{rankOf};
 ghost use Rattle.ranking.specs.Whole.{OrderRight};
 ghost use Rattle.book_word.specs.WordAt.{WordRight};
@@ -30,13 +29,13 @@ pub fn check(book: &[u8]) -> Counted
     }
 }
 
-// Start and stock number of the live record with the word.
-pub fn find(book: &[u8], word: &[u16]) -> Found
-    ensures { λ r. ⌜ CallAnswers (now (word .entry)) (findOf (entries (now (book .entry))) (storedForm (now (word .entry)))) (foundOutcome r) ⌝ }
+// Stock number and start of the live record with the word.
+pub fn find(book: &[u8], word: &[u16]) -> Reply
+    ensures { λ r. ⌜ CallAnswers (now (word .entry)) (findOf (entries (now (book .entry))) (storedForm (now (word .entry)))) (replyOutcome r) ⌝ }
 {
     let mut values = [0; Word::LIMIT];
     match enter(word, &mut values) {
-        Counted::Refused(refusal) => Found::Refused(refusal),
+        Counted::Refused(refusal) => Reply::Refused(refusal),
         Counted::Count(count) => lookup::plan::find(book, &values[..count]),
     }
 }
@@ -63,9 +62,9 @@ pub fn remove(book: &mut [u8], word: &[u16]) -> Counted
     }
 }
 
-// Start and stock number of the live record with `number` live records before it in word order.
-pub fn rank(book: &[u8], number: usize) -> Found
-    ensures { λ r. ⌜ foundOutcome r ≡ rankOf (entries (now (book .entry))) number ⌝ }
+// Stock number and start of the live record with `number` live records before it in word order.
+pub fn rank(book: &[u8], number: usize) -> Reply
+    ensures { λ r. ⌜ replyOutcome r ≡ rankOf (entries (now (book .entry))) number ⌝ }
 {
     ranking::rank(book, number)
 }
@@ -77,9 +76,10 @@ pub fn order(book: &[u8], starts: &mut [u16]) -> Counted
     ranking::order_records(book, starts)
 }
 
-// Writes the word of the record that starts at `start` to the front of `output`, and tells of the record.
-pub fn word_at(book: &[u8], start: usize, output: &mut [u16]) -> RecordWord
-    ensures { λ r. ⌜ WordRight (now (book .entry)) start (now (output .entry)) (now (output .exit)) r ⌝ }
+// Writes the word of the record that starts at `start` to the front of `output`; tells the record's stock number, and how many values its word has,
+// with 256 more where it is live.
+pub fn word_at(book: &[u8], start: usize, output: &mut [u16]) -> Reply
+    ensures { λ r. ⌜ WordRight (now (book .entry)) start (now (output .entry)) (now (output .exit)) (replyOutcome r) ⌝ }
 {
     book_word::word_at(book, start, output)
 }

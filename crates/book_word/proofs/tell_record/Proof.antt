@@ -1,18 +1,18 @@
 -- `book_word::tell_record` meets its contract: the frame gives the count, and what is told and copied is that of the entry that is read there.
 -- Assumes nothing.
 use borrow.Author.Needs.{needs}
-use mathlib.Core.Path.{_≡_, sym, ap, _∙_}
+use mathlib.Core.Path.{_≡_, sym}
 use mathlib.Core.Bool.{true, false}
-use Prim.Native.Nat.{ℕ, _+_}
+use Prim.Native.Nat.{_+_}
 use native.Mathlib.Omega.{arith}
 use borrow.Author.Tests.{eq-eqb, ne-eqb}
 use lib.Dec.{eqb}
 use lib.ListN.{getD}
 use denote.Ref.{now}
-use Rattle.letters.proofs.Tests.{pick-true, pick-false}
+use Rattle.refusals.specs.Outcome.{accepts-both}
 use Rattle.entries.proofs.Records.{Framed, framed-true}
 use Rattle.book_frame.proofs.Marks.{mark-met, mark-missed}
-use Rattle.book_word.specs.declared.RecordWord.the-variants.{Live, Removed}
+use Rattle.book_word.specs.WordAt.{markedCount}
 use Rattle.book_word.proofs.Telling.{told-short, told-whole}
 use Rattle.book_word.proofs.tell_record.Statement.{statement}
 use Rattle.book_word.proofs.tell_record.Tie as tie
@@ -50,10 +50,18 @@ stock-at-requires c κs =
     let f = frame s in
     (s .pre .0, omega (arith, f .room))
 
+cast-stock : tie.Need-cast-stock
+cast-stock c = search needs
+
 has-mark-requires : tie.Need-has-mark-requires
 has-mark-requires c κs =
     let f = frame (c .before .before .before .before .before .before .before .before .before .before .before) in
     omega (arith, f .room)
+
+add-marked : tie.Need-add-marked
+add-marked c =
+    let v = c .before .before .before .before .before .before in
+    omega (arith, v .before .before .before .wide .ensures .1)
 
 same-length : tie.Need-same-length
 same-length c = search needs
@@ -70,7 +78,7 @@ returns-2 c =
     eq-eqb (getD b (s .args .at + 1) 0) 0x57 (mark-met (getD b (s .args .at) 0) _ 0x4D 0x57 _ (m .has-mark .ensures) (c .if2 .taken) .1) in
     told-whole b (s .args .at) (frame s) (w .wide .result) (w .wide .ensures .0) (now (s .args .output)) _ _ (v .before .before .if1 .left)
     (v .copy-values .ensures)
-    (ap (λ (n : ℕ). Live n (w .wide .result)) (t .stock-at .ensures) ∙ sym (pick-true (eqb (getD b (s .args .at + 1) 0) 0x57) _ _ live))
+    (λ i. accepts-both (t .stock-at .ensures i) (markedCount (sym live i) (w .wide .result)))
 
 same-length-2 : tie.Need-same-length-2
 same-length-2 c = search needs
@@ -89,7 +97,7 @@ returns-3 c =
     (λ live. mark-missed (getD b (s .args .at) 0) _ 0x4D 0x57 _ (m .has-mark .ensures) (c .if2 .left) (f .first) live) in
     told-whole b (s .args .at) f (w .wide .result) (w .wide .ensures .0) (now (s .args .output)) _ _ (v .before .before .if1 .left)
     (v .copy-values .ensures)
-    (ap (λ (n : ℕ). Removed n (w .wide .result)) (t .stock-at .ensures) ∙ sym (pick-false (eqb (getD b (s .args .at + 1) 0) 0x57) _ _ removed))
+    (λ i. accepts-both (t .stock-at .ensures i) (markedCount (sym removed i) (w .wide .result)))
 
 pub tell-record-spec : {M : Type 1} → statement M
 tell-record-spec =
@@ -102,7 +110,9 @@ tell-record-spec =
     add-copy-values
     copy-values-requires
     stock-at-requires
+    cast-stock
     has-mark-requires
+    add-marked
     same-length
     returns-2
     same-length-2

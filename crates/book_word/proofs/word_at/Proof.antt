@@ -4,6 +4,7 @@ use borrow.Author.Needs.{needs}
 use mathlib.Core.Path.{_≡_, subst}
 use denote.Ref.{now}
 use Rattle.letters.proofs.Tests.{of-true}
+use Rattle.refusals.specs.Outcome.{replyOutcome}
 use Rattle.book_check.specs.Opening.{Says}
 use Rattle.book_check.specs.declared.open.Opening.{Opening}
 use Rattle.book_word.specs.WordAt.{StartRight}
@@ -42,7 +43,7 @@ returns c =
     let i = t .before .before .before in
     let p = i .before .before .before .before in
     let s = p .before .before .before .args in
-    word-told (now (s .book)) _ (says p _ (i .before .before .free .given .1)) (s .start) (now (s .output)) _ (t .tell-record .result)
+    word-told (now (s .book)) _ (says p _ (i .before .before .free .given .1)) (s .start) (now (s .output)) _ (replyOutcome (t .tell-record .result))
     (subst (StartRight (now (s .book)) (s .start)) (t .before .before .if1 .taken) (i .is-start .ensures)) (t .tell-record .ensures)
 
 returns-2 : tie.Need-returns-2

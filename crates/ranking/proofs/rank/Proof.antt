@@ -76,6 +76,9 @@ stock-at-requires c κs =
     let h = r .before .before .if1 .left in
     (t .is-book .short, rw (c .place-of .ensures) (start-within t (answered o _ g) s (o .before .before .args .number) h))
 
+cast-stock : tie.Need-cast-stock
+cast-stock c = search needs
+
 returns-2 : tie.Need-returns-2
 returns-2 c =
     let o = c .before .before .before in
@@ -105,5 +108,6 @@ rank-spec =
     array-read-place-of
     place-of-requires
     stock-at-requires
+    cast-stock
     returns-2
     returns-3)

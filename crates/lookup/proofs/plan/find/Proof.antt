@@ -25,6 +25,9 @@ enum-known-place c = search needs
 enum-known-start : tie.Need-enum-known-start
 enum-known-start c = search needs
 
+cast-t9 : tie.Need-cast-t9
+cast-t9 c = search needs
+
 enum-told : tie.Need-enum-told
 enum-told c = search needs
 
@@ -44,6 +47,7 @@ find-spec =
     look-up-requires
     enum-known-place
     enum-known-start
+    cast-t9
     enum-told
     returns
     returns-2

@@ -4,9 +4,10 @@ use mathlib.Core.Path.{_≡_, subst}
 use Prim.Native.Nat.{_+_, _-_}
 use native.Mathlib.Omega.{arith}
 use borrow.Author.Needs.{needs}
-use Rattle.reading.specs.Parts.{partOutcomeOf, HasPart, PartAnswers}
-use Rattle.reading.specs.declared.parts.PartAnswer.{PartAnswer}
-use Rattle.reading.proofs.Parted.{part-right, part-beyond, part-refused}
+use Rattle.refusals.specs.Outcome.{replyOutcome}
+use Rattle.refusals.specs.declared.Reply.{Reply}
+use Rattle.reading.specs.Parts.{HasPart, PartAnswers}
+use Rattle.reading.proofs.Parted.{part-right, part-none}
 use Rattle.reading.proofs.parts.part_at.Statement.{statement}
 use Rattle.reading.proofs.parts.part_at.Tie as tie
 
@@ -15,25 +16,22 @@ has : (c : tie.After-known-told) → let g = c .before .place .given .0 in let s
     HasPart (s .word .now) (s .number) (g .0) (g .1 .0)
 has c =
     let p = c .before .before .before in
-    subst (λ (a : PartAnswer). PartAnswers (p .before .before .args .word .now) (p .before .before .args .number) (partOutcomeOf a)) (c .before .place .given .1) (p .part-place .ensures)
+    subst (λ (a : Reply). PartAnswers (p .before .before .args .word .now) (p .before .before .args .number) (replyOutcome a)) (c .before .place .given .1) (p .part-place .ensures)
 
 part-place-requires : tie.Need-part-place-requires
 part-place-requires c κs = search needs
 
-enum-told : tie.Need-enum-told
-enum-told c = search needs
+enum-known-place : tie.Need-enum-known-place
+enum-known-place c = search needs
 
 slice-aggregate-result : tie.Need-slice-aggregate-result
 slice-aggregate-result c = search needs
 
-enum-told-2 : tie.Need-enum-told-2
-enum-told-2 c = search needs
-
-slice-aggregate-result-2 : tie.Need-slice-aggregate-result-2
-slice-aggregate-result-2 c = search needs
-
-enum-known-place : tie.Need-enum-known-place
-enum-known-place c = search needs
+returns : tie.Need-returns
+returns c =
+    let p = c .before .before in
+    let s = p .before .before .args in
+    part-none (s .word .now) (s .number) (p .part-place .result) (c .before .match .keys2) (p .part-place .ensures)
 
 add-end : tie.Need-add-end
 add-end c = omega (arith, has c .within, has c .admissible .short)
@@ -50,22 +48,8 @@ part-result-start c = search needs
 part-result-end : tie.Need-part-result-end
 part-result-end c = omega (arith, has c .within)
 
-returns : tie.Need-returns
-returns c =
-    let p = c .before .before .before in
-    let s = p .before .before .args in
-    part-refused (s .word .now) (s .number) _ _
-    (subst (λ (a : PartAnswer). PartAnswers (s .word .now) (s .number) (partOutcomeOf a)) (c .before .enum-told .given .1) (p .part-place .ensures))
-
 returns-2 : tie.Need-returns-2
 returns-2 c =
-    let p = c .before .before .before in
-    let s = p .before .before .args in
-    part-beyond (s .word .now) (s .number)
-    (subst (λ (a : PartAnswer). PartAnswers (s .word .now) (s .number) (partOutcomeOf a)) (c .before .enum-told2 .given .1) (p .part-place .ensures))
-
-returns-3 : tie.Need-returns-3
-returns-3 c =
     let k = c .before in
     let s = k .before .before .before .before .before .args in
     let g = k .before .place .given .0 in
@@ -77,16 +61,12 @@ part-at-spec =
     tie.close
     (tie.spec
     part-place-requires
-    enum-told
-    slice-aggregate-result
-    enum-told-2
-    slice-aggregate-result-2
     enum-known-place
+    slice-aggregate-result
+    returns
     add-end
     mul-result
     sub-result
     part-result-start
     part-result-end
-    returns
-    returns-2
-    returns-3)
+    returns-2)

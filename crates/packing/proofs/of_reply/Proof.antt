@@ -1,28 +1,17 @@
--- `packing::of_record_word` meets its contract: each arm packs the numbers of its answer; a count cut to its bits before 256 is added is cut to the same number.
+-- `packing::of_reply` meets its contract: each arm packs the numbers of its answer.
 -- Assumes nothing.
-use mathlib.Core.Path.{_∙_}
 use borrow.Author.Needs.{needs}
-use Rattle.packing.proofs.Laws.{second-cut}
-use Rattle.packing.proofs.of_record_word.Statement.{statement}
-use Rattle.packing.proofs.of_record_word.Tie as tie
+use Rattle.packing.proofs.of_reply.Statement.{statement}
+use Rattle.packing.proofs.of_reply.Tie as tie
 
 enum-known-answer : tie.Need-enum-known-answer
 enum-known-answer c = search needs
-
-add-packed : tie.Need-add-packed
-add-packed c = search needs
-
-cast-packed : tie.Need-cast-packed
-cast-packed c = search needs
 
 packed-requires : tie.Need-packed-requires
 packed-requires c κs = search needs
 
 enum-known-answer-2 : tie.Need-enum-known-answer-2
 enum-known-answer-2 c = search needs
-
-cast-packed-2 : tie.Need-cast-packed-2
-cast-packed-2 c = search needs
 
 packed-requires-2 : tie.Need-packed-requires-2
 packed-requires-2 c κs = search needs
@@ -40,7 +29,7 @@ refused-requires : tie.Need-refused-requires
 refused-requires c κs = search needs
 
 returns : tie.Need-returns
-returns c = rw (c .before .before .answer .given .1) (c .packed .ensures ∙ second-cut 0 _ 256 _)
+returns c = rw (c .before .before .answer .given .1) (c .packed .ensures)
 
 returns-2 : tie.Need-returns-2
 returns-2 c = rw (c .before .before .answer2 .given .1) (c .packed2 .ensures)
@@ -51,16 +40,13 @@ returns-3 c = rw (c .before .enum-told .given .1) (c .packed3 .ensures)
 returns-4 : tie.Need-returns-4
 returns-4 c = rw (c .before .before .answer3 .given .1) (c .refused .ensures)
 
-pub of-record-word-spec : {M : Type 1} → statement M
-of-record-word-spec =
+pub of-reply-spec : {M : Type 1} → statement M
+of-reply-spec =
     tie.close
     (tie.spec
     enum-known-answer
-    add-packed
-    cast-packed
     packed-requires
     enum-known-answer-2
-    cast-packed-2
     packed-requires-2
     enum-told
     packed-requires-3
