@@ -1,4 +1,4 @@
-// What a call answers: a number that it tells, or one of document 01's refusals, each with its number and its place.
+// What a call answers: numbers that it tells, or one of document 01's refusals, each with its number and its place.
 use formula::Word;
 ghost use mathlib.Core.Path.{_≡_};
 ghost use Rattle.refusals.specs.Refusal.{numberOf, placeOf};
