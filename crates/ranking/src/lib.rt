@@ -22,7 +22,7 @@ mod merging; // merging.rt: a merge sort of starts
 use crate::merging::sort_front;
 
 // Puts the starts of the live records of a book, in word order, at the front of `starts`. Gives how many there are.
-pub fn sort_records(book: &[u8], free: usize, starts: &mut [u16]) -> usize
+fn sort_records(book: &[u8], free: usize, starts: &mut [u16]) -> usize
     requires { ⌜ Opened (now book) free × HasRoom (now book) (now starts) ⌝ }
     ensures { λ r. ⌜ SortedRight (now (book .entry)) (now (starts .entry)) (now (starts .exit)) r ⌝ }
 {
