@@ -1,32 +1,37 @@
 //! The stored calls on word books, played in their order through the proved library. Every answer
 //! must be the stored one, byte for byte, and so must a checksum of the whole array, of which the
-//! book is only the front: a byte changed behind the book shows too.
+//! book is only the front, and of what the call left in its output: a byte changed behind the book
+//! shows too.
 //!
 //! A call is a line: hexadecimal numbers, each but the last with a space behind it, and a letter.
 //! `1000 103A 7a` adds the word 1000 103A with the stock number 7.
 
-use jogcairn::{Book, Found, Refusal, BOOK_LIMIT};
-use oracle::calls::{Call, Play};
+use jogcairn::book::{order_into, word_into};
+use jogcairn::{Book, Found, Refusal, Told, BOOK_LIMIT};
+use oracle::calls::{Call, Play, BLANK};
 
 const CALLS: &str = include_str!("../calls/calls");
 const ANSWERS: &str = include_str!("../calls/answers");
 
-/// An array with room behind the longest book, and how many bytes at its front are the book.
+/// An array with room behind the longest book, how many bytes at its front are the book, and the
+/// output of the last call.
 struct Array {
     bytes: [u8; BOOK_LIMIT + 16],
     lent: usize,
+    output: Vec<u16>,
 }
 
 impl Array {
     /// Zeros, of which the first so many are lent.
     fn new(lent: usize) -> Array {
-        Array { bytes: [0; BOOK_LIMIT + 16], lent }
+        Array { bytes: [0; BOOK_LIMIT + 16], lent, output: Vec::new() }
     }
 
     /// The bytes as digits of a number to the base 16,777,619, of which the last 32 bits are kept.
     /// The code that made the stored checksums is not asked.
     fn checksum(&self) -> u64 {
-        let digits = self.bytes.iter().map(|&byte| u64::from(byte));
+        let output = self.output.iter().flat_map(|value| value.to_le_bytes());
+        let digits = self.bytes.iter().copied().chain(output).map(u64::from);
         digits.fold(0, |sum, digit| (sum * 16_777_619 + digit) % (1 << 32))
     }
 }
@@ -38,6 +43,11 @@ type Answer = Result<(usize, u32), Refusal>;
 type Library = fn(&Call, &mut Array) -> Option<Answer>;
 
 fn proved(call: &Call, array: &mut Array) -> Option<Answer> {
+    let room = match call {
+        Call::Order(room) | Call::Word(_, room) => *room,
+        _ => 0,
+    };
+    array.output = vec![BLANK; room];
     let mut book = Book::new(&mut array.bytes[..array.lent]);
     let alone = |number| (number, 0);
     let both = |found: Found| (found.start, found.stock);
@@ -49,8 +59,20 @@ fn proved(call: &Call, array: &mut Array) -> Option<Answer> {
         Call::Remove(word) => return Some(book.remove(word).map(alone)),
         Call::Find(word) => return Some(book.find(word).map(both)),
         Call::Rank(rank) => return Some(book.rank(*rank as usize).map(both)),
+        Call::Order(_) => {
+            return Some(order_into(book.as_bytes(), &mut array.output).map(alone));
+        }
+        Call::Word(start, _) => {
+            let told = word_into(book.as_bytes(), *start, &mut array.output);
+            return Some(told.map(|told| told.map_or((0, 0), marked)));
+        }
     }
     None
+}
+
+/// How many values a word has, with 256 more where its record is live, and the stock number.
+fn marked(told: Told) -> (usize, u32) {
+    (told.count + 256 * usize::from(told.live), told.stock)
 }
 
 /// The call that a line asks for.
@@ -71,6 +93,8 @@ fn call_of(line: &str) -> Option<Call> {
         ("r", _, None) => Some(Call::Remove(values)),
         ("f", _, None) => Some(Call::Find(values)),
         ("k", [], Some(rank)) => Some(Call::Rank(rank)),
+        ("o", [], Some(room)) => Some(Call::Order(room as usize)),
+        ("w", [start], Some(room)) => Some(Call::Word(usize::from(*start), room as usize)),
         _ => None,
     }
 }
@@ -178,10 +202,33 @@ fn a_byte_changed_behind_the_book_is_reported() {
 }
 
 #[test]
+fn starts_in_their_own_order_and_a_lost_value_are_reported() {
+    let by_start: Library = |call, array| {
+        let answer = proved(call, array);
+        if let (Call::Order(_), Some(Ok((count, _)))) = (call, &answer) {
+            array.output[..*count].sort_unstable();
+        }
+        answer
+    };
+    let last_value_lost: Library = |call, array| {
+        let answer = proved(call, array);
+        if let (Call::Word(..), Some(Ok((count @ 1.., _)))) = (call, &answer) {
+            array.output[count % 256 - 1] = BLANK;
+        }
+        answer
+    };
+    let difference = play(CALLS, ANSWERS, by_start).unwrap_err();
+    assert!(difference.contains("o\", line "), "{difference}");
+    let difference = play(CALLS, ANSWERS, last_value_lost).unwrap_err();
+    assert!(difference.contains("w\", line "), "{difference}");
+}
+
+#[test]
 fn a_line_that_is_no_call_is_reported() {
-    for line in
-        ["", "x", "7c", "1000 7f", "1000 a", "1000  7a", "G 7a", "10000 7a", "100p", "0 100p"]
-    {
+    for line in [
+        "", "x", "7c", "1000 7f", "1000 a", "1000  7a", "G 7a", "10000 7a", "100p", "0 100p", "o",
+        "0 0o", "0w",
+    ] {
         let difference = play(&format!("c\n{line}\n"), "OK 0 0 0\n", proved).unwrap_err();
         assert_eq!(difference, format!("calls, line 2: {line:?} is no call"));
     }

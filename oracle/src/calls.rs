@@ -4,17 +4,19 @@
 //! A call is a few hexadecimal numbers, each but the last with a space behind it,
 //! and a letter: `1000 103A 7a` adds the word 1000 103A with the stock number 7.
 //! For each call on a book one line is printed: `OK` and two numbers, or `NO`,
-//! refusal number and place; then a checksum of the whole array.
+//! refusal number and place; then a checksum of the whole array and what the call
+//! left in its output.
 
 mod damages;
 mod fillings;
+mod listings;
 mod play;
 mod ranks;
 mod refusals;
 mod turns;
 mod words;
 
-pub use play::{checksum, Answer, Call, Play, ARRAY_SIZE};
+pub use play::{checksum, Answer, Call, Play, ARRAY_SIZE, BLANK};
 
 /// All calls, with what must be printed for them.
 pub fn all() -> Play {
@@ -35,5 +37,8 @@ pub fn all() -> Play {
     play.scene("any damage", damages::any_damage);
     play.scene("ranks", ranks::ranks);
     play.scene("deep ranks", ranks::deep_ranks);
+    play.scene("listings", listings::listings);
+    play.scene("rooms", listings::rooms);
+    play.scene("no books", listings::no_books);
     play
 }

@@ -28,6 +28,8 @@ fn every_answer_occurs() {
     numbers("remove", &[1, 8, 2, 3, 4, 11, 13]);
     numbers("find", &[1, 8, 2, 3, 4, 11, 13]);
     numbers("rank", &[11, 15]);
+    numbers("order", &[11, 5]);
+    numbers("word", &[11, 5]);
 }
 
 /// 2 · 16,777,619 + 3, and that times 16,777,619 without what passes 32 bits.

@@ -26,9 +26,18 @@ pub enum Call {
     Find(Vec<u16>),
     /// A number of live records.
     Rank(u32),
+    /// The room for the starts of all live records.
+    Order(usize),
+    /// Where a record starts, and the room for its word.
+    Word(usize, usize),
 }
 
-/// Two numbers, the second 0 where a call gives only one; or a refusal.
+/// What stands in an output before a call.
+pub const BLANK: u16 = 0xA5A5;
+
+/// Two numbers, the second 0 where a call gives only one; or a refusal. The word of
+/// a record has the number of its values, with 256 more where the record is live and
+/// 0 where there is none, and the stock number.
 pub type Answer = Result<(usize, u32), Refusal>;
 
 /// The calls so far, what must be printed for them, and the array as they left it.
@@ -123,13 +132,37 @@ impl Play {
         self.told(Call::Rank(rank), entry.map(pair))
     }
 
+    /// Plays a call on the book.
+    pub fn order(&mut self, room: usize) -> Answer {
+        let mut output = vec![BLANK; room];
+        let count = book::order(&self.array[..self.length], &mut output);
+        self.told_with(Call::Order(room), count.map(|count| (count, 0)), &output)
+    }
+
+    /// Plays a call on the book.
+    pub fn word(&mut self, start: usize, room: usize) -> Answer {
+        let mut output = vec![BLANK; room];
+        let told = book::word_at(&self.array[..self.length], start, &mut output);
+        let numbers = told.map(|told| match told {
+            Some(told) => (told.count + 256 * usize::from(told.live), told.stock),
+            None => (0, 0),
+        });
+        self.told_with(Call::Word(start, room), numbers, &output)
+    }
+
     fn told(&mut self, call: Call, answer: Answer) -> Answer {
+        self.told_with(call, answer, &[])
+    }
+
+    /// The answer of a call, with what it left in its output.
+    fn told_with(&mut self, call: Call, answer: Answer, output: &[u16]) -> Answer {
         self.note(&call);
         let (verdict, first, second) = match answer {
             Ok((first, second)) => ("OK", first, u64::from(second)),
             Err(refusal) => ("NO", usize::from(refusal.number), refusal.place as u64),
         };
-        let sum = checksum(&self.array);
+        let output: Vec<u8> = output.iter().flat_map(|value| value.to_le_bytes()).collect();
+        let sum = checksum(&[&self.array, &output[..]].concat());
         writeln!(self.expected, "{verdict} {first} {second} {sum}").expect("memory");
         let kind = match answer {
             Ok(_) => format!("{} OK", name(&call)),
@@ -148,6 +181,8 @@ impl Play {
             Call::Remove(word) => format!("{}r", values(word)),
             Call::Find(word) => format!("{}f", values(word)),
             Call::Rank(rank) => format!("{rank:X}k"),
+            Call::Order(room) => format!("{room:X}o"),
+            Call::Word(start, room) => format!("{start:X} {room:X}w"),
         };
         self.input.push_str(&line);
         self.input.push('\n');
@@ -173,6 +208,8 @@ fn name(call: &Call) -> &'static str {
         Call::Remove(_) => "remove",
         Call::Find(_) => "find",
         Call::Rank(_) => "rank",
+        Call::Order(_) => "order",
+        Call::Word(..) => "word",
     }
 }
 
