@@ -12,11 +12,10 @@ use lib.Dec.{T, eqb}
 use lib.ListN.{length, getD, take, drop, set, getD-replicate}
 use lib.Seq.{getD-set-same, getD-set-other}
 use Rattle.letters.proofs.Tests.{is-true, is-false, of-true, or-left, or-right, or-cases}
-use Rattle.formula.proofs.Lists.{both, both-left, both-right, sameList, sameList-equal}
+use Rattle.formula.proofs.Lists.{both, both-left, both-right, sameList, sameList-equal, sameList-refl}
 use Rattle.entries.specs.Limits.{bookLimit}
 use Rattle.entries.specs.Entries.{Entry, valueOf, wordAt, entryAt, isFramed, holds}
 use Rattle.entries.specs.Book.{byteOf, zeros}
-use Rattle.entries.proofs.Tests.{sameList-refl}
 use Rattle.entries.proofs.Bytes.{byte-value}
 use Rattle.entries.proofs.Records.{Framed, framed-true, length-word}
 use Rattle.book_check.specs.Chain.{buckets, wordBytes, hashOf, bucketAt, LiveAt, Drawn, Link, Chained}

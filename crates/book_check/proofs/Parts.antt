@@ -12,9 +12,8 @@ use lib.ListN.{length, getD, drop, drop-of-length-le}
 use lib.Seq.{drop-cons, ext-getD}
 use Rattle.letters.specs.Choice.{pick}
 use Rattle.letters.proofs.Tests.{is-true, is-false}
-use Rattle.formula.proofs.Lists.{sameList, sameList-equal}
+use Rattle.formula.proofs.Lists.{sameList, sameList-equal, sameList-refl}
 use Rattle.entries.specs.Entries.{Entries, wrong, zeroTail}
-use Rattle.entries.proofs.Tests.{sameList-refl}
 use Rattle.book_frame.proofs.Parts.{part, part-length, part-at}
 use Rattle.book_check.specs.Chain.{buckets, hashOf}
 

@@ -7,3 +7,4 @@ pub mod Lookups
 pub mod Added
 pub mod Removed
 pub mod Ranked
+pub mod Passing

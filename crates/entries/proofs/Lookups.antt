@@ -7,10 +7,9 @@ use mathlib.Core.Option.{Option, none, some, Option·none-ne-some}
 use Prim.Native.Nat.{ℕ}
 use Rattle.letters.specs.Choice.{pick}
 use Rattle.letters.proofs.Tests.{is-true, is-false, of-true, pick-true, pick-false}
-use Rattle.formula.proofs.Lists.{both-right, sameList, sameList-equal}
+use Rattle.formula.proofs.Lists.{both-right, sameList, sameList-equal, sameList-refl}
 use Rattle.entries.specs.Entries.{Entry, holds}
 use Rattle.entries.specs.Map.{lookup, removed, without, newEntry}
-use Rattle.entries.proofs.Tests.{sameList-refl}
 
 -- the first that there is
 abbrev orElse : Option Entry → Option Entry → Option Entry

@@ -12,12 +12,11 @@ use lib.Dec.{T}
 use lib.ListN.{length, getD}
 use Rattle.letters.specs.Choice.{pick}
 use Rattle.letters.proofs.Tests.{is-true, is-false, of-true, or-left, or-right, clash}
-use Rattle.formula.proofs.Lists.{both, sameList}
+use Rattle.formula.proofs.Lists.{both, sameList, sameList-refl}
 use Rattle.entries.specs.Entries.{Entry, holds, isFresh}
 use Rattle.entries.specs.Book.{size, GoodAfter, IsBook}
 use Rattle.entries.specs.Map.{counted, liveCount}
 use Rattle.entries.specs.Rank.{insert, sortedOnto, sorted, liveBefore, AllBehind, Rising}
-use Rattle.entries.proofs.Tests.{sameList-refl}
 
 counted-swap : (s t : Bool) (n : ℕ) → counted s (counted t n) ≡ counted t (counted s n)
 counted-swap true true n = refl
@@ -106,7 +105,7 @@ module _ (before : Entry → Entry → Bool) where
       go false q h i = i
 
   module _ (irreflexive : (x : Entry) → T (before x x) → ⊥) (transitive : (x y z : Entry) → T (before x y) → T (before y z) → T (before x z)) where
-    behind-all : (e x : Entry) (l : List Entry) → T (before e x) → AllBehind before x l → AllBehind before e l
+    pub behind-all : (e x : Entry) (l : List Entry) → T (before e x) → AllBehind before x l → AllBehind before e l
     behind-all e x [] t a = tt
     behind-all e x (y ∷ l) t a = (transitive e x y t (a .0), behind-all e x l t (a .1))
 
@@ -124,7 +123,7 @@ module _ (before : Entry → Entry → Bool) where
     Apart e [] = Unit {0}
     Apart e (x ∷ l) = (T (before e x) ⊎ T (before x e)) × Apart e l
 
-    rising-insert : (e : Entry) (l : List Entry) → Apart e l → Rising before l → Rising before (insert before e l)
+    pub rising-insert : (e : Entry) (l : List Entry) → Apart e l → Rising before l → Rising before (insert before e l)
     unfolding insert pick
     rising-insert e [] d r = (tt, tt)
     rising-insert e (x ∷ l) d r = go (before e x) refl (rising-insert e l (d .1) (r .1))
@@ -216,7 +215,7 @@ module _ (before : Entry → Entry → Bool) where
       sorted-snoc d [] e = refl
       sorted-snoc d (x ∷ seen) e = sorted-snoc (pick (x .live) (insert before x d) d) seen e
 
-      good-apart : (at : ℕ) (seen es : List Entry) → GoodAfter at seen es → ApartEach (sorted before seen) es
+      pub good-apart : (at : ℕ) (seen es : List Entry) → GoodAfter at seen es → ApartEach (sorted before seen) es
       unfolding isFresh
       good-apart at seen [] g = tt
       good-apart at seen (e ∷ es) g = (

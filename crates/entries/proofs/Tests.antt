@@ -1,19 +1,14 @@
--- The tests of the definitions, as facts: the test for readable words is that there is a row, and words are the same where the test says so.
+-- The test for readable words, as a fact: it says that there is a row.
 -- Assumes nothing.
 use mathlib.Core.Path.{_≡_, refl, subst}
 use mathlib.Core.Bool.{Bool, true, false}
-use mathlib.Core.List.{List, [], _∷_}
+use mathlib.Core.List.{List}
 use Prim.Native.Nat.{ℕ}
-use lib.Dec.{T, eqb, eqb-refl}
+use lib.Dec.{T}
 use Rattle.letters.proofs.Tests.{is-true}
-use Rattle.formula.proofs.Lists.{both, sameList}
 use Rattle.recogniser.specs.Answer.{Readable, RowTest}
 use Rattle.entries.specs.Readable.{decided, isReadable}
 use Rattle.recogniser.proofs.Decided.{decide}
-
-pub sameList-refl : (l : List ℕ) → T (sameList l l)
-sameList-refl [] = tt
-sameList-refl (x ∷ l) = both (eqb x x) (sameList l l) (eqb-refl x) (sameList-refl l)
 
 -- the test for readable words decides
 pub readable-test : (word : List ℕ) → RowTest word (isReadable word)

@@ -4,3 +4,4 @@ pub mod Words
 pub mod Classes
 pub mod Pieces
 pub mod Records
+pub mod Filtered

@@ -9,9 +9,8 @@ use lib.Dec.{T}
 use lib.ListN.{length, getD}
 use lib.Seq.{ext-getD}
 use Rattle.letters.proofs.Tests.{is-true, is-false}
-use Rattle.formula.proofs.Lists.{sameList, sameList-equal}
+use Rattle.formula.proofs.Lists.{sameList, sameList-equal, sameList-refl}
 use Rattle.entries.specs.Entries.{valueOf}
-use Rattle.entries.proofs.Tests.{sameList-refl}
 use Rattle.book_frame.proofs.Parts.{part, length-values, value-at}
 
 pub word-same : (b w : List ℕ) (from : ℕ) → from + length w ≤ length b → ((k : ℕ) → k < length w → valueOf (getD b (from + k) 0) ≡ getD w k 0)

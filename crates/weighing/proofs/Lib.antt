@@ -2,3 +2,4 @@ pub mod Lexicographic
 pub mod OrderOfNumbers
 pub mod Passing
 pub mod Laws
+pub mod Prefix
