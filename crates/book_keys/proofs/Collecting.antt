@@ -11,6 +11,7 @@ use lib.ListN.{length, getD, take, drop, set, length-map, length-append}
 use lib.Seq.{sets, length-sets}
 use Rattle.memory.proofs.Stores.{sets-append, sets-there, sets-behind}
 use Rattle.letters.specs.Choice.{pick}
+use Rattle.formula.specs.Lists.{filtered}
 use Rattle.recogniser.specs.Answer.{Readable}
 use Rattle.entries.specs.Entries.{Entry, wordAt}
 use Rattle.entries.specs.Map.{counted, liveCount}
@@ -31,7 +32,7 @@ pub record Collected (b : List ℕ) (free : ℕ) (keys-before starts-before keys
   pub keys-are : keys ≡ withKeys b keys-before (liveStarts seen)
 
 pub collect-start : (b : List ℕ) (free : ℕ) (keys starts : List ℕ) → Opened b free → Collected b free keys starts keys starts 0 0
-unfolding liveOnes withKeys
+unfolding filtered withKeys
 collect-start b free keys starts o =
     record {
       list = o .list;
@@ -51,7 +52,7 @@ pub collect-as : (b : List ℕ) (free : ℕ) (keys-before starts-before keys sta
 collect-as b free keys-before starts-before keys starts live at keys-now starts-now live-now at-now p q r s c = rw (p, q, r, s) c
 
 live-snoc : (seen : List Entry) (x : Entry) → liveStarts (seen ++ (x ∷ [])) ≡ liveStarts seen ++ pick (x .live) (x .start ∷ []) []
-unfolding liveOnes pick
+unfolding filtered pick
 live-snoc [] x = go (x .live)
   where
     go : (t : Bool) → map startOf (pick t (x ∷ []) []) ≡ pick t (x .start ∷ []) []
@@ -71,7 +72,7 @@ unfolding withKeys
 keys-snoc b keys [] s = refl
 keys-snoc b keys (x ∷ starts) s = keys-snoc b (sets keys (5 * x) (filedKey (rowOf (wordAt b x)))) starts s
 
-starts-snoc : (starts list : List ℕ) (s : ℕ) → sets starts 0 (list ++ (s ∷ [])) ≡ set (sets starts 0 list) (length list) s
+pub starts-snoc : (starts list : List ℕ) (s : ℕ) → sets starts 0 (list ++ (s ∷ [])) ≡ set (sets starts 0 list) (length list) s
 starts-snoc starts list s =
     let n : 0 + length list ≡ length list = omega arith in
     sym (sets-append list (s ∷ []) starts 0) ∙ ap (λ (k : ℕ). set (sets starts 0 list) k s) n

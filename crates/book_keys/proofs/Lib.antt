@@ -4,3 +4,4 @@ pub mod Live
 pub mod Collecting
 pub mod Laws
 pub mod Comparing
+pub mod Fits

@@ -11,6 +11,7 @@ use lib.ListN.{length, getD, take, drop}
 use lib.Seq.{sets, length-sets, take-take}
 use Rattle.memory.proofs.Stores.{sets-before, sets-there}
 use Rattle.letters.specs.Choice.{pick}
+use Rattle.formula.specs.Lists.{filtered}
 use Rattle.letters.proofs.Tests.{of-true}
 use Rattle.recogniser.specs.Answer.{Readable}
 use Rattle.entries.specs.Limits.{bookLimit}
@@ -28,7 +29,7 @@ abbrev pub liveStarts : List Entry → List ℕ
 liveStarts list = map startOf (liveOnes list)
 
 pub live-count : (list : List Entry) → length (liveOnes list) ≡ liveCount list
-unfolding liveOnes pick
+unfolding filtered pick
 live-count [] = refl
 live-count (x ∷ list) = go (x .live) (live-count list)
   where
@@ -61,7 +62,7 @@ live-few b list k =
     omega (arith, live-ends 0 [] list (k .good), free-within b (endOf 0 list) (record { list = list; is-book = k; end = refl }), k .short)
 
 pub live-all : (list : List Entry) → AllLive (liveOnes list)
-unfolding liveOnes pick
+unfolding filtered pick
 live-all [] = tt
 live-all (x ∷ list) = go (x .live) refl (live-all list)
   where
@@ -71,7 +72,7 @@ live-all (x ∷ list) = go (x .live) refl (live-all list)
 
 -- removed entries have no part in the order
 pub sorted-live : (test : Entry → Entry → Bool) (done list : List Entry) → sortedOnto test done (liveOnes list) ≡ sortedOnto test done list
-unfolding sortedOnto liveOnes pick
+unfolding sortedOnto filtered pick
 sorted-live test done [] = refl
 sorted-live test done (x ∷ list) =
     go (x .live) refl (sorted-live test (pick (x .live) (insert test x done) done) list)
@@ -93,7 +94,7 @@ here-readable b at free list seen x rest h = subst (λ (e : Entry). Readable (e 
 
 entries-ahead : (b : List ℕ) (at free : ℕ) (list seen rest : List Entry) → Walk b at free list seen rest
     → map (entryAt b) (liveStarts rest) ≡ liveOnes rest
-unfolding liveOnes pick
+unfolding filtered pick
 entries-ahead b at free list seen [] w = refl
 entries-ahead b at free list seen (x ∷ rest) w =
     let h : Here b at free list seen x rest = here b at free list seen x rest w in
@@ -119,7 +120,7 @@ spaced-before b at from [] h s = tt
 spaced-before b at from (x ∷ starts) h s = let l = s .0 in (omega arith, s .1, s .2, s .3)
 
 spaced-ahead : (b : List ℕ) (at free : ℕ) (list seen rest : List Entry) → Walk b at free list seen rest → Spaced b at (liveStarts rest)
-unfolding liveOnes pick
+unfolding filtered pick
 spaced-ahead b at free list seen [] w = tt
 spaced-ahead b at free list seen (x ∷ rest) w =
     let h : Here b at free list seen x rest = here b at free list seen x rest w in

@@ -44,12 +44,13 @@ module _ (word : List ℕ) (readable : Readable word) (answer : Counted) (key : 
     pub filled-count : n ≡ length (rowOf word)
     filled-count = sym (ap length (reads .only (rowOf word) gives) ∙ reads .count)
 
-    pub filled-key : n ∷ take (usedBytes n) key ≡ filedKey (rowOf word)
-    unfolding filedKey
-    filled-key =
+    pub filled-weights : take (usedBytes n) key ≡ keyOf (rowOf word)
+    filled-weights =
         let row = rowOf word in
         let filled = subst (λ (a : Counted). KeyIfRead word (outcomeOf a) key) e (right .key) row gives in
-        let weights : take (usedBytes n) key ≡ keyOf row =
         ap (take (usedBytes n)) filled
-        ∙ take-at (keyOf row) (zeros (keyLimit - usedBytes (length row))) (usedBytes n) (key-used row ∙ ap usedBytes (sym filled-count)) in
-        λ i. filled-count i ∷ weights i
+        ∙ take-at (keyOf row) (zeros (keyLimit - usedBytes (length row))) (usedBytes n) (key-used row ∙ ap usedBytes (sym filled-count))
+
+    pub filled-key : n ∷ take (usedBytes n) key ≡ filedKey (rowOf word)
+    unfolding filedKey
+    filled-key = λ i. filled-count i ∷ filled-weights i

@@ -7,7 +7,7 @@ use Prim.Native.Nat.{ℕ, _≤_}
 use lib.Dec.{T}
 use lib.ListN.{length, take, drop}
 use lib.Seq.{sets}
-use Rattle.letters.specs.Choice.{pick}
+use Rattle.formula.specs.Lists.{filtered}
 use Rattle.formula.specs.Row.{Row}
 use Rattle.recogniser.specs.Answer.{Readable}
 use Rattle.weighing.specs.Keys.{keyOf, usedBytes}
@@ -56,9 +56,8 @@ AllKeyed bytes keys [] = Unit {0}
 AllKeyed bytes keys (start ∷ starts) = HasKey bytes keys start × AllKeyed bytes keys starts
 
 -- the live entries of a list, in the list's order
-unfoldable pub liveOnes : List Entry → List Entry
-liveOnes [] = []
-liveOnes (entry ∷ entries) = pick (entry .live) (entry ∷ liveOnes entries) (liveOnes entries)
+abbrev pub liveOnes : List Entry → List Entry
+liveOnes = filtered (λ (entry : Entry). entry .live)
 
 abbrev pub startOf : Entry → ℕ
 startOf entry = entry .start
