@@ -18,7 +18,7 @@ use Rattle.entries.specs.Map.{counted, liveCount}
 use Rattle.entries.specs.Book.{IsBook, Opened}
 use Rattle.entries.proofs.Agree.{only}
 use Rattle.entries.proofs.Walk.{Walk, walk-start, Turn, turn, walk-seen}
-use Rattle.book_keys.specs.Filing.{rowOf, filedKey, keyRoom, AllKeyed, liveOnes, startOf, withKeys, HasRoom, FiledRight}
+use Rattle.book_keys.specs.Filing.{rowOf, filedKey, keyRoom, AllKeyed, liveOnes, startOf, mostLive, withKeys, FiledRight}
 use Rattle.book_keys.proofs.Live.{liveStarts, live-count, live-append, live-few, here-readable, Spaced, spaced-of-book, keys-length, all-keyed}
 
 -- at a place: the live records among those that are passed are filed
@@ -101,13 +101,13 @@ module _ (b : List ℕ) (free : ℕ) (keys-before starts-before keys starts : Li
         ∙ ap (λ (u : Bool). liveStarts (c .seen) ++ pick u (at ∷ []) []) e
 
     -- where it is live, there is room for its start
-    pub collect-fits : getD b (at + 1) 0 ≡ 0x57 → HasRoom b starts-before → live < length starts
+    pub collect-fits : getD b (at + 1) 0 ≡ 0x57 → mostLive ≤ length starts-before → live < length starts
     collect-fits m room =
         let here-live : t .entry .live ≡ true = ap (λ (x : Entry). x .live) (sym (t .stands .is)) ∙ eq-eqb (getD b (at + 1) 0) 0x57 m in
         let ahead : liveCount (c .rest) ≡ suc (liveCount (t .behind)) =
         ap liveCount (t .first) ∙ ap (λ (u : Bool). counted u (liveCount (t .behind))) here-live in
         let passed-live : live ≡ liveCount (c .seen) = c .count ∙ length-map (liveOnes (c .seen)) startOf ∙ live-count (c .seen) in
-        omega (arith, room (c .list) (c .walk .is-book), ap liveCount (c .walk .whole), live-append (c .seen) (c .rest), collect-long)
+        omega (arith, room, live-few b (c .list) (c .walk .is-book), ap liveCount (c .walk .whole), live-append (c .seen) (c .rest), collect-long)
 
     pub collect-live : getD b (at + 1) 0 ≡ 0x57 → (keys-after starts-after : List ℕ) → keys-after ≡ sets keys (5 * at) (filedKey (rowOf (wordAt b at)))
         → starts-after ≡ set starts live at
@@ -145,7 +145,7 @@ module _ (b : List ℕ) (free : ℕ) (keys-before starts-before keys starts : Li
         }
 
   -- all are passed
-  pub collect-end : length keys-before ≡ keyRoom → HasRoom b starts-before → free ≤ at → FiledRight b keys-before starts-before keys starts live
+  pub collect-end : length keys-before ≡ keyRoom → mostLive ≤ length starts-before → free ≤ at → FiledRight b keys-before starts-before keys starts live
   collect-end key-room room h =
       let w = c .walk in
       let short = w .is-book .short in
@@ -154,7 +154,7 @@ module _ (b : List ℕ) (free : ℕ) (keys-before starts-before keys starts : Li
       let others : (list : List Entry) → IsBook b list → c .seen ≡ list = λ list k. sym all ∙ only b (c .list) list (w .is-book) k in
       let count : live ≡ liveCount (c .list) =
       c .count ∙ length-map (liveOnes (c .seen)) startOf ∙ live-count (c .seen) ∙ ap liveCount (sym all) in
-      let fits : live ≤ length starts-before = omega (arith, count, room (c .list) (w .is-book)) in
+      let fits : live ≤ length starts-before = omega (arith, count, room, live-few b (c .list) (w .is-book)) in
       let filed : take live starts ≡ liveStarts (c .seen) =
       (λ i. take (c .count i) (c .starts-are i)) ∙ sets-there (liveStarts (c .seen)) starts-before 0 (omega (arith, c .count)) in
       record {

@@ -75,10 +75,6 @@ unfoldable pub withKeys : List ℕ → List ℕ → List ℕ → List ℕ
 withKeys bytes keys [] = keys
 withKeys bytes keys (start ∷ starts) = withKeys bytes (sets keys (usedBytes start) (filedKey (rowOf (wordAt bytes start)))) starts
 
--- a list has room for the starts of all live records of a book
-abbrev pub HasRoom : List ℕ → List ℕ → Type 0
-HasRoom bytes starts = (list : List Entry) → IsBook bytes list → liveCount list ≤ length starts
-
 -- the promise of `file_records`: the starts of the live records in their order, with the key of each; all else that is lent stays
 pub record FiledRight (bytes keys-before starts-before keys starts : List ℕ) (count : ℕ) : Type 0 where
   pub live : (list : List Entry) → IsBook bytes list → count ≡ liveCount list

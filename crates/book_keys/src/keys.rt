@@ -20,7 +20,7 @@ ghost use Rattle.weighing.specs.Keys.{usedBytes};
 ghost use Rattle.entries.specs.Limits.{bookLimit};
 ghost use Rattle.entries.specs.Entries.{wordAt, isFramed};
 ghost use Rattle.entries.specs.Book.{Opened};
-ghost use Rattle.book_keys.specs.Filing.{rowOf, filedKey, keyRoom, HasRoom, FiledRight};
+ghost use Rattle.book_keys.specs.Filing.{rowOf, filedKey, keyRoom, mostLive, FiledRight};
 
 // The bytes for the keys of a book: those of the record at a start stand from 5 times the start on.
 pub const KEY_ROOM: usize = 81920;
@@ -67,7 +67,7 @@ pub fn file_records(
     keys: &mut [u8; KEY_ROOM],
     starts: &mut [u16],
 ) -> usize
-    requires { ⌜ Opened (now book) free × (length (now keys) ≡ keyRoom) × HasRoom (now book) (now starts) ⌝ }
+    requires { ⌜ Opened (now book) free × (length (now keys) ≡ keyRoom) × (mostLive ≤ length (now starts)) ⌝ }
     ensures { λ r. ⌜ FiledRight (now (book .entry)) (now (keys .entry)) (now (starts .entry)) (now (keys .exit)) (now (starts .exit)) r ⌝ }
 {
     let mut live = 0;

@@ -55,7 +55,7 @@ insert-among e x (y ∷ l) m = go (before x y) (insert-among e x l) m
     go false f n = later f n
 
 -- what is sorted already stays, and each live entry is sorted in
-among-onto : (e : Entry) (d es : List Entry) → T (e .live) → Among e d ⊎ Among e es → Among e (sortedOnto before d es)
+pub among-onto : (e : Entry) (d es : List Entry) → T (e .live) → Among e d ⊎ Among e es → Among e (sortedOnto before d es)
 unfolding sortedOnto pick
 among-onto e d [] t m = ⊎-elim (λ n. n) (λ n. absurd n) m
 among-onto e d (x ∷ es) t m = among-onto e (pick (x .live) (insert before x d) d) es t (go (x .live) refl m)
@@ -69,7 +69,7 @@ among-onto e d (x ∷ es) t m = among-onto e (pick (x .live) (insert before x d)
     go false q (inr (inr n)) = inr n
 
 -- and nothing else is
-onto-among : (e : Entry) (d es : List Entry) → Among e (sortedOnto before d es) → Among e d ⊎ (T (e .live) × Among e es)
+pub onto-among : (e : Entry) (d es : List Entry) → Among e (sortedOnto before d es) → Among e d ⊎ (T (e .live) × Among e es)
 unfolding sortedOnto pick
 onto-among e d [] m = inl m
 onto-among e d (x ∷ es) m = go (x .live) refl (onto-among e (pick (x .live) (insert before x d) d) es m)
@@ -84,12 +84,12 @@ onto-among e d (x ∷ es) m = go (x .live) refl (onto-among e (pick (x .live) (i
     go true q (inl n) = put q (insert-among e x d n)
     go false q (inl n) = inl n
 
-at-among : (l : List Entry) (r : ℕ) (d : Entry) → r < length l → Among (getD l r d) l
+pub at-among : (l : List Entry) (r : ℕ) (d : Entry) → r < length l → Among (getD l r d) l
 at-among [] r d h = absurd (not-suc-le-zero h)
 at-among (x ∷ l) zero d h = inl refl
 at-among (x ∷ l) (suc r) d h = inr (at-among l r d (le-of-suc-le-suc h))
 
-among-at : (e : Entry) (l : List Entry) (d : Entry) → Among e l → (r : ℕ) × (r < length l) × (getD l r d ≡ e)
+pub among-at : (e : Entry) (l : List Entry) (d : Entry) → Among e l → (r : ℕ) × (r < length l) × (getD l r d ≡ e)
 among-at e [] d m = absurd m
 among-at e (x ∷ l) d (inl p) = (zero, suc-le-suc zero-le, sym p)
 among-at e (x ∷ l) d (inr m) = let a = among-at e l d m in (suc (a .0), suc-le-suc (a .1), a .2)
@@ -104,7 +104,7 @@ behind-at x [] s d a h = absurd (not-suc-le-zero h)
 behind-at x (y ∷ l) zero d a h = a .0
 behind-at x (y ∷ l) (suc s) d a h = behind-at x l s d (a .1) (le-of-suc-le-suc h)
 
-rising-at : (l : List Entry) (r s : ℕ) (d : Entry) → Rising before l → r < s → s < length l → T (before (getD l r d) (getD l s d))
+pub rising-at : (l : List Entry) (r s : ℕ) (d : Entry) → Rising before l → r < s → s < length l → T (before (getD l r d) (getD l s d))
 rising-at [] r s d a h k = absurd (not-suc-le-zero k)
 rising-at (x ∷ l) r zero d a h k = absurd (not-suc-le-zero h)
 rising-at (x ∷ l) zero (suc s) d a h k = behind-at x l s d (a .0) (le-of-suc-le-suc k)

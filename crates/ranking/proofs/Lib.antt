@@ -1,9 +1,4 @@
-pub mod Ordered
-pub mod Merges
-pub mod Keyed
-pub mod Turns
-pub mod Halves
 pub mod InOrder
-pub mod Answers
 pub mod Laws
+pub mod Answers
 pub mod Whole

@@ -1,17 +1,16 @@
 -- The whole book in one call, by its promise alone: only one answer meets it, and on a book the start at each place of the list is the one that
 -- the rank of that number gives. So the laws of rank say that each live entry stands there once, and nothing else.
 -- Assumes nothing.
-use mathlib.Core.Path.{_≡_, refl, sym, ap, _∙_}
-use mathlib.Core.List.{List, _++_}
+use mathlib.Core.Path.{_≡_, sym, ap, _∙_}
+use mathlib.Core.List.{List}
 use mathlib.Core.Option.{Option}
-use Prim.Native.Nat.{ℕ, _≤_, _<_}
+use Prim.Native.Nat.{ℕ, _<_}
 use native.Mathlib.Omega.{arith}
 use lib.Dec.{T}
-use lib.ListN.{length, getD, take, drop, length-append}
-use lib.Seq.{take-at, drop-at}
+use lib.ListN.{length, getD, drop}
 use Rattle.refusals.specs.Outcome.{Outcome, accepts, refuses}
-use Rattle.refusals.specs.Output.{refused, put, too-short}
 use Rattle.refusals.proofs.Determined.{Same, writes-determined}
+use Rattle.refusals.proofs.Accepted.{accepted-count, accepted-front, accepted-rest, accepted-fits}
 use Rattle.entries.specs.Entries.{Entry, entryAt, Entries, book, entries}
 use Rattle.entries.specs.Book.{IsBook}
 use Rattle.entries.specs.Map.{liveCount}
@@ -45,35 +44,23 @@ module _ (bytes : List ℕ) where
 
 module _ (bytes : List ℕ) (list : List Entry) (k : IsBook bytes list) (starts after : List ℕ) (count : ℕ)
     (p : OrderRight bytes starts after (accepts count)) where
-  given : (count ≡ length (startsInOrder list)) × (after ≡ startsInOrder list ++ drop count starts)
-  given = go (accepts count) refl p
-    where
-      go : (o : Outcome) → o ≡ accepts count → OrderRight bytes starts after o
-          → (count ≡ length (startsInOrder list)) × (after ≡ startsInOrder list ++ drop count starts)
-      go o e (refused r s) = let z : _≡_ {A = ℕ} 0 1 = cc in let y : ⊥ = omega arith in absurd y
-      go o e (too-short h l s) = let z : _≡_ {A = ℕ} 0 1 = cc in let y : ⊥ = omega arith in absurd y
-      go o e (put {thing = other} h l s) =
-          let same : other ≡ list = book-once bytes other list h (record { free = _; is = complete bytes list k }) in
-          let number : count ≡ length (startsInOrder other) = cc in (
-            number ∙ ap (λ (x : List Entry). length (startsInOrder x)) same,
-            s ∙ (λ i. startsInOrder (same i) ++ drop (sym number i) starts),
-          )
+  -- the entries are those of this list
+  same : (other : List Entry) → BookOf bytes other → other ≡ list
+  same other h = book-once bytes other list h (record { free = _; is = complete bytes list k })
 
   -- as many as are live
   pub order-count : count ≡ liveCount list
-  order-count = given .0 ∙ starts-count bytes list k
-
-  front : take count after ≡ startsInOrder list
-  front = ap (take count) (given .1) ∙ take-at (startsInOrder list) (drop count starts) count (sym (given .0))
+  order-count = accepted-count (NotABook bytes) (BookOf bytes) startsInOrder starts after count p list same ∙ starts-count bytes list k
 
   -- the rest of the list is untouched
   pub order-rest : drop count after ≡ drop count starts
-  order-rest = ap (drop count) (given .1) ∙ drop-at (startsInOrder list) (drop count starts) count (sym (given .0))
+  order-rest = accepted-rest (NotABook bytes) (BookOf bytes) startsInOrder starts after count p list same
 
   -- the start at a place is the one that the rank of that number gives
   pub order-is-rank : (r : ℕ) → r < count → rankOf (entries bytes) r ≡ finds (getD after r 0) (entryAt bytes (getD after r 0) .stock)
   order-is-rank r h =
-      let fits : count ≤ length after = omega (arith, given .0, ap length (given .1), length-append (startsInOrder list) (drop count starts)) in
+      let fits = accepted-fits (NotABook bytes) (BookOf bytes) startsInOrder starts after count p list same in
+      let front = accepted-front (NotABook bytes) (BookOf bytes) startsInOrder starts after count p list same in
       ap (λ (e : Entries). rankOf e r) (complete bytes list k)
       ∙ ap (λ (o : Option Entry). rankOfEntry o (liveCount list))
       (entry-there bytes list k r after count order-count fits front (omega (arith, order-count)))

@@ -1,3 +1,2 @@
-pub mod Sorting
 pub mod Rank
 pub mod Whole

@@ -4,16 +4,15 @@ use mathlib.Core.Path.{_≡_}
 use mathlib.Core.Logic.{_⊎_}
 use mathlib.Core.List.{List, [], _∷_, map}
 use mathlib.Core.Option.{Option, none, some}
-use Prim.Native.Nat.{ℕ, _≤_, _<_}
+use Prim.Native.Nat.{ℕ}
 use lib.Dec.{T}
-use lib.ListN.{length, getD, take, drop, getElem?}
+use lib.ListN.{getElem?}
 use Rattle.refusals.specs.Outcome.{Outcome, refuses}
-use Rattle.entries.specs.Entries.{Entry, isFramed, Entries, book, wrong, entries}
-use Rattle.entries.specs.Book.{IsBook}
+use Rattle.entries.specs.Entries.{Entry, Entries, book, wrong, entries}
 use Rattle.entries.specs.Map.{liveCount}
 use Rattle.entries.specs.Rank.{sorted, liveBefore}
 use Rattle.lookup.specs.Outcome.{finds}
-use Rattle.book_keys.specs.Filing.{before, startOf, mostLive}
+use Rattle.book_keys.specs.Filing.{before, startOf}
 
 -- the entry's "start and stock number"; 15 where there is none: "rank not below the live count", with the live count
 abbrev pub rankOfEntry : Option Entry → ℕ → Outcome
@@ -27,15 +26,6 @@ rankOf (wrong place) number = refuses 11 place
 -- the starts of the live records, in word order
 abbrev pub startsInOrder : List Entry → List ℕ
 startsInOrder list = map startOf (sorted before list)
-
--- the promise of `sort_records`: the starts of the live records in word order, at the front; all behind them stays
-pub record SortedRight (bytes starts-before starts : List ℕ) (count : ℕ) : Type 0 where
-  pub live : (list : List Entry) → IsBook bytes list → count ≡ liveCount list
-  pub ordered : (list : List Entry) → IsBook bytes list → take count starts ≡ startsInOrder list
-  pub framed : (place : ℕ) → place < count → T (isFramed bytes (getD starts place 0))
-  pub few : count ≤ mostLive
-  pub start-room : count ≤ length starts
-  pub other-starts : drop count starts ≡ drop count starts-before
 
 -- the entry is one of the list
 abbrev pub Among : Entry → List Entry → Type 0

@@ -3,12 +3,13 @@
 use borrow.Author.Needs.{needs}
 use mathlib.Core.Path.{_≡_, refl, sym, subst, _∙_}
 use denote.Ref.{now}
+use Rattle.refusals.specs.Outcome.{outcomeOf}
 use Rattle.refusals.specs.Output.{refused}
 use Rattle.entries.specs.Entries.{entries}
 use Rattle.book_check.specs.Opening.{openingOf, Says}
 use Rattle.book_check.specs.declared.open.Opening.{Opening}
 use Rattle.ranking.specs.Whole.{not-a-book}
-use Rattle.ranking.proofs.Answers.{live-fits, order-too-short, order-put}
+use Rattle.ranking.proofs.Answers.{order-too-short, order-put}
 use Rattle.ranking.proofs.order_records.Statement.{statement}
 use Rattle.ranking.proofs.order_records.Tie as tie
 
@@ -36,11 +37,13 @@ returns c =
     let g = c .before .before .live .given .1 in
     order-too-short (says o _ g) (answered o _ g) _ (c .if1 .taken)
 
+slice-aggregate-sort-records : tie.Need-slice-aggregate-sort-records
+slice-aggregate-sort-records c = search needs
+
 sort-records-requires : tie.Need-sort-records-requires
 sort-records-requires c κs =
-    let o = c .before .before .before .before .before in
-    let g = c .before .before .before .live .given .1 in
-    (says o _ g, live-fits (says o _ g) (answered o _ g) (now (o .before .before .before .args .starts)) (c .before .if1 .left))
+    let l = c .before .before .before .before in
+    says (l .before .before) _ (l .live .given .1)
 
 returns-2 : tie.Need-returns-2
 returns-2 c = refused (not-a-book (says (c .before .before .before) _ (c .before .place .given .1))) refl
@@ -51,9 +54,10 @@ same-length c = search needs
 returns-3 : tie.Need-returns-3
 returns-3 c =
     let r = c .before .before in
-    let o = r .before .before .before .before .before .before in
-    let g = r .before .before .before .before .live .given .1 in
-    order-put (says o _ g) (answered o _ g) (r .sort-records .ensures) (r .before .before .if1 .left)
+    let l = r .before .before .before .before .before in
+    let o = l .before .before in
+    order-put (says o _ (l .live .given .1)) (answered o _ (l .live .given .1)) (now (o .before .before .before .args .starts)) _ (outcomeOf (r .sort-records .result))
+    (r .sort-records .ensures)
 
 pub order-records-spec : {M : Type 1} → statement M
 order-records-spec =
@@ -63,6 +67,7 @@ order-records-spec =
     enum-known-place
     enum-known-live
     returns
+    slice-aggregate-sort-records
     sort-records-requires
     returns-2
     same-length

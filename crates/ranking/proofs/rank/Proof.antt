@@ -1,10 +1,11 @@
 -- `ranking::rank` meets its contract: the record at `number` of those in word order, or the live count where there is none.
 -- Assumes nothing.
 use mathlib.Core.Path.{_≡_, sym, ap, subst, _∙_}
-use Prim.Native.Nat.{ℕ, _<_}
+use Prim.Native.Nat.{ℕ, _≤_}
 use native.Mathlib.Omega.{arith}
-use lib.ListN.{length-replicate}
+use lib.ListN.{length, replicate, length-replicate}
 use denote.Ref.{now}
+use Rattle.refusals.specs.Outcome.{outcomeOf}
 use Rattle.entries.specs.Entries.{Entries, entryAt, entries}
 use Rattle.book_check.specs.Opening.{openingOf, Says}
 use Rattle.book_check.specs.declared.open.Opening.{Opening}
@@ -12,7 +13,7 @@ use Rattle.lookup.specs.Outcome.{finds}
 use Rattle.book_keys.specs.Filing.{mostLive}
 use Rattle.book_keys.proofs.Live.{live-few}
 use Rattle.ranking.specs.Rank.{rankOf}
-use Rattle.ranking.proofs.Answers.{too-high, counted-below, found-there, start-within}
+use Rattle.ranking.proofs.Answers.{live-is, too-high, found-there, start-within}
 use borrow.Author.Needs.{needs}
 use Rattle.ranking.proofs.rank.Statement.{statement}
 use Rattle.ranking.proofs.rank.Tie as tie
@@ -35,6 +36,10 @@ answered : (c : tie.After-open-book) (opening : Opening) → c .open-book .resul
     → opening ≡ openingOf (entries (now (c .before .before .args .book)))
 answered c opening e = sym e ∙ c .open-book .ensures .answer
 
+-- the opening of the buffer, where its records are sorted
+abbrev opened : tie.Else1 → tie.After-open-book
+opened c = c .before .before .before .before
+
 returns : tie.Need-returns
 returns c =
     let o = c .before .before .before .before in
@@ -44,24 +49,25 @@ returns c =
 slice-aggregate-sort-records : tie.Need-slice-aggregate-sort-records
 slice-aggregate-sort-records c = search needs
 
-sort-records-requires : tie.Need-sort-records-requires
-sort-records-requires c κs = (
-  says (c .before .before .before .before .before) _ (c .before .before .before .live .given .1),
-  λ list k. omega (arith, live-few _ list k, length-replicate {A = ℕ} mostLive 0),
-)
+slice-aggregate-sort-records-2 : tie.Need-slice-aggregate-sort-records-2
+slice-aggregate-sort-records-2 c = search needs
 
--- the number is below the live count
-within : (c : tie.After-sort-records) → c .before .before .before .before .before .before .before .before .args .number < c .sort-records .result
-within c =
-    let o = c .before .before .before .before .before .before in
-    let g = c .before .before .before .before .live .given .1 in
-    counted-below (says o _ g) (answered o _ g) (c .sort-records .ensures) (o .before .before .args .number) (c .before .before .if1 .left)
+sort-records-requires : tie.Need-sort-records-requires
+sort-records-requires c κs = says (opened (c .before .before)) _ (c .before .before .before .before .live .given .1)
+
+-- the list has room for the starts of all live records
+room : (c : tie.Else1) → c .before .before .live .given .0 .0 ≤ length {A = ℕ} (replicate mostLive 0)
+room c =
+    let o = opened c in
+    let g = c .before .before .live .given .1 in
+    let t = says o _ g in
+    omega (arith, live-is t (answered o _ g), live-few _ (t .list) (t .is-book), length-replicate {A = ℕ} mostLive 0)
 
 mul-place-of : tie.Need-mul-place-of
-mul-place-of c = omega (arith, within (c .before), c .before .sort-records .ensures .few)
+mul-place-of c = let e = c .before .before .before .before in omega (arith, room e, e .if1 .left, length-replicate {A = ℕ} mostLive 0)
 
 array-read-place-of : tie.Need-array-read-place-of
-array-read-place-of c = omega (arith, within (c .before), c .before .sort-records .ensures .few)
+array-read-place-of c = let e = c .before .before .before .before in omega (arith, room e, e .if1 .left, length-replicate {A = ℕ} mostLive 0)
 
 place-of-requires : tie.Need-place-of-requires
 place-of-requires c κs = search needs
@@ -69,12 +75,11 @@ place-of-requires c κs = search needs
 stock-at-requires : tie.Need-stock-at-requires
 stock-at-requires c κs =
     let r = c .before .before in
-    let o = r .before .before .before .before .before .before in
-    let g = r .before .before .before .before .live .given .1 in
+    let e = r .before .before .before in
+    let o = opened e in
+    let g = e .before .before .live .given .1 in
     let t = says o _ g in
-    let s = r .sort-records .ensures in
-    let h = r .before .before .if1 .left in
-    (t .is-book .short, rw (c .place-of .ensures) (start-within t (answered o _ g) s (o .before .before .args .number) h))
+    (t .is-book .short, rw (c .place-of .ensures) (start-within t (answered o _ g) (replicate mostLive 0) _ (outcomeOf (r .sort-records .result)) (r .sort-records .ensures) (o .before .before .args .number) (e .if1 .left) (room e)))
 
 cast-stock : tie.Need-cast-stock
 cast-stock c = search needs
@@ -87,12 +92,15 @@ returns-2 c =
 returns-3 : tie.Need-returns-3
 returns-3 c =
     let r = c .before .before .before in
-    let o = r .before .before .before .before .before .before in
-    let g = r .before .before .before .before .live .given .1 in
+    let e = r .before .before .before in
+    let o = opened e in
+    let g = e .before .before .live .given .1 in
     let a = o .before .before .args in
     let place = c .before .place-of .ensures in
     let stock = c .stock-at .ensures ∙ ap (λ (s : ℕ). entryAt (now (a .book)) s .stock) place in
-    (λ i. finds (place i) (stock i)) ∙ found-there (says o _ g) (answered o _ g) (r .sort-records .ensures) (a .number) (r .before .before .if1 .left)
+    (λ i. finds (place i) (stock i))
+    ∙ found-there (says o _ g) (answered o _ g) (replicate mostLive 0) _ (outcomeOf (r .sort-records .result)) (r .sort-records .ensures) (a .number)
+    (e .if1 .left) (room e)
 
 pub rank-spec : {M : Type 1} → statement M
 rank-spec =
@@ -103,6 +111,7 @@ rank-spec =
     enum-known-live
     returns
     slice-aggregate-sort-records
+    slice-aggregate-sort-records-2
     sort-records-requires
     mul-place-of
     array-read-place-of

@@ -9,8 +9,8 @@ use lib.ListN.{length, take, drop, length-append, length-drop, take-append-drop,
 use lib.Seq.{length-take-le, take-all, take-at, drop-at}
 use borrow.Rule.Slice.PartMut.{putMid, postOf}
 use Rattle.entries.specs.Rank.{insert}
-use Rattle.ranking.specs.Sorting.{inOrderOnto, inOrder, merged}
-use Rattle.ranking.proofs.Merges.{length-in-order, length-merged, merged-parts}
+use Rattle.sorting.specs.Sorting.{inOrderOnto, inOrder, merged}
+use Rattle.sorting.proofs.Merges.{length-in-order, length-merged, merged-parts}
 
 module _ (less : ℕ → ℕ → Bool) (starts : List ℕ) (middle : ℕ) (parted : middle ≤ length starts) where
   -- both parts in order, one behind the other

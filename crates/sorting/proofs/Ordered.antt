@@ -12,7 +12,7 @@ use Rattle.weighing.proofs.Lexicographic.{opposite}
 use Rattle.weighing.proofs.Laws.{words-are-ordered}
 use Rattle.entries.specs.Entries.{entryAt}
 use Rattle.book_keys.specs.Filing.{fileOf, isLess, before}
-use Rattle.ranking.specs.Sorting.{goesBefore}
+use Rattle.sorting.specs.Sorting.{goesBefore}
 
 pub true-not-false : {A : Type 0} → true ≡ false → A
 true-not-false e = let z : _≡_ {A = ℕ} 0 1 = cc in let n : ⊥ = omega arith in absurd n

@@ -9,9 +9,9 @@ use native.Mathlib.Omega.{arith}
 use lib.ListN.{length, getD, take, drop, set, take-append-drop, length-drop, length-set}
 use lib.Seq.{append-snoc, drop-cons, drop-length, drop-set-lt, take-suc-set}
 use lib.Seq.{slice, slice-empty, slice-cons, length-slice}
-use Rattle.ranking.specs.Sorting.{merged, takesSecond}
-use Rattle.ranking.proofs.Ordered.{true-not-false}
-use Rattle.ranking.proofs.Merges.{merged-second, merged-first, merged-nil}
+use Rattle.sorting.specs.Sorting.{merged, takesSecond}
+use Rattle.sorting.proofs.Ordered.{true-not-false}
+use Rattle.sorting.proofs.Merges.{merged-second, merged-first, merged-nil}
 
 module _ (less : ℕ → ℕ → Bool) where
   second-there : (xs ys : List ℕ) → takesSecond less xs ys ≡ true → 0 < length xs + length ys → 0 < length ys

@@ -7,7 +7,7 @@ use lib.ListN.{take, drop}
 use Rattle.letters.specs.Choice.{pick}
 use Rattle.entries.specs.Rank.{insert}
 use Rattle.book_keys.specs.Filing.{HasKey, AllKeyed}
-use Rattle.ranking.specs.Sorting.{inOrderOnto, inOrder, Sortable}
+use Rattle.sorting.specs.Sorting.{inOrderOnto, inOrder, Sortable}
 
 module _ (bytes keys : List ℕ) where
   pub keyed-take : (n : ℕ) (l : List ℕ) → AllKeyed bytes keys l → AllKeyed bytes keys (take n l)

@@ -9,19 +9,19 @@ use lib.ListN.{length, length-drop}
 use lib.Seq.{length-take-le}
 use denote.Ref.{now}
 use Rattle.book_keys.specs.Filing.{AllKeyed}
-use Rattle.ranking.specs.Sorting.{goesBefore, partsMerged}
-use Rattle.ranking.proofs.Ordered.{goes-transitive, goes-level}
-use Rattle.ranking.proofs.Keyed.{keyed-take, keyed-drop, keyed-halves, part-sortable}
-use Rattle.ranking.proofs.Halves.{once-long, second-part, put-back, halves-long, halves-merged, few-in-order}
+use Rattle.sorting.specs.Sorting.{goesBefore, partsMerged}
+use Rattle.sorting.proofs.Ordered.{goes-transitive, goes-level}
+use Rattle.sorting.proofs.Keyed.{keyed-take, keyed-drop, keyed-halves, part-sortable}
+use Rattle.sorting.proofs.Halves.{once-long, second-part, put-back, halves-long, halves-merged, few-in-order}
 use Prim.Native.Nat.{ℕ, _<_}
 use borrow.Fn.Kinds.{In}
 use borrow.Fn.PlainCycle.{Measures, is, falls, and}
-use Rattle.ranking.proofs.merging.sort.Reads as sort
-use Rattle.ranking.proofs.merging.sort.Kinds as sort-kinds
-use Rattle.ranking.proofs.merging.+sort.Lts-sort as sort-lts
-use Rattle.ranking.proofs.merging.join.Reads as join-reads
-use Rattle.ranking.proofs.merging.+sort.{statement}
-use Rattle.ranking.proofs.merging.+sort.Tie.{close}
+use Rattle.sorting.proofs.merging.sort.Reads as sort
+use Rattle.sorting.proofs.merging.sort.Kinds as sort-kinds
+use Rattle.sorting.proofs.merging.+sort.Lts-sort as sort-lts
+use Rattle.sorting.proofs.merging.join.Reads as join-reads
+use Rattle.sorting.proofs.merging.+sort.{statement}
+use Rattle.sorting.proofs.merging.+sort.Tie.{close}
 
 abbrev μ-sort : Measures 4 sort-kinds.ps ℕ
 μ-sort κs a = length (a .1 .1 .0 .now)

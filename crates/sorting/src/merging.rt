@@ -6,8 +6,8 @@ use memory::copies::put_values;
 ghost use mathlib.Core.Path.{_≡_};
 ghost use Prim.Native.Nat.{_≤_};
 ghost use lib.ListN.{length, take};
-ghost use Rattle.ranking.specs.Sorting.{inOrder, goesBefore, takesNext, partsMerged, mergedFront, frontInOrder};
-ghost use Rattle.ranking.specs.Sorting.{Sortable, Mergeable, MergeReady};
+ghost use Rattle.sorting.specs.Sorting.{inOrder, goesBefore, takesNext, partsMerged, mergedFront, frontInOrder};
+ghost use Rattle.sorting.specs.Sorting.{Sortable, Mergeable, MergeReady};
 
 // Whether the next start to take is the one at `second`: where the first part is at its end, or the record at `second` goes before.
 fn is_second_next(

@@ -1,4 +1,4 @@
--- `ranking::merging::merge` meets its contract. The invariant: what is written and what is left of both parts, merged, is the whole.
+-- `sorting::merging::merge` meets its contract. The invariant: what is written and what is left of both parts, merged, is the whole.
 -- The measure is how many are left. Assumes nothing.
 use borrow.Author.Needs.{needs}
 use mathlib.Core.Path.{sym, _∙_}
@@ -7,10 +7,10 @@ use Prim.Native.Nat.{_-_, _<_}
 use native.Mathlib.Omega.{arith}
 use lib.ListN.{length}
 use denote.Ref.{now}
-use Rattle.ranking.specs.Sorting.{goesBefore}
-use Rattle.ranking.proofs.Turns.{Halfway, start-halfway, end-halfway, second-within, first-within, take-the-second, take-the-first, moved}
-use Rattle.ranking.proofs.merging.merge.Statement.{statement}
-use Rattle.ranking.proofs.merging.merge.Tie as tie
+use Rattle.sorting.specs.Sorting.{goesBefore}
+use Rattle.sorting.proofs.Turns.{Halfway, start-halfway, end-halfway, second-within, first-within, take-the-second, take-the-first, moved}
+use Rattle.sorting.proofs.merging.merge.Statement.{statement}
+use Rattle.sorting.proofs.merging.merge.Tie as tie
 
 abbrev Inv-loop : tie.InvT-loop
 Inv-loop book keys starts middle room₀ first₀ second₀ next₀ room first second next =

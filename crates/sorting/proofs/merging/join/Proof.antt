@@ -1,13 +1,13 @@
--- `ranking::merging::join` meets its contract: what is copied back is the front of `room`, which is the merging of both parts.
+-- `sorting::merging::join` meets its contract: what is copied back is the front of `room`, which is the merging of both parts.
 -- Assumes nothing.
 use mathlib.Core.Path.{ap, _∙_}
 use lib.ListN.{length, take, drop}
 use denote.Ref.{now}
-use Rattle.ranking.specs.Sorting.{goesBefore}
-use Rattle.ranking.proofs.Halves.{front-merged}
+use Rattle.sorting.specs.Sorting.{goesBefore}
+use Rattle.sorting.proofs.Halves.{front-merged}
 use borrow.Author.Needs.{needs}
-use Rattle.ranking.proofs.merging.join.Statement.{statement}
-use Rattle.ranking.proofs.merging.join.Tie as tie
+use Rattle.sorting.proofs.merging.join.Statement.{statement}
+use Rattle.sorting.proofs.merging.join.Tie as tie
 
 merge-requires : tie.Need-merge-requires
 merge-requires c κs = search needs

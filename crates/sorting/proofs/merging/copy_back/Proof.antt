@@ -1,4 +1,4 @@
--- `ranking::merging::copy_back` meets its contract: the copy covers all of the starts.
+-- `sorting::merging::copy_back` meets its contract: the copy covers all of the starts.
 -- Assumes nothing.
 use borrow.Author.Needs.{needs}
 use mathlib.Core.Path.{_≡_, sym, _∙_}
@@ -7,8 +7,8 @@ use lib.ListN.{length, take}
 use lib.Seq.{length-take-le}
 use denote.Ref.{now}
 use Rattle.memory.proofs.Stores.{sets-whole}
-use Rattle.ranking.proofs.merging.copy_back.Statement.{statement}
-use Rattle.ranking.proofs.merging.copy_back.Tie as tie
+use Rattle.sorting.proofs.merging.copy_back.Statement.{statement}
+use Rattle.sorting.proofs.merging.copy_back.Tie as tie
 
 as-long : (s : tie.Start) → length (take (length (now (s .args .starts))) (now (s .args .room))) ≡ length (now (s .args .starts))
 as-long s = length-take-le _ _ (s .pre)

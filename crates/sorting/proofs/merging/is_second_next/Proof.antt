@@ -1,14 +1,14 @@
--- `ranking::merging::is_second_next` meets its contract: which part is at its end, and else the comparison, decide which one is next.
+-- `sorting::merging::is_second_next` meets its contract: which part is at its end, and else the comparison, decide which one is next.
 -- Assumes nothing.
 use mathlib.Core.Path.{sym, _∙_}
 use native.Mathlib.Omega.{arith}
 use denote.Ref.{now}
-use Rattle.ranking.specs.Sorting.{goesBefore}
+use Rattle.sorting.specs.Sorting.{goesBefore}
 use Rattle.book_keys.proofs.Live.{keyed-at}
-use Rattle.ranking.proofs.Turns.{next-second, next-first, next-less}
+use Rattle.sorting.proofs.Turns.{next-second, next-first, next-less}
 use borrow.Author.Needs.{needs}
-use Rattle.ranking.proofs.merging.is_second_next.Statement.{statement}
-use Rattle.ranking.proofs.merging.is_second_next.Tie as tie
+use Rattle.sorting.proofs.merging.is_second_next.Statement.{statement}
+use Rattle.sorting.proofs.merging.is_second_next.Tie as tie
 
 returns : tie.Need-returns
 returns c =

@@ -10,8 +10,8 @@ use lib.ListN.{length}
 use Rattle.letters.specs.Choice.{pick}
 use Rattle.entries.specs.Rank.{insert}
 use Rattle.entries.proofs.Ranked.{length-insert}
-use Rattle.ranking.specs.Sorting.{inOrderOnto, inOrder, merged}
-use Rattle.ranking.proofs.Ordered.{true-not-false}
+use Rattle.sorting.specs.Sorting.{inOrderOnto, inOrder, merged}
+use Rattle.sorting.proofs.Ordered.{true-not-false}
 
 module _ (less : ℕ → ℕ → Bool) where
   insert-first : (e x : ℕ) (l : List ℕ) → less e x ≡ true → insert less e (x ∷ l) ≡ e ∷ x ∷ l

@@ -1,4 +1,4 @@
--- `ranking::merging::sort_front` meets its contract: what lies behind the part that is sorted stays.
+-- `sorting::merging::sort_front` meets its contract: what lies behind the part that is sorted stays.
 -- Assumes nothing.
 use mathlib.Core.Path.{sym, ap}
 use mathlib.Core.List.{List, _++_}
@@ -8,8 +8,8 @@ use lib.ListN.{drop}
 use lib.Seq.{length-take-le}
 use denote.Ref.{now}
 use borrow.Author.Needs.{needs}
-use Rattle.ranking.proofs.merging.sort_front.Statement.{statement}
-use Rattle.ranking.proofs.merging.sort_front.Tie as tie
+use Rattle.sorting.proofs.merging.sort_front.Statement.{statement}
+use Rattle.sorting.proofs.merging.sort_front.Tie as tie
 
 slice-relend-prefix-sort : tie.Need-slice-relend-prefix-sort
 slice-relend-prefix-sort c = search needs
