@@ -1,4 +1,5 @@
--- The words of document 01, "Words to try", that are rows, and rows that break each rule: one table each, computed.
+-- The words of document 01, "Words to try", that are rows, those of document 02 and the queries that find them, and rows that break each rule: one
+-- table each, computed.
 -- Assumes nothing.
 use mathlib.Core.Path.{_≡_}
 use mathlib.Core.Bool.{Bool, false, not, _&&_}
@@ -22,52 +23,107 @@ pub record Example : Type 0 where
   pub weigh : List (List ℕ)
   pub spell : List (List ℕ)
 
--- the one table of worked words that are readable; 1000 1031 102C 103A is "one syllable"
-abbrev pub examples : List Example
-examples =
-    record { word = []; row = []; weigh = []; spell = [] }
-    ∷ record {
+-- a letter alone
+abbrev pub letter : Example
+letter =
+    record {
       word = 0x1000 ∷ [];
       row = bare 0x1000 ∷ [];
       weigh = (13 ∷ 0 ∷ 0 ∷ 0 ∷ 0 ∷ []) ∷ [];
       spell = (0x1000 ∷ []) ∷ [];
     }
+
+-- one syllable with that letter, a final and a tone
+abbrev pub closed : Example
+closed =
+    record {
+      word = 0x1000 ∷ 0x1014 ∷ 0x103A ∷ 0x1037 ∷ [];
+      row = syllable 0x1000 no-medial no-vowel (plain 0x1014) dot ∷ [];
+      weigh = (13 ∷ 0 ∷ 21 ∷ 0 ∷ 1 ∷ []) ∷ [];
+      spell = (0x1000 ∷ 0x1014 ∷ 0x103A ∷ 0x1037 ∷ []) ∷ [];
+    }
+
+-- a stacked final
+abbrev pub university : Example
+university =
+    record {
+      word = 0x1010 ∷ 0x1000 ∷ 0x1039 ∷ 0x1000 ∷ 0x101E ∷ 0x102D ∷ 0x102F ∷ 0x101C ∷ 0x103A ∷ [];
+      row = syllable 0x1010 no-medial no-vowel (stacked 0x1000) no-tone ∷ bare 0x1000 ∷ syllable 0x101E no-medial vowel-i-u (plain 0x101C) no-tone ∷ [];
+      weigh = (29 ∷ 0 ∷ 1 ∷ 0 ∷ 0 ∷ []) ∷ (13 ∷ 0 ∷ 0 ∷ 0 ∷ 0 ∷ []) ∷ (43 ∷ 0 ∷ 29 ∷ 11 ∷ 0 ∷ []) ∷ [];
+      spell = (0x1010 ∷ 0x1000 ∷ 0x103A ∷ []) ∷ (0x1000 ∷ []) ∷ (0x101E ∷ 0x102D ∷ 0x102F ∷ 0x101C ∷ 0x103A ∷ []) ∷ [];
+    }
+
+-- kinzi
+abbrev pub england : Example
+england =
+    record {
+      word = 0x1021 ∷ 0x1004 ∷ 0x103A ∷ 0x1039 ∷ 0x1002 ∷ 0x101C ∷ 0x1014 ∷ 0x103A ∷ [];
+      row = syllable 0x1021 no-medial no-vowel kinzi no-tone ∷ bare 0x1002 ∷ syllable 0x101C no-medial no-vowel (plain 0x1014) no-tone ∷ [];
+      weigh = (46 ∷ 0 ∷ 5 ∷ 0 ∷ 0 ∷ []) ∷ (15 ∷ 0 ∷ 0 ∷ 0 ∷ 0 ∷ []) ∷ (41 ∷ 0 ∷ 21 ∷ 0 ∷ 0 ∷ []) ∷ [];
+      spell = (0x1021 ∷ 0x1004 ∷ 0x103A ∷ []) ∷ (0x1002 ∷ []) ∷ (0x101C ∷ 0x1014 ∷ 0x103A ∷ []) ∷ [];
+    }
+
+-- 103F, behind a medial
+abbrev pub problem : Example
+problem =
+    record {
+      word = 0x1015 ∷ 0x103C ∷ 0x103F ∷ 0x1014 ∷ 0x102C ∷ [];
+      row = syllable 0x1015 (group ra false false) no-vowel great-sa no-tone ∷ bare 0x101E ∷ syllable 0x1014 no-medial (vowel-aa false) no-final no-tone ∷ [];
+      weigh = (34 ∷ 2 ∷ 31 ∷ 0 ∷ 0 ∷ []) ∷ (43 ∷ 0 ∷ 0 ∷ 0 ∷ 0 ∷ []) ∷ (33 ∷ 0 ∷ 0 ∷ 1 ∷ 0 ∷ []) ∷ [];
+      spell = (0x1015 ∷ 0x103C ∷ 0x101E ∷ 0x103A ∷ []) ∷ (0x101E ∷ []) ∷ (0x1014 ∷ 0x102C ∷ []) ∷ [];
+    }
+
+-- 103F straight behind a letter
+abbrev pub great-sa-alone : Example
+great-sa-alone =
+    record {
+      word = 0x1015 ∷ 0x103F ∷ 0x1014 ∷ 0x102C ∷ [];
+      row = syllable 0x1015 no-medial no-vowel great-sa no-tone ∷ bare 0x101E ∷ syllable 0x1014 no-medial (vowel-aa false) no-final no-tone ∷ [];
+      weigh = (34 ∷ 0 ∷ 31 ∷ 0 ∷ 0 ∷ []) ∷ (43 ∷ 0 ∷ 0 ∷ 0 ∷ 0 ∷ []) ∷ (33 ∷ 0 ∷ 0 ∷ 1 ∷ 0 ∷ []) ∷ [];
+      spell = (0x1015 ∷ 0x101E ∷ 0x103A ∷ []) ∷ (0x101E ∷ []) ∷ (0x1014 ∷ 0x102C ∷ []) ∷ [];
+    }
+
+-- one syllable of a letter and a plain final, with the weights of both
+abbrev with-plain : ℕ → ℕ → ℕ → ℕ → Example
+with-plain head final head-weight final-weight =
+    record {
+      word = head ∷ final ∷ 0x103A ∷ [];
+      row = syllable head no-medial no-vowel (plain final) no-tone ∷ [];
+      weigh = (head-weight ∷ 0 ∷ final-weight ∷ 0 ∷ 0 ∷ []) ∷ [];
+      spell = (head ∷ final ∷ 0x103A ∷ []) ∷ [];
+    }
+
+-- the first syllable of `university`, with a plain final for the stacked one; that of `england`, for kinzi; and that of `great-sa-alone`
+abbrev pub plain-ka : Example
+plain-ka = with-plain 0x1010 0x1000 29 1
+
+abbrev pub plain-nga : Example
+plain-nga = with-plain 0x1021 0x1004 46 5
+
+abbrev pub plain-sa : Example
+plain-sa = with-plain 0x1015 0x101E 34 31
+
+-- the one table of worked words that are readable; 1000 1031 102C 103A is "one syllable"
+abbrev pub examples : List Example
+examples =
+    record { word = []; row = []; weigh = []; spell = [] }
+    ∷ letter
     ∷ record {
       word = 0x101E ∷ 0x1019 ∷ 0x102E ∷ 0x1038 ∷ [];
       row = bare 0x101E ∷ syllable 0x1019 no-medial vowel-ii no-final visarga ∷ [];
       weigh = (43 ∷ 0 ∷ 0 ∷ 0 ∷ 0 ∷ []) ∷ (38 ∷ 0 ∷ 0 ∷ 3 ∷ 2 ∷ []) ∷ [];
       spell = (0x101E ∷ []) ∷ (0x1019 ∷ 0x102E ∷ 0x1038 ∷ []) ∷ [];
     }
-    ∷ record {
-      word = 0x1010 ∷ 0x1000 ∷ 0x1039 ∷ 0x1000 ∷ 0x101E ∷ 0x102D ∷ 0x102F ∷ 0x101C ∷ 0x103A ∷ [];
-      row = syllable 0x1010 no-medial no-vowel (stacked 0x1000) no-tone ∷ bare 0x1000 ∷ syllable 0x101E no-medial vowel-i-u (plain 0x101C) no-tone ∷ [];
-      weigh = (29 ∷ 0 ∷ 1 ∷ 0 ∷ 0 ∷ []) ∷ (13 ∷ 0 ∷ 0 ∷ 0 ∷ 0 ∷ []) ∷ (43 ∷ 0 ∷ 29 ∷ 11 ∷ 0 ∷ []) ∷ [];
-      spell = (0x1010 ∷ 0x1000 ∷ 0x103A ∷ []) ∷ (0x1000 ∷ []) ∷ (0x101E ∷ 0x102D ∷ 0x102F ∷ 0x101C ∷ 0x103A ∷ []) ∷ [];
-    }
-    ∷ record {
-      word = 0x1021 ∷ 0x1004 ∷ 0x103A ∷ 0x1039 ∷ 0x1002 ∷ 0x101C ∷ 0x1014 ∷ 0x103A ∷ [];
-      row = syllable 0x1021 no-medial no-vowel kinzi no-tone ∷ bare 0x1002 ∷ syllable 0x101C no-medial no-vowel (plain 0x1014) no-tone ∷ [];
-      weigh = (46 ∷ 0 ∷ 5 ∷ 0 ∷ 0 ∷ []) ∷ (15 ∷ 0 ∷ 0 ∷ 0 ∷ 0 ∷ []) ∷ (41 ∷ 0 ∷ 21 ∷ 0 ∷ 0 ∷ []) ∷ [];
-      spell = (0x1021 ∷ 0x1004 ∷ 0x103A ∷ []) ∷ (0x1002 ∷ []) ∷ (0x101C ∷ 0x1014 ∷ 0x103A ∷ []) ∷ [];
-    }
-    ∷ record {
-      word = 0x1015 ∷ 0x103C ∷ 0x103F ∷ 0x1014 ∷ 0x102C ∷ [];
-      row = syllable 0x1015 (group ra false false) no-vowel great-sa no-tone ∷ bare 0x101E ∷ syllable 0x1014 no-medial (vowel-aa false) no-final no-tone ∷ [];
-      weigh = (34 ∷ 2 ∷ 31 ∷ 0 ∷ 0 ∷ []) ∷ (43 ∷ 0 ∷ 0 ∷ 0 ∷ 0 ∷ []) ∷ (33 ∷ 0 ∷ 0 ∷ 1 ∷ 0 ∷ []) ∷ [];
-      spell = (0x1015 ∷ 0x103C ∷ 0x101E ∷ 0x103A ∷ []) ∷ (0x101E ∷ []) ∷ (0x1014 ∷ 0x102C ∷ []) ∷ [];
-    }
+    ∷ university
+    ∷ england
+    ∷ problem
     ∷ record {
       word = 0x1000 ∷ 0x1031 ∷ 0x102C ∷ 0x103A ∷ [];
       row = syllable 0x1000 no-medial (vowel-e-aa-killer false) no-final no-tone ∷ [];
       weigh = (13 ∷ 0 ∷ 0 ∷ 9 ∷ 0 ∷ []) ∷ [];
       spell = (0x1000 ∷ 0x1031 ∷ 0x102C ∷ 0x103A ∷ []) ∷ [];
     }
-    ∷ record {
-      word = 0x1000 ∷ 0x1014 ∷ 0x103A ∷ 0x1037 ∷ [];
-      row = syllable 0x1000 no-medial no-vowel (plain 0x1014) dot ∷ [];
-      weigh = (13 ∷ 0 ∷ 21 ∷ 0 ∷ 1 ∷ []) ∷ [];
-      spell = (0x1000 ∷ 0x1014 ∷ 0x103A ∷ 0x1037 ∷ []) ∷ [];
-    }
+    ∷ closed
     ∷ record {
       word = 0x1026 ∷ [];
       row = bare 0x1026 ∷ [];
@@ -80,6 +136,10 @@ examples =
       weigh = replicate limit (13 ∷ 0 ∷ 0 ∷ 0 ∷ 0 ∷ []);
       spell = replicate limit (0x1000 ∷ []);
     }
+    ∷ great-sa-alone
+    ∷ plain-ka
+    ∷ plain-nga
+    ∷ plain-sa
     ∷ []
 
 abbrev pub isRight : Example → Bool
@@ -96,7 +156,7 @@ pub record Right (e : Example) : Type 0 where
   pub weighs : weights (e .row) ≡ e .weigh
   pub spells : spelled (e .row) ≡ e .spell
 
-right : (e : Example) → T (isRight e) → Right e
+pub right : (e : Example) → T (isRight e) → Right e
 right e t =
     let is = isRowAfter no-final (e .row) in
     let joins = sameList (join (e .row)) (e .word) in

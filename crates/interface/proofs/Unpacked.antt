@@ -19,11 +19,12 @@ use Rattle.ranking.specs.Rank.{rankOf}
 use Rattle.ranking.specs.Whole.{OrderRight}
 use Rattle.book_word.specs.WordAt.{WordRight}
 use Rattle.wordbook.specs.Calls.{AddPromise, RemovePromise}
+use Rattle.wordbook.specs.Prefix.{PrefixPromise}
 use Rattle.packing.specs.Packing.{pack, unpack, Packed}
 use Rattle.packing.specs.Answers.{outcomeNumbers, bytesNumbers, RecordGivenRight, recordNumbers, compareNumbers, FindAnswers}
 use Rattle.packing.proofs.Laws.{unpack-pack, packed-unpacked, RecordBits, record-bits}
 use Rattle.packing.proofs.WordFits.{read-fits, record-fits, record-small, part-fits, normalise-fits, form-fits, typed-fits, write-fits, spell-fits, compare-fits}
-use Rattle.packing.proofs.BookFits.{check-fits, rank-fits, order-fits, record-word-fits, find-fits, add-fits, remove-fits}
+use Rattle.packing.proofs.BookFits.{check-fits, rank-fits, order-fits, prefix-fits, record-word-fits, find-fits, add-fits, remove-fits}
 use Rattle.interface.specs.Outputs.{KeyWritten, DecodeWritten}
 use Rattle.interface.proofs.OutputFits.{key-fits, decode-fits}
 
@@ -72,6 +73,11 @@ module _ (book : List ℕ) (small : Bytes book) (n : ℕ) where
 
   pub rank-unpacked : (rank : ℕ) → n ≡ pack (outcomeNumbers (rankOf (entries book) rank)) → unpack n ≡ outcomeNumbers (rankOf (entries book) rank)
   rank-unpacked rank e = ap unpack e ∙ unpack-pack (outcomeNumbers (rankOf (entries book) rank)) (rank-fits book small rank)
+
+  pub prefix-unpacked : (query before after : List ℕ) (p : Packed (PrefixPromise book query before after) outcomeNumbers n)
+      → unpack n ≡ outcomeNumbers (p .outcome)
+  prefix-unpacked query before after p =
+      packed-unpacked (PrefixPromise book query before after) outcomeNumbers (prefix-fits book small query before after) n p
 
   pub order-unpacked : (before after : List ℕ) (p : Packed (OrderRight book before after) outcomeNumbers n) → unpack n ≡ outcomeNumbers (p .outcome)
   order-unpacked before after p = packed-unpacked (OrderRight book before after) outcomeNumbers (order-fits book small before after) n p

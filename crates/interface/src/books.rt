@@ -6,6 +6,7 @@ ghost use Rattle.ranking.specs.Rank.{rankOf};
 ghost use Rattle.ranking.specs.Whole.{OrderRight};
 ghost use Rattle.book_word.specs.WordAt.{WordRight};
 ghost use Rattle.wordbook.specs.Calls.{AddPromise, RemovePromise};
+ghost use Rattle.wordbook.specs.Prefix.{PrefixPromise};
 ghost use Rattle.packing.specs.Packing.{pack, Packed};
 ghost use Rattle.packing.specs.Answers.{outcomeNumbers, FindAnswers};
 
@@ -39,6 +40,14 @@ pub extern "C" fn jogcairn_book_find(book: &[u8], word: &[u16]) -> u64
     ensures { λ r. ⌜ Packed (FindAnswers (now (book .entry)) (now (word .entry))) outcomeNumbers r ⌝ }
 {
     packing::of_reply(wordbook::find(book, word))
+}
+
+// Writes the starts of the live records that begin with the query's syllables, in word order.
+#[no_mangle]
+pub extern "C" fn jogcairn_book_find_prefix(book: &[u8], query: &[u16], starts: &mut [u16]) -> u64
+    ensures { λ r. ⌜ Packed (PrefixPromise (now (book .entry)) (now (query .entry)) (now (starts .entry)) (now (starts .exit))) outcomeNumbers r ⌝ }
+{
+    packing::of_counted(wordbook::find_prefix(book, query, starts))
 }
 
 // Stock number and start of the live record with `rank` live records before it in word order.

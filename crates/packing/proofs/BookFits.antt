@@ -25,12 +25,16 @@ use Rattle.entries.proofs.Records.{framed-true, length-record, end-length}
 use Rattle.entries.proofs.Agree.{Sound, sound}
 use Rattle.lookup.specs.Outcome.{checkOf, findOfEntry, findOf, removeOfEntry, removeOf, addOfEntry, addOf}
 use Rattle.book_change.proofs.Laws.{Bytes}
+use Rattle.book_keys.specs.Filing.{rowOf}
+use Rattle.book_keys.specs.Fitting.{fits}
+use Rattle.sorting.proofs.InOrder.{passing-few}
 use Rattle.ranking.specs.Rank.{startsInOrder, rankOf, Among}
 use Rattle.ranking.specs.Whole.{NotABook, not-a-book, BookOf, OrderRight}
 use Rattle.ranking.proofs.InOrder.{starts-count}
 use Rattle.ranking.proofs.Laws.{rank-below, rank-too-high, rank-of-no-book}
 use Rattle.book_word.specs.WordAt.{entryStarting, markedCount, wordOfEntry, wordOfRecord, WordRight}
 use Rattle.wordbook.specs.Calls.{WordRefused, empty, refused, CallAnswers, word-refused, word-stored, AddPromise, RemovePromise}
+use Rattle.wordbook.specs.Prefix.{QueryRefused, query-refused, no-book, Queries, startsFound, PrefixPromise}
 use Rattle.packing.specs.Packing.{Fits}
 use Rattle.packing.specs.Answers.{outcomeNumbers, FindAnswers}
 use Rattle.packing.proofs.WordFits.{small-fits, store-refused-small, writes-fits}
@@ -237,6 +241,18 @@ module _ (bytes : List ℕ) (small : Bytes bytes) where
       (λ list h.
       let is = subst (Sound bytes) (h .is) (sound bytes small) .0 in
       let few : length (startsInOrder list) < 0x100000000 = omega (arith, starts-count bytes list is, live-within bytes list is) in
+      (few, few))
+
+  query-fits : (query : List ℕ) (number place : ℕ) → QueryRefused bytes query number place → Fits (outcomeNumbers (refuses number place))
+  query-fits query number place (query-refused r) = word-fits query number place r
+  query-fits query number place (no-book s r) = not-a-book-fits number place r
+
+  pub prefix-fits : (query before after : List ℕ) (o : Outcome) → PrefixPromise bytes query before after o → Fits (outcomeNumbers o)
+  prefix-fits query =
+      writes-fits (QueryRefused bytes query) (Queries bytes query) (startsFound query) (λ list. length (startsFound query list)) (query-fits query)
+      (λ list h.
+      let is = subst (Sound bytes) (h .is-book .is) (sound bytes small) .0 in
+      let few : length (startsFound query list) < 0x100000000 = omega (arith, passing-few bytes list is (fits (rowOf (storedForm query))), live-within bytes list is) in
       (few, few))
 
   record-by : (start room : ℕ) (e : Entries) → Bounded bookLimit e → Sound bytes e → Fits (outcomeNumbers (wordOfRecord e start room))

@@ -19,7 +19,7 @@ use Rattle.wordbook.specs.Calls.{WordRefused, empty, refused, CallAnswer
 use Rattle.wordbook.proofs.Laws.{word-clash}
 
 module _ (word : List ℕ) where
-  word-refused-alike : (n p m q : ℕ) → WordRefused word n p → WordRefused word m q → refuses n p ≡ refuses m q
+  pub word-refused-alike : (n p m q : ℕ) → WordRefused word n p → WordRefused word m q → refuses n p ≡ refuses m q
   word-refused-alike n p m q (empty e) (empty f) = refl
   word-refused-alike n p m q (empty e) (refused h s) = let z : ⊥ = omega arith in absurd z
   word-refused-alike n p m q (refused h r) (empty f) = let z : ⊥ = omega arith in absurd z

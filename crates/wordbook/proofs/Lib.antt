@@ -2,3 +2,5 @@ pub mod Stored
 pub mod Laws
 pub mod Determined
 pub mod Words
+pub mod Prefix
+pub mod Searched

@@ -90,7 +90,7 @@ module _ (bytes : List ℕ) (list : List Entry) (k : IsBook bytes list) (e : Ent
       )
 
 -- the entry that a word looks up is one of the list, live, and has the word
-found-among : (list : List Entry) (w : List ℕ) (e : Entry) → lookup list w ≡ some e → Among e list × T (e .live) × (e .word ≡ w)
+pub found-among : (list : List Entry) (w : List ℕ) (e : Entry) → lookup list w ≡ some e → Among e list × T (e .live) × (e .word ≡ w)
 unfolding lookup pick
 found-among [] w e = λ q. absurd (Option·none-ne-some e q)
 found-among (x ∷ list) w e = go (x .live && sameList (x .word) w) refl (found-among list w e)
@@ -118,7 +118,7 @@ removed-among (x ∷ list) w e = go (x .live && sameList (x .word) w) (removed-a
     go false f r = inr (f r)
 
 -- the entry that find gives
-record FoundEntry (bytes w : List ℕ) (start stock : ℕ) : Type 0 where
+pub record FoundEntry (bytes w : List ℕ) (start stock : ℕ) : Type 0 where
   pub list : List Entry
   pub is-book : IsBook bytes list
   pub entry : Entry
@@ -126,7 +126,7 @@ record FoundEntry (bytes w : List ℕ) (start stock : ℕ) : Type 0 where
   pub start-is : entry .start ≡ start
   pub stock-is : entry .stock ≡ stock
 
-found-entry : (bytes w : List ℕ) (start stock : ℕ) → Bytes bytes → finds start stock ≡ findOf (entries bytes) w → FoundEntry bytes w start stock
+pub found-entry : (bytes w : List ℕ) (start stock : ℕ) → Bytes bytes → finds start stock ≡ findOf (entries bytes) w → FoundEntry bytes w start stock
 found-entry bytes w start stock small = go (entries bytes) (sound bytes small)
   where
     found-in : (list : List Entry) → IsBook bytes list → (o : Option Entry) → lookup list w ≡ o → finds start stock ≡ findOfEntry o
@@ -139,7 +139,7 @@ found-entry bytes w start stock small = go (entries bytes) (sound bytes small)
     go (book list free) s e = found-in list (s .0) (lookup list w) refl e
 
 -- a call that gives a record was answered by the book
-book-answered : (word : List ℕ) (answer outcome : Outcome) (start stock : ℕ) → outcome ≡ finds start stock → CallAnswers word answer outcome
+pub book-answered : (word : List ℕ) (answer outcome : Outcome) (start stock : ℕ) → outcome ≡ finds start stock → CallAnswers word answer outcome
     → finds start stock ≡ answer
 book-answered word answer outcome start stock e (word-refused r) = let z : _≡_ {A = ℕ} 0 1 = cc in let y : ⊥ = omega arith in absurd y
 book-answered word answer outcome start stock e (word-stored s) = sym e

@@ -14,6 +14,7 @@ ghost use Rattle.ranking.specs.Rank.{rankOf};
 ghost use Rattle.ranking.specs.Whole.{OrderRight};
 ghost use Rattle.book_word.specs.WordAt.{WordRight};
 ghost use Rattle.wordbook.specs.Calls.{CallAnswers, AddPromise, RemovePromise};
+ghost use Rattle.wordbook.specs.Prefix.{PrefixPromise};
 
 mod enter; // enter.rt: the word that is handed in with a book
 
@@ -59,6 +60,17 @@ pub fn remove(book: &mut [u8], word: &[u16]) -> Counted
     match enter(word, &mut values) {
         Counted::Refused(refusal) => Counted::Refused(refusal),
         Counted::Count(count) => book_change::change::remove(book, &values[..count]),
+    }
+}
+
+// Puts the starts of the live records that begin with the query's syllables, in word order, at the front of `starts`, and tells how many there are.
+pub fn find_prefix(book: &[u8], query: &[u16], starts: &mut [u16]) -> Counted
+    ensures { λ r. ⌜ PrefixPromise (now (book .entry)) (now (query .entry)) (now (starts .entry)) (now (starts .exit)) (outcomeOf r) ⌝ }
+{
+    let mut values = [0; Word::LIMIT];
+    match enter(query, &mut values) {
+        Counted::Refused(refusal) => Counted::Refused(refusal),
+        Counted::Count(count) => prefix_search::find_prefix(book, &values[..count], starts),
     }
 }
 
