@@ -11,7 +11,7 @@
  * argument of the call. Where a count is 0 the pointer is not looked at, and may be null.
  *
  * A call needs this much stack, its own frame and those of what it calls: JOGCAIRN_STACK_WORD bytes on words and lines,
- * JOGCAIRN_STACK_BOOK on books, JOGCAIRN_STACK_ORDER for jogcairn_book_rank and jogcairn_book_order.
+ * JOGCAIRN_STACK_BOOK on books, JOGCAIRN_STACK_ORDER for jogcairn_book_rank, jogcairn_book_order and jogcairn_book_find_prefix.
  *
  * Every answer is one number:
  *
@@ -171,6 +171,12 @@ uint64_t jogcairn_book_remove(uint8_t *book, size_t bytes, const uint16_t *word,
 
 /* Finds a word. First: its stock number; second: the start of its record. [1 to 4, 8, 11, 13] */
 uint64_t jogcairn_book_find(const uint8_t *book, size_t bytes, const uint16_t *word, size_t count);
+
+/* Finds by the first syllables: writes the starts of all live records whose words begin with the syllables of `query`, in word order. First: how
+   many they are; 0 is no refusal. Whole syllables are compared, by their weights: a word begins with itself, a plain final finds a stacked one, kinzi
+   and great sa too, and a letter alone does not find a syllable in which it has marks or a final. Tested in the order 1, 8, 2, 3 or 4, 11, 5; the place
+   of 5 is how many they are, at most JOGCAIRN_BOOK_LIMIT / 8. [1 to 5, 8, 11] */
+uint64_t jogcairn_book_find_prefix(const uint8_t *book, size_t bytes, const uint16_t *query, size_t count, uint16_t *starts, size_t room);
 
 /* The live record with exactly `rank` live records before it in word order. First: its stock number; second: its start. [11, 15] */
 uint64_t jogcairn_book_rank(const uint8_t *book, size_t bytes, size_t rank);
