@@ -57,6 +57,9 @@ static void on_books(void)
     expect("remove, no word", jogcairn_book_remove(book, sizeof book, NULL, 0), JOGCAIRN_EMPTY_WORD, 0, 0);
     expect("find", jogcairn_book_find(NULL, 0, ka, 1), JOGCAIRN_NOT_LIVE, 0, 0);
     expect("find, no word", jogcairn_book_find(book, sizeof book, NULL, 0), JOGCAIRN_EMPTY_WORD, 0, 0);
+    expect("find prefix", jogcairn_book_find_prefix(NULL, 0, ka, 1, NULL, 0), 0, 0, 0);
+    expect("find prefix, no word", jogcairn_book_find_prefix(book, sizeof book, NULL, 0, NULL, 0), JOGCAIRN_EMPTY_WORD, 0, 0);
+    expect("find prefix, no output", jogcairn_book_find_prefix(book, sizeof book, ka, 1, NULL, 0), JOGCAIRN_OUTPUT_TOO_SHORT, 0, 1);
     expect("rank", jogcairn_book_rank(NULL, 0, 0), JOGCAIRN_RANK_TOO_HIGH, 0, 0);
     expect("order", jogcairn_book_order(NULL, 0, NULL, 0), 0, 0, 0);
     expect("order, no output", jogcairn_book_order(book, sizeof book, NULL, 0), JOGCAIRN_OUTPUT_TOO_SHORT, 0, 1);

@@ -17,8 +17,9 @@ static void (*measured)(void);
 static uint16_t words[3][JOGCAIRN_WORD_LIMIT];
 static const uint16_t *word = words[0];
 
-/* The longest book, full, and a copy of it to be changed. */
-static uint8_t full[JOGCAIRN_BOOK_LIMIT], book[JOGCAIRN_BOOK_LIMIT];
+/* The longest book, full, and a copy of it to be changed; and a full one whose words all begin with the same syllable. */
+static uint8_t full[JOGCAIRN_BOOK_LIMIT], book[JOGCAIRN_BOOK_LIMIT], alike[JOGCAIRN_BOOK_LIMIT];
+static const uint16_t first_syllable[] = {0x1021};
 static uint16_t values[JOGCAIRN_SPELLED_LIMIT], starts[JOGCAIRN_BOOK_LIMIT / 8];
 static uint8_t bytes[JOGCAIRN_WORD_LIMIT * JOGCAIRN_RECORD_SIZE], key[JOGCAIRN_KEY_SIZE];
 
@@ -41,6 +42,13 @@ static void run_find(void) { jogcairn_book_find(book, sizeof book, word, 64); }
 static void run_rank(void) { jogcairn_book_rank(book, sizeof book, 1000); }
 static void run_order(void) { jogcairn_book_order(book, sizeof book, starts, JOGCAIRN_BOOK_LIMIT / 8); }
 static void run_word(void) { jogcairn_book_word(book, sizeof book, 0, values, JOGCAIRN_WORD_LIMIT); }
+
+/* The longest query, and one that every record fits. */
+static void run_find_prefix(void)
+{
+    jogcairn_book_find_prefix(alike, sizeof alike, word, 64, starts, JOGCAIRN_BOOK_LIMIT / 8);
+    jogcairn_book_find_prefix(alike, sizeof alike, first_syllable, 1, starts, JOGCAIRN_BOOK_LIMIT / 8);
+}
 
 static const struct {
     const char *name;
@@ -65,6 +73,7 @@ static const struct {
     {"jogcairn_book_word", run_word, JOGCAIRN_STACK_BOOK},
     {"jogcairn_book_rank", run_rank, JOGCAIRN_STACK_ORDER},
     {"jogcairn_book_order", run_order, JOGCAIRN_STACK_ORDER},
+    {"jogcairn_book_find_prefix", run_find_prefix, JOGCAIRN_STACK_ORDER},
 };
 
 static void run_measured(void)
@@ -112,13 +121,13 @@ static void make_words(void)
     }
 }
 
-/* Fills a book with words of one, two and three letters until no other fits. */
-static int make_book(void)
+/* Fills a book with words of one, two and three letters until no other fits; `front` values of the first syllable stand before the letters. */
+static int make_book(uint8_t *filled, unsigned front)
 {
     for (unsigned count = 1; count <= 3; count++)
         for (unsigned number = 0; number < (count == 1 ? 33u : count == 2 ? 33u * 33 : 33u * 33 * 33); number++) {
-            uint16_t letters[] = {(uint16_t)(0x1000 + number % 33), (uint16_t)(0x1000 + number / 33 % 33), (uint16_t)(0x1000 + number / 33 / 33)};
-            uint64_t answer = jogcairn_book_add(full, sizeof full, letters, count, number);
+            uint16_t letters[] = {first_syllable[0], (uint16_t)(0x1000 + number % 33), (uint16_t)(0x1000 + number / 33 % 33), (uint16_t)(0x1000 + number / 33 / 33)};
+            uint64_t answer = jogcairn_book_add(filled, JOGCAIRN_BOOK_LIMIT, letters + 1 - front, front + count, number);
             if (jogcairn_tag(answer) == JOGCAIRN_BOOK_FULL)
                 return 1;
             if (!jogcairn_accepted(answer))
@@ -131,13 +140,13 @@ int main(void)
 {
     int wrong = 0;
     make_words();
-    if (!make_book()) {
-        printf("the book is not filled\n");
+    if (!make_book(full, 0) || !make_book(alike, 1)) {
+        printf("a book is not filled\n");
         return 1;
     }
     for (size_t at = 0; at < sizeof calls / sizeof calls[0]; at++) {
         size_t depth = deepest(calls[at].run);
-        printf("%-22s %6zu of %6zu bytes\n", calls[at].name, depth, calls[at].limit);
+        printf("%-25s %6zu of %6zu bytes\n", calls[at].name, depth, calls[at].limit);
         wrong |= depth > calls[at].limit;
     }
     return wrong;
