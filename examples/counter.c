@@ -1,5 +1,5 @@
-/* A day at the counter of a parts shop: names are filed, one is found, all are listed in dictionary order, and in a misspelt one the letter that
-   breaks it is pointed at. */
+/* A day at the counter of a parts shop: names are filed, one is found, those that begin with what the clerk typed are listed, then all, in dictionary
+   order, and in a misspelt one the letter that breaks it is pointed at. */
 #include "jogcairn.h"
 
 #include <inttypes.h>
@@ -25,6 +25,7 @@ static const struct part parts[] = {
     {"ပုိက်", 4},            /* pipe, its marks typed in another order */
     {"အပူပေးစက်", 15},     /* heater */
     {"လေဝင်ပေါက်", 310},   /* air inlet */
+    {"ပတ္တာ", 52},          /* hinge */
     {"လေအေးပေးစ်က", 9},   /* killer and letter exchanged */
     {"ပုိက့း်", 5},           /* two tones, and its marks typed in another order */
     {"ပန်ကက္", 6},          /* the stacker at the end waits for a letter */
@@ -128,6 +129,12 @@ static void print_record(size_t start)
     printf(jogcairn_word_live(answer) ? "\n" : ", removed\n");
 }
 
+static void print_records(const uint16_t *starts, size_t count)
+{
+    for (size_t at = 0; at < count; at++)
+        print_record(starts[at]);
+}
+
 /* Lists the book in dictionary order. */
 static void list_parts(void)
 {
@@ -138,8 +145,24 @@ static void list_parts(void)
         return;
     }
     printf("list of %" PRIu32 ":\n", jogcairn_first(answer));
-    for (size_t at = 0; at < jogcairn_first(answer); at++)
-        print_record(starts[at]);
+    print_records(starts, jogcairn_first(answer));
+}
+
+/* Lists the parts whose names begin with the syllables that were typed, in dictionary order. */
+static void list_continued(const char *text)
+{
+    struct name name;
+    uint16_t starts[sizeof book / 8];
+    printf("continue %s: ", text);
+    if (!decode(text, &name))
+        return;
+    uint64_t answer = jogcairn_book_find_prefix(book, sizeof book, name.values, name.count, starts, sizeof starts / sizeof starts[0]);
+    if (!jogcairn_accepted(answer)) {
+        print_refusal(answer, &name);
+        return;
+    }
+    printf("%" PRIu32 "\n", jogcairn_first(answer));
+    print_records(starts, jogcairn_first(answer));
 }
 
 /* The part with so many before it in dictionary order. */
@@ -239,12 +262,18 @@ int main(void)
         file_part(parts[at]);
     find_part("ပိုက်");
     find_part("ပန်းကာ");
+    list_continued("လေ");
+    list_continued("ပတ်");
+    list_continued("ပ");
+    list_continued("ပတ္");
     list_parts();
-    print_rank(4);
+    print_rank(5);
+    list_continued("ပန်");
     remove_part("ပန်ကာ");
     remove_part("ပန်ကာ");
+    list_continued("ပန်");
     list_parts();
-    print_rank(4);
+    print_rank(5);
     print_record(0);
     print_record(1);
     print_syllables("တက္ကသိုလ်");
