@@ -95,8 +95,55 @@ pub fn order_into(book: &[u8], starts: &mut [u16]) -> Result<usize, Refusal> {
 /// # Ok::<(), jogcairn::Refusal>(())
 /// ```
 pub fn order(book: &[u8]) -> Result<Vec<u16>, Refusal> {
+    collected(|starts| order_into(book, starts))
+}
+
+/// Writes the starts of all live records whose words begin with the syllables of the query, in
+/// word order, to the front of `starts`, and gives their number; where there are none, that is 0.
+///
+/// The query is normalised first, and syllables are compared by their weights: a word begins with
+/// itself, and a plain final finds a stacked one, kinzi and great sa too. Only whole syllables are
+/// found: က does not find ကာ.
+///
+/// ```
+/// use jogcairn::{book, Book, Word};
+///
+/// let mut bytes = [0; 256];
+/// let mut shelf = Book::new(&mut bytes);
+/// for name in ["တက်သည်", "တက္ကသိုလ်", "တ"] {
+///     shelf.add(&name.parse::<Word>()?, 1)?;
+/// }
+/// let first: Word = "တက်".parse()?;
+/// let mut starts = [7; 3];
+/// assert_eq!(book::find_prefix_into(&bytes, &first, &mut starts)?, 2);
+/// assert_eq!(starts, [13, 0, 7]);
+/// // Where the list is too short, the place is the number of records that fit.
+/// assert_eq!(book::find_prefix_into(&bytes, &first, &mut [7]).unwrap_err().place, 2);
+/// # Ok::<(), jogcairn::Refusal>(())
+/// ```
+pub fn find_prefix_into(book: &[u8], query: &[u16], starts: &mut [u16]) -> Result<usize, Refusal> {
+    ffi::book_find_prefix(book, query, starts).one()
+}
+
+/// The starts of all live records whose words begin with the syllables of the query, in word order;
+/// [`find_prefix_into`] says what begins with what.
+///
+/// ```
+/// // တက်, then တ; the letter alone does not find the syllable that it begins.
+/// let book = *b"MW\x03\x07\x00\x00\x00\x10\x00\x3AMW\x01\x08\x00\x00\x00\x10";
+/// assert_eq!(jogcairn::book::find_prefix(&book, &[0x1010])?, [10]);
+/// assert_eq!(jogcairn::book::find_prefix(&book, &[0x1000])?, []);
+/// assert_eq!(jogcairn::book::find_prefix(&book, &[]).unwrap_err().number(), 8);
+/// # Ok::<(), jogcairn::Refusal>(())
+/// ```
+pub fn find_prefix(book: &[u8], query: &[u16]) -> Result<Vec<u16>, Refusal> {
+    collected(|starts| find_prefix_into(book, query, starts))
+}
+
+/// The starts that a call puts at the front of a list, which has room for those of any book.
+fn collected(put: impl FnOnce(&mut [u16]) -> Result<usize, Refusal>) -> Result<Vec<u16>, Refusal> {
     let mut starts = [0; MOST_LIVE];
-    let count = order_into(book, &mut starts)?;
+    let count = put(&mut starts)?;
     Ok(starts[..count].to_vec())
 }
 
@@ -141,6 +188,21 @@ pub fn word_at(book: &[u8], start: usize) -> Result<Option<(Vec<u16>, Told)>, Re
 /// ```
 pub fn entries(book: &[u8]) -> Result<Entries<'_>, Refusal> {
     Ok(Entries::new(book, order(book)?))
+}
+
+/// The live records whose words begin with the syllables of the query, in word order, which one
+/// call of the library gives; [`find_prefix_into`] says what begins with what.
+///
+/// ```
+/// // ပတ္တာ, a hinge, is found by its first syllable, which is typed with a plain final.
+/// let book = *b"MW\x05\x34\x00\x00\x00\x15\x10\x39\x10\x2C";
+/// let first = jogcairn::decode("ပတ်".as_bytes())?;
+/// let hinge = jogcairn::book::entries_with_prefix(&book, &first)?.next().unwrap();
+/// assert_eq!((hinge.to_string(), hinge.stock()), ("ပတ္တာ".to_string(), 52));
+/// # Ok::<(), jogcairn::Refusal>(())
+/// ```
+pub fn entries_with_prefix<'b>(book: &'b [u8], query: &[u16]) -> Result<Entries<'b>, Refusal> {
+    Ok(Entries::new(book, find_prefix(book, query)?))
 }
 
 /// A word book in borrowed bytes, which are its only state.
@@ -251,6 +313,25 @@ impl<'b> Book<'b> {
         find(self.bytes, word)
     }
 
+    /// The starts of all live records whose words begin with the syllables of the query, in word
+    /// order; [`find_prefix_into`] says what begins with what.
+    ///
+    /// ```
+    /// use jogcairn::{Book, Word};
+    ///
+    /// let mut bytes = [0; 64];
+    /// let mut book = Book::new(&mut bytes);
+    /// book.add(&"ပြဿနာ".parse::<Word>()?, 1)?;
+    /// book.add(&"ပြ".parse::<Word>()?, 2)?;
+    /// // Great sa closes the first syllable, which is spelled ပြသ်.
+    /// assert_eq!(book.find_prefix(&"ပြသ်".parse::<Word>()?)?, [0]);
+    /// assert_eq!(book.find_prefix(&"ပြ".parse::<Word>()?)?, [12]);
+    /// # Ok::<(), jogcairn::Refusal>(())
+    /// ```
+    pub fn find_prefix(&self, query: &[u16]) -> Result<Vec<u16>, Refusal> {
+        find_prefix(self.bytes, query)
+    }
+
     /// The live record with so many live records before it in word order.
     ///
     /// ```
@@ -318,6 +399,28 @@ impl<'b> Book<'b> {
     /// ```
     pub fn entries(&self) -> Result<Entries<'_>, Refusal> {
         entries(self.bytes)
+    }
+
+    /// The live records whose words begin with the syllables of the query, in word order;
+    /// [`find_prefix_into`] says what begins with what.
+    ///
+    /// ```
+    /// use jogcairn::{Book, Word};
+    ///
+    /// let mut bytes = [0; 256];
+    /// let mut book = Book::new(&mut bytes);
+    /// for (stock, name) in ["တက်သည်", "ကင်ဆာ", "တက္ကသိုလ်", "တကယ်၍"].into_iter().enumerate() {
+    ///     book.add(&name.parse::<Word>()?, stock as u32)?;
+    /// }
+    /// // The clerk typed the first syllable.
+    /// let first: Word = "တက်".parse()?;
+    /// let listed: Vec<String> =
+    ///     book.entries_with_prefix(&first)?.map(|entry| entry.to_string()).collect();
+    /// assert_eq!(listed, ["တက္ကသိုလ်", "တက်သည်"]);
+    /// # Ok::<(), jogcairn::Refusal>(())
+    /// ```
+    pub fn entries_with_prefix(&self, query: &[u16]) -> Result<Entries<'_>, Refusal> {
+        entries_with_prefix(self.bytes, query)
     }
 }
 

@@ -1,4 +1,4 @@
-//! The live records of a book, in word order.
+//! Live records of a book, in word order.
 
 use crate::refusal::Refusal;
 use crate::text::write_values;
@@ -75,8 +75,10 @@ impl fmt::Display for Entry<'_> {
     }
 }
 
-/// The live records of a book in word order; made by [`Book::entries`](crate::Book::entries) and
-/// [`book::entries`](crate::book::entries).
+/// Live records of a book in word order: all of them, made by [`Book::entries`](crate::Book::entries)
+/// and [`book::entries`](crate::book::entries), or those whose words begin with some syllables, made
+/// by [`Book::entries_with_prefix`](crate::Book::entries_with_prefix) and
+/// [`book::entries_with_prefix`](crate::book::entries_with_prefix).
 ///
 /// ```
 /// // ပ, အ and က as they were added, read from the word filed last to the one filed first.
@@ -93,7 +95,7 @@ pub struct Entries<'b> {
 }
 
 impl<'b> Entries<'b> {
-    /// The entries of a book whose live records start there.
+    /// The entries of the live records that start there.
     pub(crate) fn new(book: &'b [u8], starts: Vec<u16>) -> Entries<'b> {
         Entries { book, starts: starts.into_iter() }
     }

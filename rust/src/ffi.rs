@@ -36,6 +36,14 @@ unsafe extern "C" {
     ) -> u64;
     fn jogcairn_book_remove(book: *mut u8, bytes: usize, word: *const u16, count: usize) -> u64;
     fn jogcairn_book_find(book: *const u8, bytes: usize, word: *const u16, count: usize) -> u64;
+    fn jogcairn_book_find_prefix(
+        book: *const u8,
+        bytes: usize,
+        query: *const u16,
+        count: usize,
+        starts: *mut u16,
+        room: usize,
+    ) -> u64;
     fn jogcairn_book_rank(book: *const u8, bytes: usize, rank: usize) -> u64;
     fn jogcairn_book_order(book: *const u8, bytes: usize, starts: *mut u16, room: usize) -> u64;
     fn jogcairn_book_word(
@@ -142,6 +150,16 @@ pub(crate) fn book_remove(book: &mut [u8], word: &[u16]) -> Answer {
 pub(crate) fn book_find(book: &[u8], word: &[u16]) -> Answer {
     // SAFETY: the pointers and counts are those of slices, both only read.
     Answer::new(unsafe { jogcairn_book_find(book.as_ptr(), book.len(), word.as_ptr(), word.len()) })
+}
+
+pub(crate) fn book_find_prefix(book: &[u8], query: &[u16], starts: &mut [u16]) -> Answer {
+    let (book_at, bytes) = (book.as_ptr(), book.len());
+    let (starts_at, room) = (starts.as_mut_ptr(), starts.len());
+    // SAFETY: the pointers and counts are those of slices, of which the output is borrowed mutably
+    // and so overlaps neither the book nor the query.
+    Answer::new(unsafe {
+        jogcairn_book_find_prefix(book_at, bytes, query.as_ptr(), query.len(), starts_at, room)
+    })
 }
 
 pub(crate) fn book_rank(book: &[u8], rank: usize) -> Answer {

@@ -34,6 +34,7 @@
 //! | file words | [`Word`], [`Key`], [`key_into`], [`compare`] |
 //! | take the values of a line of UTF-8 | [`decode`], [`decode_into`] |
 //! | keep a word book | [`Book`], and the functions of [`book`] for shared bytes |
+//! | list the words of a book that continue some syllables | [`Book::entries_with_prefix`] |
 //!
 //! A function whose name ends in `_into` writes to the front of what the caller lends and leaves
 //! the rest as it was; a refusal writes nothing.

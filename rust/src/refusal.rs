@@ -17,7 +17,7 @@ pub enum Reason {
     NoContinuation = 3,
     /// The word is none yet, but can be continued to one. The place is its length.
     Unfinished = 4,
-    /// An output is too short. The place is the number of values or bytes needed.
+    /// An output is too short. The place is the number of values, bytes or starts needed.
     OutputTooShort = 5,
     /// No word of at most 64 values has these records. The place is 0.
     NoSuchRow = 6,
@@ -148,7 +148,10 @@ impl fmt::Display for Refusal {
                 write!(f, "the {place} values can be continued to a word, but are none yet")
             }
             Reason::OutputTooShort => {
-                write!(f, "the output is too short, since {place} values or bytes are needed")
+                write!(
+                    f,
+                    "the output is too short, since {place} values, bytes or starts are needed"
+                )
             }
             Reason::NoSuchRow => f.write_str("no word of at most 64 values has these records"),
             Reason::FaultyLine => write!(f, "no letter of three bytes begins at byte {place}"),
