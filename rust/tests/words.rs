@@ -1,8 +1,8 @@
 //! The words that the scope document names, and the order of its tests.
 
 use jogcairn::{
-    compare, decode, key_into, normalise, part, read, spell_into, stored_form, typed_place, write,
-    Book, Key, Reason, Refusal, Told, Which, Word, BOOK_LIMIT, KEY_SIZE, WORD_LIMIT,
+    book, compare, decode, key_into, normalise, part, read, spell_into, stored_form, typed_place,
+    write, Book, Key, Reason, Refusal, Told, Which, Word, BOOK_LIMIT, KEY_SIZE, WORD_LIMIT,
 };
 use std::cmp::Ordering;
 
@@ -95,6 +95,7 @@ fn an_empty_slice_is_lent_like_any_other() {
     assert_eq!(compare(&[], &[]).unwrap(), Ordering::Equal);
     assert_eq!(refused(Book::new(&mut []).add(&[0x1000], 1)), (14, 0));
     assert_eq!(refused(Book::new(&mut []).rank(0)), (15, 0));
+    assert_eq!(book::find_prefix_into(&[], &[0x1000], &mut []), Ok(0));
 }
 
 #[test]
@@ -108,6 +109,12 @@ fn the_tests_run_in_the_order_of_the_document() {
     assert_eq!(refused(book.add(&[], 1)), (8, 0));
     assert_eq!(refused(book.add(&[0x1039], 1)), (3, 0));
     assert_eq!(refused(book.add(&[0x1000], 1)), (11, 0));
+    assert_eq!(refused(book.find_prefix(&foreign)), (1, 64));
+    assert_eq!(refused(book.find_prefix(&[])), (8, 0));
+    assert_eq!(refused(book.find_prefix(&[0x1039, 0x0041])), (2, 1));
+    assert_eq!(refused(book.find_prefix(&[0x1000, 0x103A, 0x102C])), (3, 2));
+    assert_eq!(refused(book.find_prefix(&[0x1000, 0x1000, 0x1039])), (4, 3));
+    assert_eq!(refused(book::find_prefix_into(&no_book, &[0x1000], &mut [])), (11, 0));
     let both = compare(&[0x103F], &[0x0041]).unwrap_err();
     assert_eq!((both.which, both.refusal.reason), (Which::First, Reason::NoContinuation));
 }
@@ -132,6 +139,50 @@ fn a_book_is_kept_through_its_calls() {
     assert_eq!(bytes, *b"MW\x02\x01\0\0\0\x00\x2CM-\x02\x02\0\0\0\x00\x2BMW\x01\x04\0\0\0\x00");
 }
 
+/// The starts of the records that a text finds by its first syllables.
+fn found(book: &Book, text: &str) -> Vec<u16> {
+    book.find_prefix(&decode(text.as_bytes()).unwrap()).unwrap()
+}
+
+#[test]
+fn first_syllables_find_the_words_that_continue_them() {
+    let mut bytes = [0; 256];
+    let mut book = Book::new(&mut bytes);
+    let names = ["တက္ကသိုလ်", "အင်္ဂလန်", "ပြဿနာ", "တက်သည်", "ပိုက်"];
+    let starts: Vec<u16> = (0u32..)
+        .zip(names)
+        .map(|(stock, name)| book.add(&name.parse::<Word>().unwrap(), stock).unwrap() as u16)
+        .collect();
+    // A plain final finds a stacked one, kinzi and great sa.
+    assert_eq!(found(&book, "တက်"), [starts[0], starts[3]]);
+    assert_eq!(found(&book, "အင်"), [starts[1]]);
+    assert_eq!(found(&book, "ပြသ်"), [starts[2]]);
+    // A word finds itself, and its marks may be typed in any order.
+    assert_eq!(found(&book, "တက္ကသိုလ်"), [starts[0]]);
+    assert_eq!(found(&book, "ပုိက်"), [starts[4]]);
+    // What is no whole syllable of a word does not find it, and nor does a longer one.
+    for text in ["တ", "အ", "ပြ", "ပိုက်ပ"] {
+        assert_eq!(found(&book, text), []);
+    }
+    let listed = book.entries_with_prefix(&[0x1010, 0x1000, 0x103A]).unwrap();
+    assert_eq!(listed.map(|entry| entry.stock()).collect::<Vec<_>>(), [0, 3]);
+    book.remove(&"တက္ကသိုလ်".parse::<Word>().unwrap()).unwrap();
+    assert_eq!(found(&book, "တက်"), [starts[3]]);
+}
+
+#[test]
+fn words_of_equal_weights_are_both_found_and_a_short_list_is_left_alone() {
+    // 1000 102C, then 1000 102B, which has the same weights and comes first by its values.
+    let book = *b"MW\x02\x01\0\0\0\x00\x2CMW\x02\x02\0\0\0\x00\x2B";
+    for query in [[0x1000, 0x102B], [0x1000, 0x102C]] {
+        let mut starts = [7; 3];
+        assert_eq!(refused(book::find_prefix_into(&book, &query, &mut starts[..1])), (5, 2));
+        assert_eq!(starts, [7; 3]);
+        assert_eq!(book::find_prefix_into(&book, &query, &mut starts), Ok(2));
+        assert_eq!(starts, [9, 0, 7]);
+    }
+}
+
 /// A book of 16,384 bytes with all words of one and two letters from 1000 to 1020.
 fn long_book() -> Vec<u8> {
     let mut bytes = vec![0; BOOK_LIMIT];
@@ -151,6 +202,9 @@ fn a_thread_with_little_stack_lists_a_long_book() {
         let book = Book::new(&mut bytes);
         let order = book.order().unwrap();
         let last = book.rank(order.len() - 1).unwrap();
+        // Each letter is a syllable, so the words that begin with 1000 are the first in word order.
+        let begun = book.find_prefix(&[0x1000]).unwrap();
+        assert_eq!(begun, order[..34]);
         (order.len(), book.check().unwrap(), usize::from(order[order.len() - 1]) == last.start)
     });
     let (ordered, live, same) = listing.unwrap().join().unwrap();
