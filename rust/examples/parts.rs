@@ -15,8 +15,13 @@ fn main() -> Result<(), jogcairn::Refusal> {
     let mut book = Book::new(&mut bytes);
     book.add(&fan, 2041)?;
     book.add(&pipe, 17)?;
+    book.add(&"ပတ္တာ".parse::<Word>()?, 52)?;
     for entry in book.entries()? {
         println!("{entry} {}", entry.stock());
+    }
+    let typed: Word = "ပတ်".parse()?; // the first syllable of a hinge
+    for entry in book.entries_with_prefix(&typed)? {
+        println!("{typed} is continued by {entry} {}", entry.stock());
     }
     match "က္".parse::<Word>() {
         Ok(word) => println!("{word}"),
