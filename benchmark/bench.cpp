@@ -271,6 +271,88 @@ static void time_book(const std::vector<Word> &names, size_t live, size_t record
     std::printf("\n");
 }
 
+// The names, of which every `step`th is put behind 1021; the others that begin with it are left out.
+static std::vector<Word> names_behind(const std::vector<Word> &names, size_t step)
+{
+    std::vector<Word> behind;
+    for (size_t i = 0; i < names.size(); i++)
+        if (i % step == 0) {
+            behind.push_back({0x1021});
+            behind.back().insert(behind.back().end(), names[i].begin(), names[i].end());
+        } else if (names[i][0] != 0x1021) {
+            behind.push_back(names[i]);
+        }
+    return behind;
+}
+
+// How many live records of a book begin with the query's syllables.
+static size_t fitting(const std::vector<uint8_t> &book, const Word &query)
+{
+    static uint16_t starts[JOGCAIRN_BOOK_LIMIT / 8];
+    uint64_t answer = jogcairn_book_find_prefix(book.data(), book.size(), query.data(), query.size(), starts, JOGCAIRN_BOOK_LIMIT / 8);
+    need(jogcairn_accepted(answer), "a query is refused");
+    return jogcairn_first(answer);
+}
+
+// Of the queries the one that finds the number of records nearest to `wanted`.
+static Word query_finding(const std::vector<uint8_t> &book, const std::vector<Word> &queries, size_t wanted)
+{
+    Word nearest;
+    size_t least = SIZE_MAX;
+    for (const Word &query : queries) {
+        size_t found = fitting(book, query), distance = found < wanted ? wanted - found : found - wanted;
+        if (distance < least) {
+            least = distance;
+            nearest = query;
+        }
+    }
+    return nearest;
+}
+
+// The search by first syllables in a full book, beside find, rank and order in the same one.
+static void time_prefix(const char *what, const std::vector<uint8_t> &book, const Word &name, const Word &query)
+{
+    static uint16_t starts[JOGCAIRN_BOOK_LIMIT / 8];
+    const uint8_t *bytes = book.data();
+    size_t length = book.size(), room = sizeof starts / sizeof starts[0], turns = 20;
+    size_t lives = jogcairn_first(jogcairn_book_check(bytes, length));
+    enum { FIND, RANK, ORDER, PREFIX };
+    std::vector<Case> cases = {
+        timed("find", turns, [&](size_t) { return jogcairn_book_find(bytes, length, name.data(), name.size()); }),
+        timed("rank", turns, [&](size_t i) { return jogcairn_book_rank(bytes, length, i % lives); }),
+        timed("order", turns, [&](size_t) { return jogcairn_book_order(bytes, length, starts, room) + starts[0]; }),
+        timed("prefix", turns,
+              [&](size_t) { return jogcairn_book_find_prefix(bytes, length, query.data(), query.size(), starts, room) + starts[0]; }),
+    };
+    run(cases);
+    std::printf("  %-22s %6zu %7zu", what, lives, fitting(book, query));
+    for (const Case &each : cases)
+        std::printf(" %8.1f", each.shortest / 1000);
+    std::printf(" %8.2f %8.2f %8.2f\n", cases[PREFIX].shortest / cases[FIND].shortest, cases[PREFIX].shortest / cases[RANK].shortest,
+                cases[PREFIX].shortest / cases[ORDER].shortest);
+}
+
+// Queries that find none, one and the most records of the full book; then books made for a tenth and for all.
+static void time_prefixes(const std::vector<Word> &names)
+{
+    std::printf("\n  the search by first syllables, in microseconds, beside other calls on the same full book of %d bytes\n", JOGCAIRN_BOOK_LIMIT);
+    std::printf("  %-22s %6s %7s", "records that fit", "live", "fit");
+    for (const char *name : {"find", "rank", "order", "prefix", "/ find", "/ rank", "/ order"})
+        std::printf(" %8s", name);
+    std::printf("\n");
+    std::vector<uint8_t> book(JOGCAIRN_BOOK_LIMIT);
+    fill_book(book, names, names.size(), names.size());
+    time_prefix("none", book, names[0], query_finding(book, names, 0));
+    time_prefix("one", book, names[0], query_finding(book, names, 1));
+    time_prefix("the most of any query", book, names[0], query_finding(book, names, names.size()));
+    for (size_t step : {10, 1}) {
+        std::vector<Word> behind = names_behind(names, step);
+        fill_book(book, behind, behind.size(), behind.size());
+        time_prefix(step == 1 ? "all *" : "a tenth *", book, behind[0], {0x1021});
+    }
+    std::printf("  * a book made for it: every word, or every tenth, is put behind 1021\n");
+}
+
 int main(int argc, char **argv)
 {
     need(argc > 1, "usage: bench FILE [ROUNDS]");
@@ -298,4 +380,5 @@ int main(int argc, char **argv)
         time_book(names, records, records);
     time_book(names, names.size(), names.size());
     time_book(names, 300, 2000);
+    time_prefixes(names);
 }
