@@ -172,8 +172,8 @@ fn first_syllables_find_the_words_that_continue_them() {
 
 #[test]
 fn words_of_equal_weights_are_both_found_and_a_short_list_is_left_alone() {
-    // 1000 102C, then 1000 102B, which has the same weights and comes first by its values.
-    let book = *b"MW\x02\x01\0\0\0\x00\x2CMW\x02\x02\0\0\0\x00\x2B";
+    // 1000 102C, then 1000 102B, which has the same weights and comes first by its values; then 1000.
+    let book = *b"MW\x02\x01\0\0\0\x00\x2CMW\x02\x02\0\0\0\x00\x2BMW\x01\x03\0\0\0\x00";
     for query in [[0x1000, 0x102B], [0x1000, 0x102C]] {
         let mut starts = [7; 3];
         assert_eq!(refused(book::find_prefix_into(&book, &query, &mut starts[..1])), (5, 2));
