@@ -3,10 +3,11 @@
 //! Every call takes the whole buffer apart into records, and answers from their
 //! list.
 
-use crate::collation::compare;
+use crate::collation::{begins_with, compare};
+use crate::reading::read;
 use crate::refusal::Refusal;
-use crate::storage::store;
-use crate::word::{hand_out, Word, WORD_LIMIT};
+use crate::storage::{store, StoredWord};
+use crate::word::{hand_out, WORD_LIMIT};
 use std::collections::BTreeMap;
 
 /// "A book is a lent buffer of at most 16,384 bytes".
@@ -59,8 +60,21 @@ pub fn check(buffer: &[u8]) -> Result<usize, Refusal> {
 
 /// The live record with the word.
 pub fn find(buffer: &[u8], word: &[u16]) -> Result<Entry, Refusal> {
-    let word = entered(word)?;
+    let word = entered(word)?.word;
     Book::of(buffer)?.entry_of(&word).ok_or(Refusal::NOT_LIVE)
+}
+
+/// Document 02: "The starts of all fitting records are written to a lent list of
+/// 16-bit numbers, in word order, each once." The whole book is put into its order
+/// first, and what does not fit is left out: refusals 1, 8, 2, 3 or 4, 11 and 5.
+pub fn find_prefix(buffer: &[u8], query: &[u16], starts: &mut [u16]) -> Result<usize, Refusal> {
+    let query = entered(query)?.reading;
+    let book = Book::of(buffer)?;
+    let fits = |record: &&Record| {
+        let reading = read(&record.word).expect("the words of a book are readable");
+        begins_with(&reading, &query)
+    };
+    hand_out(&starts_of(book.in_order().into_iter().filter(fits)), starts)
 }
 
 /// "Rank r gives start and stock number of the live record with exactly r live
@@ -78,8 +92,12 @@ pub fn rank(buffer: &[u8], rank: usize) -> Result<Entry, Refusal> {
 /// 11 and 5.
 pub fn order(buffer: &[u8], starts: &mut [u16]) -> Result<usize, Refusal> {
     let book = Book::of(buffer)?;
-    let order: Vec<u16> = book.in_order().iter().map(|record| record.entry.start as u16).collect();
-    hand_out(&order, starts)
+    hand_out(&starts_of(book.in_order().into_iter()), starts)
+}
+
+/// Where the records start, as 16-bit numbers: no book is longer than 16,384 bytes.
+fn starts_of<'b>(records: impl Iterator<Item = &'b Record>) -> Vec<u16> {
+    records.map(|record| record.entry.start as u16).collect()
 }
 
 /// Puts the word of the record that starts at a place into the output, whether it
@@ -96,7 +114,7 @@ pub fn word_at(buffer: &[u8], start: usize, output: &mut [u16]) -> Result<Option
 /// "Add puts a record with the normalised word just after the last record and
 /// gives its start."
 pub fn add(buffer: &mut [u8], word: &[u16], stock: u32) -> Result<usize, Refusal> {
-    let word = entered(word)?;
+    let word = entered(word)?.word;
     let book = Book::of(buffer)?;
     if let Some(entry) = book.entry_of(&word) {
         return Err(Refusal::already_live(entry.start));
@@ -120,11 +138,11 @@ pub fn remove(buffer: &mut [u8], word: &[u16]) -> Result<usize, Refusal> {
 
 /// The word that goes to the book: "Keys, comparison and the book normalise
 /// first." Its tests come in the order 1, 8, 2, 3 or 4.
-fn entered(word: &[u16]) -> Result<Word, Refusal> {
+fn entered(word: &[u16]) -> Result<StoredWord, Refusal> {
     if word.is_empty() {
         return Err(Refusal::EMPTY_WORD);
     }
-    Ok(store(word)?.word)
+    store(word)
 }
 
 impl Book {

@@ -96,6 +96,15 @@ fn independent_vowel_weight(value: u16) -> Option<u8> {
     })
 }
 
+/// Document 02: "its row of weights begins with the query's row". Whole syllables are
+/// weighed in turn, and the rest of the longer word is not looked at.
+pub fn begins_with(word: &Reading, query: &Reading) -> bool {
+    let mut syllables = word.syllables().iter();
+    query.syllables().iter().all(|asked| {
+        syllables.next().is_some_and(|found| weights(&found.record) == weights(&asked.record))
+    })
+}
+
 /// One of two words.
 #[derive(Clone, Copy, Debug, PartialEq, Eq)]
 pub enum Which {
