@@ -6,7 +6,7 @@
 //! A call is a line: hexadecimal numbers, each but the last with a space behind it, and a letter.
 //! `1000 103A 7a` adds the word 1000 103A with the stock number 7.
 
-use jogcairn::book::{order_into, word_into};
+use jogcairn::book::{find_prefix_into, order_into, word_into};
 use jogcairn::{Book, Found, Refusal, Told, BOOK_LIMIT};
 use oracle::calls::{Call, Play, BLANK};
 
@@ -44,7 +44,7 @@ type Library = fn(&Call, &mut Array) -> Option<Answer>;
 
 fn proved(call: &Call, array: &mut Array) -> Option<Answer> {
     let room = match call {
-        Call::Order(room) | Call::Word(_, room) => *room,
+        Call::FindPrefix(_, room) | Call::Order(room) | Call::Word(_, room) => *room,
         _ => 0,
     };
     array.output = vec![BLANK; room];
@@ -58,6 +58,9 @@ fn proved(call: &Call, array: &mut Array) -> Option<Answer> {
         Call::Add(word, stock) => return Some(book.add(word, *stock).map(alone)),
         Call::Remove(word) => return Some(book.remove(word).map(alone)),
         Call::Find(word) => return Some(book.find(word).map(both)),
+        Call::FindPrefix(query, _) => {
+            return Some(find_prefix_into(book.as_bytes(), query, &mut array.output).map(alone));
+        }
         Call::Rank(rank) => return Some(book.rank(*rank as usize).map(both)),
         Call::Order(_) => {
             return Some(order_into(book.as_bytes(), &mut array.output).map(alone));
@@ -92,6 +95,7 @@ fn call_of(line: &str) -> Option<Call> {
         ("a", _, Some(stock)) => Some(Call::Add(values, stock)),
         ("r", _, None) => Some(Call::Remove(values)),
         ("f", _, None) => Some(Call::Find(values)),
+        ("b", _, Some(room)) => Some(Call::FindPrefix(values, room as usize)),
         ("k", [], Some(rank)) => Some(Call::Rank(rank)),
         ("o", [], Some(room)) => Some(Call::Order(room as usize)),
         ("w", [start], Some(room)) => Some(Call::Word(usize::from(*start), room as usize)),
@@ -224,10 +228,39 @@ fn starts_in_their_own_order_and_a_lost_value_are_reported() {
 }
 
 #[test]
+fn a_search_that_leaves_a_start_out_or_adds_one_is_reported() {
+    let first_left_out: Library = |call, array| {
+        let answer = proved(call, array);
+        match (call, answer) {
+            (Call::FindPrefix(..), Some(Ok((count @ 1.., second)))) => {
+                array.output[..count].rotate_left(1);
+                array.output[count - 1] = BLANK;
+                Some(Ok((count - 1, second)))
+            }
+            (_, answer) => answer,
+        }
+    };
+    let one_more_counted: Library = |call, array| {
+        let answer = proved(call, array);
+        match (call, answer) {
+            (Call::FindPrefix(..), Some(Err(mut refusal))) if refusal.number() == 5 => {
+                refusal.place += 1;
+                Some(Err(refusal))
+            }
+            (_, answer) => answer,
+        }
+    };
+    for wrong in [first_left_out, one_more_counted] {
+        let difference = play(CALLS, ANSWERS, wrong).unwrap_err();
+        assert!(difference.contains("b\", line "), "{difference}");
+    }
+}
+
+#[test]
 fn a_line_that_is_no_call_is_reported() {
     for line in [
         "", "x", "7c", "1000 7f", "1000 a", "1000  7a", "G 7a", "10000 7a", "100p", "0 100p", "o",
-        "0 0o", "0w",
+        "0 0o", "0w", "b", "1000 b",
     ] {
         let difference = play(&format!("c\n{line}\n"), "OK 0 0 0\n", proved).unwrap_err();
         assert_eq!(difference, format!("calls, line 2: {line:?} is no call"));

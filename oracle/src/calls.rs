@@ -7,6 +7,7 @@
 //! refusal number and place; then a checksum of the whole array and what the call
 //! left in its output.
 
+mod beginnings;
 mod damages;
 mod fillings;
 mod listings;
@@ -40,5 +41,9 @@ pub fn all() -> Play {
     play.scene("listings", listings::listings);
     play.scene("rooms", listings::rooms);
     play.scene("no books", listings::no_books);
+    play.scene("beginnings", beginnings::beginnings);
+    play.scene("long beginnings", beginnings::long_beginnings);
+    play.scene("refused queries", beginnings::refused_queries);
+    play.scene("changed beginnings", beginnings::changed_beginnings);
     play
 }

@@ -10,7 +10,7 @@ static CALLS: LazyLock<Play> = LazyLock::new(all);
 fn the_calls_are_of_the_right_size() {
     let lines = CALLS.expected.lines().count();
     assert!((5_000..=10_000).contains(&lines), "{lines} lines");
-    assert!(CALLS.input.len() <= 400_000, "{} bytes of input", CALLS.input.len());
+    assert!(CALLS.input.len() <= 450_000, "{} bytes of input", CALLS.input.len());
     assert!(CALLS.expected.len() <= 200_000, "{} bytes of output", CALLS.expected.len());
 }
 
@@ -27,6 +27,7 @@ fn every_answer_occurs() {
     numbers("add", &[1, 8, 2, 3, 4, 11, 12, 14]);
     numbers("remove", &[1, 8, 2, 3, 4, 11, 13]);
     numbers("find", &[1, 8, 2, 3, 4, 11, 13]);
+    numbers("find prefix", &[1, 8, 2, 3, 4, 11, 5]);
     numbers("rank", &[11, 15]);
     numbers("order", &[11, 5]);
     numbers("word", &[11, 5]);

@@ -101,6 +101,10 @@ pub fn many_records(play: &mut Play, random: &mut Random) {
     for rank in (0..=420).step_by(20) {
         let _ = play.rank(rank);
     }
+    for head in 0x1000..=0x1005 {
+        let found = play.find_prefix(&[head], 0).map_or_else(|short| short.place, |(live, _)| live);
+        let _ = play.find_prefix(&[head], found);
+    }
     let _ = play.check();
 }
 

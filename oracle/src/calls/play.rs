@@ -24,6 +24,8 @@ pub enum Call {
     Remove(Vec<u16>),
     /// A word.
     Find(Vec<u16>),
+    /// A query, and the room for the starts of the records that continue it.
+    FindPrefix(Vec<u16>, usize),
     /// A number of live records.
     Rank(u32),
     /// The room for the starts of all live records.
@@ -127,6 +129,14 @@ impl Play {
     }
 
     /// Plays a call on the book.
+    pub fn find_prefix(&mut self, query: &[u16], room: usize) -> Answer {
+        let mut output = vec![BLANK; room];
+        let count = book::find_prefix(&self.array[..self.length], query, &mut output);
+        let call = Call::FindPrefix(query.to_vec(), room);
+        self.told_with(call, count.map(|count| (count, 0)), &output)
+    }
+
+    /// Plays a call on the book.
     pub fn rank(&mut self, rank: u32) -> Answer {
         let entry = book::rank(&self.array[..self.length], rank as usize);
         self.told(Call::Rank(rank), entry.map(pair))
@@ -180,6 +190,7 @@ impl Play {
             Call::Add(word, stock) => format!("{}{stock:X}a", values(word)),
             Call::Remove(word) => format!("{}r", values(word)),
             Call::Find(word) => format!("{}f", values(word)),
+            Call::FindPrefix(query, room) => format!("{}{room:X}b", values(query)),
             Call::Rank(rank) => format!("{rank:X}k"),
             Call::Order(room) => format!("{room:X}o"),
             Call::Word(start, room) => format!("{start:X} {room:X}w"),
@@ -207,6 +218,7 @@ fn name(call: &Call) -> &'static str {
         Call::Add(..) => "add",
         Call::Remove(_) => "remove",
         Call::Find(_) => "find",
+        Call::FindPrefix(..) => "find prefix",
         Call::Rank(_) => "rank",
         Call::Order(_) => "order",
         Call::Word(..) => "word",
