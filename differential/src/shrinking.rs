@@ -2,7 +2,7 @@
 
 use crate::call::Call;
 use crate::case::Case;
-use std::iter::successors;
+use std::iter::{once, successors};
 use std::ops::Range;
 
 /// The smallest case that is reached from this one by steps after each of which it still differs.
@@ -26,20 +26,29 @@ fn smaller_cases(case: &Case) -> impl Iterator<Item = Case> + '_ {
 
 /// Cases of which some list is shorter.
 fn shorter_cases(case: &Case) -> impl Iterator<Item = Case> + '_ {
-    let is_book = case.call.bytes_name() == Some("book");
-    let book: &[u8] = if is_book { &case.bytes } else { &[] };
+    let book = book(case);
     let books = fewer_records(book).chain(shorter(&case.bytes)).chain(shorter_records(book));
     books
         .map(|bytes| Case { bytes, ..case.clone() })
         .chain(without_records_before(case))
+        .chain(with_shorter_words(case))
         .chain(shorter(&case.word).map(|word| Case { word, ..case.clone() }))
         .chain(shorter(&case.second).map(|second| Case { second, ..case.clone() }))
+}
+
+/// The book of a case, if it has one.
+fn book(case: &Case) -> &[u8] {
+    match case.call.bytes_name() {
+        Some("book") => &case.bytes,
+        _ => &[],
+    }
 }
 
 /// Cases of as long lists, one item of which is simpler.
 fn simpler_cases(case: &Case) -> impl Iterator<Item = Case> + '_ {
     simpler(&case.bytes, 0)
         .map(|bytes| Case { bytes, ..case.clone() })
+        .chain(with_simpler_words(case))
         .chain(simpler(&case.word, 0x1000).map(|word| Case { word, ..case.clone() }))
         .chain(simpler(&case.second, 0x1000).map(|second| Case { second, ..case.clone() }))
 }
@@ -51,11 +60,13 @@ fn with_number_before(mut case: Case) -> Option<Case> {
     Some(case)
 }
 
-/// Stretches of a list of so many items: all, halves, quarters and so on down to single items.
+/// Stretches of a list of so many items: all, halves, quarters and so on down to single items. The
+/// next begins in the middle of the one before, so that any two neighbours are a stretch.
 fn stretches(length: usize) -> impl Iterator<Item = Range<usize>> {
-    let sizes = successors(Some(length), |&size| Some(size / 2)).take_while(|&size| size > 0);
-    sizes.flat_map(move |size| {
-        (0..length).step_by(size).map(move |start| start..length.min(start + size))
+    let sizes = successors(Some(length), |&size| (size > 1).then(|| size.div_ceil(2)));
+    sizes.filter(|&size| size > 0).flat_map(move |size| {
+        let starts = (0..length).step_by(size.div_ceil(2));
+        starts.map(move |start| start..length.min(start + size))
     })
 }
 
@@ -110,13 +121,62 @@ fn without_records_before(case: &Case) -> impl Iterator<Item = Case> + '_ {
     })
 }
 
-/// The book with one value less in a record.
+/// The letters of the word and of the first records of a case on a book.
+fn letters(case: &Case) -> Vec<Vec<u8>> {
+    const FEW: usize = 4;
+    let records = records(book(case)).into_iter().take(FEW);
+    let records = records.map(|record| case.bytes[record.start + 7..record.end].to_vec());
+    let word = if book(case).is_empty() { &[] } else { &case.word[..] };
+    once(word.iter().map(|&value| value as u8).collect()).chain(records).collect()
+}
+
+/// Cases with a stretch less in every word that has the same values there, so that what fits may still
+/// fit.
+fn with_shorter_words(case: &Case) -> impl Iterator<Item = Case> + '_ {
+    letters(case).into_iter().flat_map(move |letters| {
+        let length = letters.len();
+        let all =
+            (0..length).flat_map(move |start| (start + 1..=length).map(move |end| start..end));
+        all.map(move |stretch| replaced(case, stretch.start, &letters[stretch], None))
+    })
+}
+
+/// Cases with one value made the simplest in every word that has the same value there.
+fn with_simpler_words(case: &Case) -> impl Iterator<Item = Case> + '_ {
+    letters(case).into_iter().flat_map(move |letters| {
+        let places = (0..letters.len()).filter(|&place| letters[place] != 0).collect::<Vec<_>>();
+        places.into_iter().map(move |place| replaced(case, place, &[letters[place]], Some(0)))
+    })
+}
+
+/// The case with other letters in every word that has these at the place.
+fn replaced(case: &Case, place: usize, letters: &[u8], by: Option<u8>) -> Case {
+    let mut smaller = case.clone();
+    let stretch = place..place + letters.len();
+    let word = case.word.get(stretch.clone());
+    if word.is_some_and(|word| word.iter().map(|&value| value as u8).eq(letters.iter().copied())) {
+        smaller.word.splice(stretch.clone(), by.map(|letter| 0x1000 + u16::from(letter)));
+    }
+    // The last record first, so that those before it stay where they are.
+    for record in records(book(case)).into_iter().rev() {
+        let first = record.start + 7;
+        if case.bytes[first..record.end].get(stretch.clone()) == Some(letters) {
+            smaller.bytes.splice(first + stretch.start..first + stretch.end, by);
+            smaller.bytes[record.start + 2] -= (letters.len() - by.iter().len()) as u8;
+        }
+    }
+    smaller
+}
+
+/// The book with fewer values in a record: without its last ones, or without one.
 fn shorter_records(book: &[u8]) -> impl Iterator<Item = Vec<u8>> + '_ {
     records(book).into_iter().flat_map(move |record| {
-        (record.start + 7..record.end).map(move |place| {
-            let mut book = without(book, place..place + 1);
-            book[record.start + 2] -= 1;
-            book
+        let places = record.start + 7..record.end;
+        let ends = places.clone().map(move |place| place..record.end);
+        ends.chain(places.map(|place| place..place + 1)).map(move |stretch| {
+            let mut shorter = without(book, stretch.clone());
+            shorter[record.start + 2] -= stretch.len() as u8;
+            shorter
         })
     })
 }
