@@ -21,15 +21,17 @@ pub enum Call {
     BookAdd,
     BookRemove,
     BookFind,
+    BookFindPrefix,
     BookRank,
     BookOrder,
     BookWord,
     BookEntries,
+    BookPrefixEntries,
 }
 
 impl Call {
     /// All calls.
-    pub const ALL: [Call; 21] = [
+    pub const ALL: [Call; 23] = [
         Call::Read,
         Call::Record,
         Call::Part,
@@ -47,10 +49,12 @@ impl Call {
         Call::BookAdd,
         Call::BookRemove,
         Call::BookFind,
+        Call::BookFindPrefix,
         Call::BookRank,
         Call::BookOrder,
         Call::BookWord,
         Call::BookEntries,
+        Call::BookPrefixEntries,
     ];
 
     /// The name that is printed.
@@ -73,10 +77,12 @@ impl Call {
             Call::BookAdd => "book add",
             Call::BookRemove => "book remove",
             Call::BookFind => "book find",
+            Call::BookFindPrefix => "book find prefix",
             Call::BookRank => "book rank",
             Call::BookOrder => "book order",
             Call::BookWord => "book word",
             Call::BookEntries => "book entries",
+            Call::BookPrefixEntries => "book prefix entries",
         }
     }
 
@@ -94,6 +100,8 @@ impl Call {
             Call::BookCheck | Call::BookEntries => &[0, 11],
             Call::BookAdd => &[0, 1, 2, 3, 4, 8, 11, 12, 14],
             Call::BookRemove | Call::BookFind => &[0, 1, 2, 3, 4, 8, 11, 13],
+            Call::BookFindPrefix => &[0, 1, 2, 3, 4, 5, 8, 11],
+            Call::BookPrefixEntries => &[0, 1, 2, 3, 4, 8, 11],
             Call::BookRank => &[0, 11, 15],
             Call::BookOrder => &[0, 5, 11],
             Call::BookWord => &[0, 5, 11, 128],
@@ -114,10 +122,12 @@ impl Call {
             | Call::BookAdd
             | Call::BookRemove
             | Call::BookFind
+            | Call::BookFindPrefix
             | Call::BookRank
             | Call::BookOrder
             | Call::BookWord
-            | Call::BookEntries => Some("book"),
+            | Call::BookEntries
+            | Call::BookPrefixEntries => Some("book"),
             _ => None,
         }
     }
@@ -133,6 +143,7 @@ impl Call {
             | Call::StoredForm
             | Call::Key
             | Call::Decode
+            | Call::BookFindPrefix
             | Call::BookOrder => &["room"],
             Call::BookWord => &["room", "start"],
             Call::BookAdd => &["stock"],

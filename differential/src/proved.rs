@@ -5,7 +5,7 @@ use crate::case::Case;
 use crate::lent::{Lent, Memory};
 use crate::library::Library;
 use crate::outcome::{Answer, Outcome};
-use jogcairn::{Book, ComparisonRefusal, Found, Refusal, Told, Which, Word};
+use jogcairn::{Book, ComparisonRefusal, Entries, Found, Refusal, Told, Which, Word};
 use std::cmp::Ordering;
 
 /// The proved library.
@@ -22,6 +22,7 @@ impl Library for Proved {
             Call::BookCheck | Call::BookRank | Call::BookEntries => of_book(case),
             Call::BookOrder | Call::BookWord => from_book(case),
             Call::BookAdd | Call::BookRemove | Call::BookFind => of_book_and_word(case),
+            Call::BookFindPrefix | Call::BookPrefixEntries => of_book_and_query(case),
             Call::Read | Call::Record | Call::Part | Call::Syllables | Call::TypedPlace => {
                 of_word(case)
             }
@@ -152,7 +153,7 @@ fn of_book(case: &Case) -> Outcome {
     let answer = match case.call {
         Call::BookCheck => one(jogcairn::book::check(book.inside())),
         Call::BookRank => many(jogcairn::book::rank(book.inside(), case.numbers[0]).map(found)),
-        _ => many(entries(book.inside())),
+        _ => many(jogcairn::book::entries(book.inside()).map(listed)),
     };
     Outcome { answer, lent: vec![book.after()] }
 }
@@ -179,14 +180,29 @@ fn found(found: Found) -> Vec<u64> {
     vec![found.start as u64, u64::from(found.stock)]
 }
 
-/// Start, stock number and values of each live record.
-fn entries(book: &[u8]) -> Result<Vec<u64>, Refusal> {
+/// Start, stock number and values of each entry.
+fn listed(entries: Entries<'_>) -> Vec<u64> {
     let mut numbers = Vec::new();
-    for entry in jogcairn::book::entries(book)? {
+    for entry in entries {
         numbers.extend([entry.start() as u64, u64::from(entry.stock())]);
         numbers.extend(entry.values().map(u64::from));
     }
-    Ok(numbers)
+    numbers
+}
+
+/// A book, a query, and an output for the starts of what continues it.
+fn of_book_and_query(case: &Case) -> Outcome {
+    let book = Lent::input(&case.bytes);
+    let query = Lent::input(&case.word);
+    let mut starts = Lent::output(case.numbers[0]);
+    let (bytes, values) = (book.inside(), query.inside());
+    let answer = match case.call {
+        Call::BookFindPrefix => {
+            one(jogcairn::book::find_prefix_into(bytes, values, starts.inside_mut()))
+        }
+        _ => many(jogcairn::book::entries_with_prefix(bytes, values).map(listed)),
+    };
+    Outcome { answer, lent: vec![book.after(), query.after(), starts.after()] }
 }
 
 fn of_book_and_word(case: &Case) -> Outcome {

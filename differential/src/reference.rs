@@ -5,8 +5,8 @@ use crate::case::Case;
 use crate::lent::Lent;
 use crate::library::Library;
 use crate::outcome::{Answer, Outcome};
-use oracle::book;
-use oracle::word::hand_out;
+use oracle::book::{self, BOOK_LIMIT};
+use oracle::word::{hand_out, WORD_LIMIT};
 use oracle::{Refusal, Which};
 
 /// The other implementation.
@@ -23,6 +23,7 @@ impl Library for Reference {
             Call::BookCheck | Call::BookRank | Call::BookEntries => of_book(case),
             Call::BookOrder | Call::BookWord => from_book(case),
             Call::BookAdd | Call::BookRemove | Call::BookFind => of_book_and_word(case),
+            Call::BookFindPrefix | Call::BookPrefixEntries => of_book_and_query(case),
             Call::Read | Call::Record | Call::Part | Call::Syllables | Call::TypedPlace => {
                 of_word(case)
             }
@@ -180,9 +181,40 @@ fn entries(bytes: &[u8]) -> Result<Vec<u64>, Refusal> {
     for rank in 0..book::check(bytes)? {
         let entry = book::rank(bytes, rank)?;
         numbers.extend(found(entry));
-        let (count, letters) = (bytes[entry.start + 2], &bytes[entry.start + 7..]);
-        let letters = letters.iter().take(usize::from(count));
-        numbers.extend(letters.map(|&letter| 0x1000 + u64::from(letter)));
+        numbers.extend(values_at(bytes, entry.start));
+    }
+    Ok(numbers)
+}
+
+/// The values of the record that starts there.
+fn values_at(bytes: &[u8], start: usize) -> impl Iterator<Item = u64> + '_ {
+    let letters = bytes[start + 7..].iter().take(usize::from(bytes[start + 2]));
+    letters.map(|&letter| 0x1000 + u64::from(letter))
+}
+
+/// A book, a query, and an output for the starts of what continues it.
+fn of_book_and_query(case: &Case) -> Outcome {
+    let bytes = Lent::input(&case.bytes);
+    let query = Lent::input(&case.word);
+    let mut starts = Lent::output(case.numbers[0]);
+    let answer = accepted(match case.call {
+        Call::BookFindPrefix => {
+            book::find_prefix(bytes.inside(), query.inside(), starts.inside_mut()).map(one)
+        }
+        _ => entries_with_prefix(bytes.inside(), query.inside()),
+    });
+    Outcome { answer, lent: vec![bytes.after(), query.after(), starts.after()] }
+}
+
+/// Start, stock number and values of each live record that continues the query.
+fn entries_with_prefix(bytes: &[u8], query: &[u16]) -> Result<Vec<u64>, Refusal> {
+    let mut starts = [0; BOOK_LIMIT / 8];
+    let count = book::find_prefix(bytes, query, &mut starts)?;
+    let mut numbers = Vec::new();
+    for start in starts[..count].iter().map(|&start| usize::from(start)) {
+        let told = book::word_at(bytes, start, &mut [0; WORD_LIMIT])?.expect("a record");
+        numbers.extend([start as u64, u64::from(told.stock)]);
+        numbers.extend(values_at(bytes, start));
     }
     Ok(numbers)
 }

@@ -1,50 +1,16 @@
 //! The inputs come in all kinds: every state of a book, every room of an output.
 
+mod kinds;
+
 use differential::cases::Cases;
 use differential::{Answer, Call, Case, Library, Outcome, Reference};
 use jogcairn::{BOOK_LIMIT, WORD_LIMIT};
+use kinds::{demand, place_of, record, word, INPUTS};
 use std::collections::BTreeSet;
-
-/// Whether the case is of the kind.
-type Kind = fn(&Case, &Outcome) -> bool;
-
-const INPUTS: usize = 60_000;
-
-/// Shows that inputs of each kind are made.
-fn demand(kinds: &[(&str, Kind)]) {
-    let mut cases = Cases::new(1);
-    let mut missing: BTreeSet<&str> = kinds.iter().map(|(name, _)| *name).collect();
-    for _ in 0..INPUTS {
-        let case = cases.next_case();
-        let outcome = Reference.outcome(&case);
-        for (name, _) in kinds.iter().filter(|(_, kind)| kind(&case, &outcome)) {
-            missing.remove(name);
-        }
-        cases.take_note(&case, &outcome);
-    }
-    assert!(missing.is_empty(), "{missing:?}");
-}
-
-fn place_of(outcome: &Outcome, wanted: u8) -> Option<usize> {
-    match outcome.answer {
-        Answer::Refused { number, place, .. } if number == wanted => Some(place),
-        _ => None,
-    }
-}
 
 /// The bytes from the place on at which a buffer is no book.
 fn wrong_from<'c>(case: &'c Case, outcome: &Outcome) -> Option<&'c [u8]> {
     case.bytes.get(place_of(outcome, 11)?..)
-}
-
-/// Whether a whole record begins the bytes, and its count of values.
-fn record(bytes: &[u8]) -> Option<usize> {
-    match bytes {
-        [b'M', b'W' | b'-', count @ 1..=64, ..] if bytes.len() >= 7 + usize::from(*count) => {
-            Some(usize::from(*count))
-        }
-        _ => None,
-    }
 }
 
 #[test]
@@ -210,12 +176,6 @@ fn books_are_damaged_in_every_way() {
     ]);
 }
 
-/// The word of the record at the front.
-fn word(bytes: &[u8]) -> Vec<u16> {
-    let count = usize::from(bytes[2]);
-    bytes[7..][..count].iter().map(|&letter| 0x1000 + u16::from(letter)).collect()
-}
-
 #[test]
 fn words_come_in_every_length() {
     let mut cases = Cases::new(1);
@@ -229,34 +189,39 @@ fn words_come_in_every_length() {
 #[test]
 fn outputs_come_in_every_length_from_none_to_enough() {
     const LONGEST: usize = 6;
-    let mut cases = Cases::new(1);
-    let (mut seen, mut rooms_for_keys) = (BTreeSet::new(), BTreeSet::new());
-    for _ in 0..3 * INPUTS {
-        let case = cases.next_case();
-        if case.call == Call::Key {
-            rooms_for_keys.insert(case.numbers[0]);
-            continue;
-        }
-        if !case.call.number_names().contains(&"room") {
-            continue;
-        }
-        let rooms = if case.call == Call::Spell { [512; 2] } else { [512, case.numbers[1]] };
-        let enough = Case { numbers: rooms, ..case.clone() };
-        if let Answer::Accepted(needed) = Reference.outcome(&enough).answer {
-            seen.insert((case.call.name(), needed[0], case.numbers[0]));
-        }
-    }
+    let (rooms, rooms_for_keys) = rooms(3 * INPUTS);
     let of_values = [Call::Spell, Call::Write, Call::Normalise, Call::StoredForm, Call::Decode];
-    for call in of_values.into_iter().chain([Call::BookOrder, Call::BookWord]) {
+    let of_books = [Call::BookFindPrefix, Call::BookOrder, Call::BookWord];
+    for call in of_values.into_iter().chain(of_books) {
         // No record is without a value.
         for needed in usize::from(call == Call::BookWord)..=LONGEST {
             for room in 0..=needed + 1 {
-                assert!(
-                    seen.contains(&(call.name(), needed as u64, room)),
-                    "{call:?} {needed} {room}"
-                );
+                assert!(rooms.contains(&(call, needed as u64, room)), "{call:?} {needed} {room}");
             }
         }
     }
     assert!((0..=321).all(|room| rooms_for_keys.contains(&room)));
+}
+
+/// The room that is needed and the room that there is, by call; and the rooms for keys.
+fn rooms(inputs: usize) -> (BTreeSet<(Call, u64, usize)>, BTreeSet<usize>) {
+    let mut cases = Cases::new(1);
+    let (mut rooms, mut for_keys) = (BTreeSet::new(), BTreeSet::new());
+    for _ in 0..inputs {
+        let case = cases.next_case();
+        let room = case.numbers[0];
+        match case.call {
+            Call::Key => drop(for_keys.insert(room)),
+            Call::BookAdd | Call::BookRemove => cases.take_note(&case, &Reference.outcome(&case)),
+            call if call.number_names().contains(&"room") => {
+                let numbers = if call == Call::Spell { [512; 2] } else { [512, case.numbers[1]] };
+                let enough = Case { numbers, ..case };
+                if let Answer::Accepted(needed) = Reference.outcome(&enough).answer {
+                    rooms.insert((call, needed[0], room));
+                }
+            }
+            _ => {}
+        }
+    }
+    (rooms, for_keys)
 }

@@ -1,6 +1,7 @@
 //! Calls on books: on the one that goes on, and on copies of it that were damaged.
 
 use super::near;
+use super::queries::query;
 use super::shelf::{letters, Shelf};
 use super::words::{self, valid};
 use crate::call::Call;
@@ -10,7 +11,7 @@ use oracle::lists::shuffle_runs;
 use oracle::random::Random;
 
 /// The calls, each as often as it stands here.
-const CALLS: [Call; 19] = [
+const CALLS: [Call; 24] = [
     Call::BookAdd,
     Call::BookAdd,
     Call::BookAdd,
@@ -22,6 +23,10 @@ const CALLS: [Call; 19] = [
     Call::BookFind,
     Call::BookFind,
     Call::BookFind,
+    Call::BookFindPrefix,
+    Call::BookFindPrefix,
+    Call::BookFindPrefix,
+    Call::BookFindPrefix,
     Call::BookRank,
     Call::BookRank,
     Call::BookRank,
@@ -30,6 +35,7 @@ const CALLS: [Call; 19] = [
     Call::BookWord,
     Call::BookCheck,
     Call::BookEntries,
+    Call::BookPrefixEntries,
 ];
 
 /// Above so many records a book is ranked only now and then, since that takes long.
@@ -39,9 +45,7 @@ const MANY_RECORDS: usize = 60;
 pub fn case(random: &mut Random, shelf: &mut Shelf) -> Case {
     shelf.turn(random);
     let call = match random.pick(&CALLS) {
-        Call::BookRank if shelf.starts.len() > MANY_RECORDS && random.chance(90) => Call::BookFind,
-        Call::BookOrder if shelf.starts.len() > MANY_RECORDS && random.chance(90) => Call::BookWord,
-        Call::BookEntries if shelf.starts.len() > MANY_RECORDS => Call::BookCheck,
+        call if shelf.starts.len() > MANY_RECORDS => without_sorting(random, call),
         call => call,
     };
     let mut case = Case::of_bytes(call, shelf.bytes.clone());
@@ -50,11 +54,14 @@ pub fn case(random: &mut Random, shelf: &mut Shelf) -> Case {
             damage(random, shelf, &mut case.bytes);
         }
     }
-    if call.takes_word() {
-        case.word = word(random, shelf, call);
-    }
+    case.word = match call {
+        Call::BookFindPrefix | Call::BookPrefixEntries => query(random, shelf),
+        call if call.takes_word() => word(random, shelf, call),
+        _ => Vec::new(),
+    };
     case.numbers = match call {
         Call::BookAdd => [stock(random), 0],
+        Call::BookFindPrefix => [near(random, fitting(&case)), 0],
         Call::BookRank => [rank(random, shelf), 0],
         Call::BookOrder => [near(random, oracle::book::check(&case.bytes).unwrap_or(0)), 0],
         Call::BookWord => {
@@ -65,6 +72,22 @@ pub fn case(random: &mut Random, shelf: &mut Shelf) -> Case {
         _ => [0; 2],
     };
     case
+}
+
+/// The call, or mostly another one where it sorts all records.
+fn without_sorting(random: &mut Random, call: Call) -> Call {
+    match call {
+        Call::BookRank | Call::BookFindPrefix if random.chance(90) => Call::BookFind,
+        Call::BookOrder if random.chance(90) => Call::BookWord,
+        Call::BookEntries | Call::BookPrefixEntries => Call::BookCheck,
+        call => call,
+    }
+}
+
+/// How many live records of a book continue the query; none where there is no book or no query.
+fn fitting(case: &Case) -> usize {
+    let mut starts = [0; BOOK_LIMIT / 8];
+    oracle::book::find_prefix(&case.bytes, &case.word, &mut starts).unwrap_or(0)
 }
 
 /// Where a record starts, or where none does: within one, at the end of the records, or beyond.
@@ -95,7 +118,8 @@ fn word(random: &mut Random, shelf: &Shelf, call: Call) -> Vec<u16> {
             word
         }
         18 => vec![random.pick(&[0x1000, 0x1015, 0x1021, 0x1025, 0x1040, 0x104F])],
-        _ => valid(random),
+        19 => words::beginning(random),
+        _ => shelf.another(random),
     }
 }
 

@@ -2,6 +2,7 @@
 
 mod books;
 mod lines;
+mod queries;
 mod records;
 mod shelf;
 mod words;
@@ -55,7 +56,7 @@ impl Cases {
 
     /// The next input.
     pub fn next_case(&mut self) -> Case {
-        if self.random.chance(30) {
+        if self.random.chance(38) {
             return books::case(&mut self.random, &mut self.shelf);
         }
         let call = self.random.pick(&WORD_CALLS);
@@ -113,11 +114,11 @@ impl Cases {
 
 /// A room from none to more than enough.
 fn near(random: &mut Random, needed: usize) -> usize {
-    match random.below(8) {
-        0..3 => needed,
-        3 => needed.saturating_sub(1),
-        4 => needed + random.pick(&[1, 1, 2, 5]),
-        5 => 0,
+    match random.below(12) {
+        0..4 => needed,
+        4 => needed.saturating_sub(1),
+        5 => needed + random.pick(&[1, 1, 2, 5]),
+        6 => 0,
         _ => random.below(needed + 1),
     }
 }

@@ -1,5 +1,6 @@
 //! The book that the calls go on with, until a new one is begun.
 
+use super::queries::continuing;
 use super::words::valid;
 use crate::case::Case;
 use crate::lent::{Memory, MARGIN};
@@ -20,6 +21,8 @@ pub struct Shelf {
     pub end: usize,
     /// Stored words of records, live or not.
     pub words: Vec<Vec<u16>>,
+    /// How many of a hundred words begin as another does.
+    alike: usize,
     calls_left: usize,
     number: usize,
 }
@@ -35,6 +38,7 @@ impl Shelf {
             starts: Vec::new(),
             end: 0,
             words: Vec::new(),
+            alike: 0,
             calls_left: 0,
             number: 0,
         }
@@ -59,7 +63,8 @@ impl Shelf {
             80..99 => random.between(300, 1_500),
             _ => random.between(1_500, 6_000),
         };
-        let mut shelf = Shelf { bytes: vec![0; size], number, ..Shelf::new() };
+        let alike = random.pick(&[10, 60, 95]);
+        let mut shelf = Shelf { bytes: vec![0; size], alike, number, ..Shelf::new() };
         shelf.calls_left = if size < 1_500 { random.between(10, 60) } else { 16 };
         let filled = match random.below(4) {
             _ if size > 1_500 => size - random.below(30),
@@ -75,7 +80,7 @@ impl Shelf {
     fn fill(&mut self, random: &mut Random, to: usize) {
         let mut live = BTreeSet::new();
         loop {
-            let Ok(stored) = store(&valid(random)) else { continue };
+            let Ok(stored) = store(&self.another(random)) else { continue };
             let word = stored.word.to_vec();
             if self.end + 7 + word.len() > to {
                 return;
@@ -91,6 +96,15 @@ impl Shelf {
             self.starts.push(self.end);
             self.end += record.len();
             self.words.push(word);
+        }
+    }
+
+    /// A word to be added: it may begin as another does.
+    pub fn another(&self, random: &mut Random) -> Vec<u16> {
+        if random.chance(self.alike) {
+            continuing(random, self)
+        } else {
+            valid(random)
         }
     }
 

@@ -126,7 +126,7 @@ fn any_admitted(random: &mut Random) -> u16 {
 }
 
 /// The first values of a word, often cut just behind a stacker.
-fn beginning(random: &mut Random) -> Vec<u16> {
+pub fn beginning(random: &mut Random) -> Vec<u16> {
     let mut word = valid(random);
     let behind_stacker = word.iter().rposition(|&value| value == 0x1039).map(|place| place + 1);
     let length = match behind_stacker {
@@ -203,7 +203,8 @@ fn any_values(random: &mut Random) -> Vec<u16> {
     (0..random.below(20)).map(|_| random.below(0x1_0000) as u16).collect()
 }
 
-fn overlong(random: &mut Random) -> Vec<u16> {
+/// More values than a word has.
+pub fn overlong(random: &mut Random) -> Vec<u16> {
     let length = random.pick(&[65, 66, 127, 128, 256, 320, 1_000]);
     (0..length).map(|_| any_admitted(random)).collect()
 }

@@ -1,0 +1,49 @@
+//! Kinds of inputs, and what a record of a book has.
+
+use differential::cases::Cases;
+use differential::{Answer, Case, Library, Outcome, Reference};
+use std::collections::BTreeSet;
+
+/// Whether the case is of the kind.
+pub type Kind = fn(&Case, &Outcome) -> bool;
+
+/// How many inputs are looked at.
+pub const INPUTS: usize = 60_000;
+
+/// Shows that inputs of each kind are made.
+pub fn demand(kinds: &[(&str, Kind)]) {
+    let mut cases = Cases::new(1);
+    let mut missing: BTreeSet<&str> = kinds.iter().map(|(name, _)| *name).collect();
+    for _ in 0..INPUTS {
+        let case = cases.next_case();
+        let outcome = Reference.outcome(&case);
+        for (name, _) in kinds.iter().filter(|(_, kind)| kind(&case, &outcome)) {
+            missing.remove(name);
+        }
+        cases.take_note(&case, &outcome);
+    }
+    assert!(missing.is_empty(), "{missing:?}");
+}
+
+pub fn place_of(outcome: &Outcome, wanted: u8) -> Option<usize> {
+    match outcome.answer {
+        Answer::Refused { number, place, .. } if number == wanted => Some(place),
+        _ => None,
+    }
+}
+
+/// Whether a whole record begins the bytes, and its count of values.
+pub fn record(bytes: &[u8]) -> Option<usize> {
+    match bytes {
+        [b'M', b'W' | b'-', count @ 1..=64, ..] if bytes.len() >= 7 + usize::from(*count) => {
+            Some(usize::from(*count))
+        }
+        _ => None,
+    }
+}
+
+/// The word of the record at the front.
+pub fn word(bytes: &[u8]) -> Vec<u16> {
+    let count = usize::from(bytes[2]);
+    bytes[7..][..count].iter().map(|&letter| 0x1000 + u16::from(letter)).collect()
+}
