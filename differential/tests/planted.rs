@@ -1,31 +1,10 @@
 //! Faults that are planted on purpose must be found, and made as small as they can be.
 
+mod faults;
+
 use differential::cases::Cases;
-use differential::{
-    run, Answer, Call, Case, Counts, Finding, Library, Memory, Outcome, Proved, Reference, Report,
-    MARGIN,
-};
-
-/// The proved library with a fault put into its outcomes.
-struct Faulty {
-    fault: fn(&Case, &mut Outcome),
-}
-
-impl Library for Faulty {
-    fn outcome(&self, case: &Case) -> Outcome {
-        let mut outcome = Proved.outcome(case);
-        (self.fault)(case, &mut outcome);
-        outcome
-    }
-}
-
-/// As many inputs as a run has by default; a fault is found long before.
-const INPUTS: usize = 1_000_000;
-
-fn finding(fault: fn(&Case, &mut Outcome)) -> Finding {
-    let (_, finding) = run(&Faulty { fault }, &Reference, 1, INPUTS);
-    finding.expect("the fault is found")
-}
+use differential::{run, Answer, Call, Case, Counts, Memory, Outcome, Reference, Report, MARGIN};
+use faults::finding;
 
 fn accepted(outcome: &Outcome) -> bool {
     matches!(outcome.answer, Answer::Accepted(_))

@@ -15,10 +15,15 @@ fn try_all(values: &[u16], length: usize, call: Call) {
 
 /// Tries each word of so many of the values, with these numbers.
 fn try_all_at(values: &[u16], length: usize, call: Call, numbers: [usize; 2]) {
+    try_all_in(values, length, &Case { numbers, ..Case::of_word(call, Vec::new()) });
+}
+
+/// Tries each word of so many of the values, in the case otherwise as given.
+fn try_all_in(values: &[u16], length: usize, case: &Case) {
     let mut places = vec![0; length];
     loop {
         let word = places.iter().map(|&place| values[place]).collect();
-        let case = Case { numbers, ..Case::of_word(call, word) };
+        let case = Case { word, ..case.clone() };
         assert!(difference(&Proved, &Reference, &case).is_none(), "{case}");
         // The next word: the places count like the digits of a number.
         let Some(digit) = places.iter().rposition(|&place| place + 1 < values.len()) else { break };
@@ -59,6 +64,66 @@ fn every_place_of_every_word_of_up_to_three_values() {
     for place in 0..=3 {
         for length in 0..=3 {
             try_all_at(&REPRESENTATIVES, length, Call::TypedPlace, [place, 0]);
+        }
+    }
+}
+
+/// Words that begin alike in one way or another; each third one is removed.
+const BOOKED: [&[u16]; 24] = [
+    &[0x1000],
+    &[0x1000, 0x1000],
+    &[0x1000, 0x1000, 0x1000],
+    &[0x1000, 0x1000, 0x103A],
+    &[0x1000, 0x1000, 0x103A, 0x1000],
+    &[0x1000, 0x1000, 0x1039, 0x1000],
+    &[0x1000, 0x1000, 0x1039, 0x1000, 0x102C],
+    &[0x1000, 0x1004, 0x103A],
+    &[0x1000, 0x1004, 0x103A, 0x1039, 0x1000],
+    &[0x1000, 0x1004, 0x103A, 0x1039, 0x101E],
+    &[0x1000, 0x101E, 0x103A],
+    &[0x1000, 0x101E, 0x1039, 0x101E],
+    &[0x1000, 0x103F],
+    &[0x1000, 0x103F, 0x103F],
+    &[0x1000, 0x102B],
+    &[0x1000, 0x102C],
+    &[0x1000, 0x102C, 0x1038, 0x1040],
+    &[0x1009, 0x103D, 0x104A],
+    &[0x101E, 0x102D, 0x102F],
+    &[0x1021, 0x102D],
+    &[0x1023],
+    &[0x1025, 0x104C],
+    &[0x1026],
+    &[0x1040, 0x1040],
+];
+
+fn booked() -> Vec<u8> {
+    let mut book = vec![0; BOOKED.iter().map(|word| 7 + word.len()).sum()];
+    for (word, stock) in BOOKED.into_iter().zip(0..) {
+        oracle::book::add(&mut book, word, stock).unwrap();
+    }
+    for word in BOOKED.iter().skip(2).step_by(3) {
+        oracle::book::remove(&mut book, word).unwrap();
+    }
+    book
+}
+
+#[test]
+fn every_query_of_up_to_two_values_and_of_three_representatives() {
+    let room = [BOOKED.len(), 0];
+    let case = Case { numbers: room, ..Case::of_bytes(Call::BookFindPrefix, booked()) };
+    for length in 0..=2 {
+        try_all_in(&values(), length, &case);
+    }
+    try_all_in(&REPRESENTATIVES, 3, &case);
+}
+
+#[test]
+fn every_room_for_what_a_word_of_the_book_finds() {
+    for word in BOOKED {
+        for room in 0..=BOOKED.len() {
+            let search = Case::of_bytes(Call::BookFindPrefix, booked());
+            let case = Case { word: word.to_vec(), numbers: [room, 0], ..search };
+            assert!(difference(&Proved, &Reference, &case).is_none(), "{case}");
         }
     }
 }
