@@ -28,6 +28,7 @@ uint64_t peer_book_check(const uint8_t *, size_t);
 uint64_t peer_book_find(const uint8_t *, size_t, const uint16_t *, size_t);
 uint64_t peer_book_rank(const uint8_t *, size_t, size_t);
 uint64_t peer_book_order(const uint8_t *, size_t, uint16_t *, size_t);
+uint64_t peer_book_find_prefix(const uint8_t *, size_t, const uint16_t *, size_t, uint16_t *, size_t);
 uint64_t peer_book_word(const uint8_t *, size_t, size_t, uint16_t *, size_t);
 }
 
@@ -309,35 +310,38 @@ static Word query_finding(const std::vector<uint8_t> &book, const std::vector<Wo
     return nearest;
 }
 
-// The search by first syllables in a full book, beside find, rank and order in the same one.
+// The search by first syllables in a full book, beside find, rank and order in the same one and beside the other implementation's search.
 static void time_prefix(const char *what, const std::vector<uint8_t> &book, const Word &name, const Word &query)
 {
     static uint16_t starts[JOGCAIRN_BOOK_LIMIT / 8];
     const uint8_t *bytes = book.data();
     size_t length = book.size(), room = sizeof starts / sizeof starts[0], turns = 20;
     size_t lives = jogcairn_first(jogcairn_book_check(bytes, length));
-    enum { FIND, RANK, ORDER, PREFIX };
+    enum { FIND, RANK, ORDER, PREFIX, PEER };
     std::vector<Case> cases = {
         timed("find", turns, [&](size_t) { return jogcairn_book_find(bytes, length, name.data(), name.size()); }),
         timed("rank", turns, [&](size_t i) { return jogcairn_book_rank(bytes, length, i % lives); }),
         timed("order", turns, [&](size_t) { return jogcairn_book_order(bytes, length, starts, room) + starts[0]; }),
         timed("prefix", turns,
               [&](size_t) { return jogcairn_book_find_prefix(bytes, length, query.data(), query.size(), starts, room) + starts[0]; }),
+        timed("other", 1, [&](size_t) { return peer_book_find_prefix(bytes, length, query.data(), query.size(), starts, room) + starts[0]; }),
     };
     run(cases);
+    need(peer_book_find_prefix(bytes, length, query.data(), query.size(), starts, room) == fitting(book, query), "the other search finds another number");
     std::printf("  %-22s %6zu %7zu", what, lives, fitting(book, query));
     for (const Case &each : cases)
         std::printf(" %8.1f", each.shortest / 1000);
-    std::printf(" %8.2f %8.2f %8.2f\n", cases[PREFIX].shortest / cases[FIND].shortest, cases[PREFIX].shortest / cases[RANK].shortest,
-                cases[PREFIX].shortest / cases[ORDER].shortest);
+    for (int beside : {FIND, RANK, ORDER, PEER})
+        std::printf(" %8.3f", cases[PREFIX].shortest / cases[beside].shortest);
+    std::printf("\n");
 }
 
 // Queries that find none, one and the most records of the full book; then books made for a tenth and for all.
 static void time_prefixes(const std::vector<Word> &names)
 {
-    std::printf("\n  the search by first syllables, in microseconds, beside other calls on the same full book of %d bytes\n", JOGCAIRN_BOOK_LIMIT);
+    std::printf("\n  the search by first syllables, in microseconds, beside other calls on the same full book of %d bytes and the other implementation\n", JOGCAIRN_BOOK_LIMIT);
     std::printf("  %-22s %6s %7s", "records that fit", "live", "fit");
-    for (const char *name : {"find", "rank", "order", "prefix", "/ find", "/ rank", "/ order"})
+    for (const char *name : {"find", "rank", "order", "prefix", "other", "/ find", "/ rank", "/ order", "/ other"})
         std::printf(" %8s", name);
     std::printf("\n");
     std::vector<uint8_t> book(JOGCAIRN_BOOK_LIMIT);

@@ -102,6 +102,21 @@ pub unsafe extern "C" fn peer_book_order(buffer: *const u8, bytes: usize, starts
 /// # Safety
 /// As for [`part`] and [`output`].
 #[no_mangle]
+pub unsafe extern "C" fn peer_book_find_prefix(
+    buffer: *const u8,
+    bytes: usize,
+    query: *const u16,
+    count: usize,
+    starts: *mut u16,
+    room: usize,
+) -> u64 {
+    let (buffer, query) = unsafe { (part(buffer, bytes), part(query, count)) };
+    book::find_prefix(buffer, query, unsafe { output(starts, room) }).map_or(REFUSED, |fitting| fitting as u64)
+}
+
+/// # Safety
+/// As for [`part`] and [`output`].
+#[no_mangle]
 pub unsafe extern "C" fn peer_book_word(buffer: *const u8, bytes: usize, start: usize, word: *mut u16, room: usize) -> u64 {
     book::word_at(unsafe { part(buffer, bytes) }, start, unsafe { output(word, room) })
         .map_or(REFUSED, |told| told.map_or(REFUSED, |told| u64::from(told.stock)))
