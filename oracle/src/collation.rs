@@ -59,7 +59,8 @@ pub fn key(word: &[u16]) -> Result<Key, Refusal> {
 }
 
 /// The weights of a syllable. A record has all but the weights of its head, and
-/// has them in another order.
+/// has them in another order. Document 02: "The weights are those of the head plus
+/// final and tone", so an I with a final keeps the vowel weight of its head.
 fn weights(record: &Record) -> Weights {
     let [head, medial, vowel, _, final_weight, _, tone] = *record;
     let value = 0x1000 + u16::from(head);

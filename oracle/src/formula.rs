@@ -1,5 +1,5 @@
-//! Document 01, "The syllable": the formula, as the list of all writings of all
-//! pieces, ready to be found by first value.
+//! Document 01, "The syllable", with document 02's finals of independent letters: the
+//! formula, as the list of all writings of all pieces, ready to be found by first value.
 
 use crate::letters::*;
 use crate::syllable::*;
@@ -32,27 +32,33 @@ impl Listing {
         self.count += 1;
     }
 
-    /// "The head is a C." After a stacked final or kinzi it is "a head of 1000 to
-    /// 1020, written as a letter"; after great sa it is "the head 101E of its
-    /// own". "Each I, N, P or S is a syllable alone and carries nothing."
+    /// After a stacked final or kinzi stands "a head of 1000 to 1020, written as a
+    /// letter"; document 02: "An I or 104E after 1039 is still refused". After great sa
+    /// it is "the head 101E of its own".
     const fn put_heads(&mut self) {
-        const fn record(value: u16) -> Record {
-            [(value - 0x1000) as u8, 0, 0, 0, 0, 0, 0]
-        }
         let mut value = 0x1000;
         while value <= 0x104F {
-            if matches!(class_of(value), Some(Class::Consonant)) {
-                self.put(Piece::Head, &[value], record(value), Piece::MedialGroup);
+            if is_head(value) {
+                self.put_head(Piece::Head, value, value);
             }
             if value <= LAST_FINAL_LETTER {
-                self.put(Piece::StackedHead, &[value], record(value), Piece::MedialGroup);
-            }
-            if stands_alone(value) {
-                self.put(Piece::Head, &[value], record(value), Piece::Head);
+                self.put_head(Piece::StackedHead, value, value);
             }
             value += 1;
         }
-        self.put(Piece::GreatSaHead, &[GREAT_SA], record(SA), Piece::MedialGroup);
+        self.put_head(Piece::GreatSaHead, GREAT_SA, SA);
+    }
+
+    /// Puts a head that is written as `value`, and then what it may carry.
+    const fn put_head(&mut self, piece: Piece, value: u16, head: u16) {
+        let then = if carries_marks(head) {
+            Piece::MedialGroup
+        } else if carries_final(head) {
+            Piece::Final
+        } else {
+            Piece::Head
+        };
+        self.put(piece, &[value], [(head - 0x1000) as u8, 0, 0, 0, 0, 0, 0], then);
     }
 
     const fn put_medial_groups(&mut self) {
@@ -192,6 +198,16 @@ mod tests {
         assert_eq!(count(Piece::Vowel), 1 + 12 + 3);
         assert_eq!(count(Piece::Final), 1 + 33 + 32 + 1 + 1);
         assert_eq!(count(Piece::Tone), 1 + 2);
+    }
+
+    #[test]
+    fn heads_go_on_as_the_documents_say() {
+        let count = |then| writings(Piece::Head).filter(|head| head.then == then).count();
+        assert_eq!(count(Piece::MedialGroup), 34);
+        assert_eq!(count(Piece::Final), 7 + 1);
+        assert_eq!(count(Piece::Head), 10 + 2 + 3);
+        let asked = writings(Piece::StackedHead).chain(writings(Piece::GreatSaHead));
+        assert!(asked.into_iter().all(|head| head.then == Piece::MedialGroup));
     }
 
     #[test]

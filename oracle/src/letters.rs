@@ -51,6 +51,8 @@ pub const LAST_FINAL_LETTER: u16 = 0x1020;
 pub const LETTER_U: u16 = 0x1025;
 /// Independent vowel UU.
 pub const LETTER_UU: u16 = 0x1026;
+/// The sign that carries a final and a tone (Unicode: aforementioned).
+pub const AFOREMENTIONED: u16 = 0x104E;
 
 /// The kinds into which document 01 sorts the admitted values.
 #[derive(Clone, Copy, Debug, PartialEq, Eq)]
@@ -99,12 +101,27 @@ pub const fn class_of(value: u16) -> Option<Class> {
     })
 }
 
-/// "Each I, N, P or S is a syllable alone and carries nothing."
-pub const fn stands_alone(value: u16) -> bool {
+/// Whether a syllable can begin with the value: a C, or "each I, N, P or S".
+pub const fn is_head(value: u16) -> bool {
     matches!(
         class_of(value),
-        Some(Class::IndependentVowel | Class::Digit | Class::Stop | Class::Sign)
+        Some(Class::Consonant | Class::IndependentVowel | Class::Digit | Class::Stop | Class::Sign)
     )
+}
+
+/// Whether a head may have medials and a vowel mark. Of a full syllable, "the head is
+/// a C"; every other head takes "no medial and no vowel mark".
+pub const fn carries_marks(head: u16) -> bool {
+    matches!(class_of(head), Some(Class::Consonant))
+}
+
+/// Whether a head may have a final and a tone. Document 02: "Each I, and 104E alone
+/// among the signs, may now take a final and a tone as a full syllable does". Of the
+/// others document 01 says: "a syllable alone and carries nothing".
+pub const fn carries_final(head: u16) -> bool {
+    carries_marks(head)
+        || matches!(class_of(head), Some(Class::IndependentVowel))
+        || head == AFOREMENTIONED
 }
 
 /// All admitted values, in rising order.
@@ -140,5 +157,20 @@ mod tests {
         assert_eq!(size(Class::Digit), 10);
         assert_eq!(size(Class::Stop), 2);
         assert_eq!(size(Class::Sign), 4);
+    }
+
+    #[test]
+    fn beside_the_consonants_eight_heads_carry_a_final() {
+        let heads = |carries: fn(u16) -> bool| {
+            let heads = admitted_values().filter(|&value| is_head(value));
+            heads.filter(move |&head| carries(head)).collect::<Vec<u16>>()
+        };
+        assert_eq!(heads(|_| true).len(), 57);
+        assert!(heads(carries_marks).into_iter().eq(0x1000..=0x1021));
+        let independent = [0x1023, 0x1024, 0x1025, 0x1026, 0x1027, 0x1029, 0x102A];
+        let others = heads(|head| carries_final(head) && !carries_marks(head));
+        assert_eq!(others, [&independent[..], &[0x104E]].concat());
+        assert!(heads(carries_marks).into_iter().all(carries_final));
+        assert!((0..=u16::MAX).filter(|&value| !is_head(value)).all(|value| !carries_final(value)));
     }
 }

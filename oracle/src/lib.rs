@@ -1,5 +1,6 @@
 //! A reference implementation of document 01, "Myanmar words, their syllables
-//! and a word book", made to be compared with.
+//! and a word book", and of what document 02 asks beyond it, made to be compared
+//! with.
 //!
 //! Its method is the formula itself. [`formula`] lists every possible writing of
 //! every piece of a syllable; [`rows`] counts the ways in which a list of

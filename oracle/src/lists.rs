@@ -1,5 +1,6 @@
 //! Word lists for comparing implementations, and what `wordlist` prints for them.
 
+mod carried;
 mod changes;
 mod lines;
 mod picked_rows;
@@ -54,6 +55,7 @@ pub fn all() -> Vec<List> {
         List { name: "program_example", input: PROGRAM_EXAMPLE.as_bytes().to_vec() },
         List { name: "examples", input: join(lines::examples()) },
         List { name: "products", input: join(products::words().map(|word| encode(&word))) },
+        List { name: "carried", input: join(carried::words().map(|word| encode(&word))) },
         List::of_words("valid", 6_000, changes::valid),
         List::of_words("long", 500, changes::long),
         List::of_words("shuffled", 5_000, changes::shuffled),
@@ -61,9 +63,9 @@ pub fn all() -> Vec<List> {
         List::of_words("beginnings", 1_500, changes::beginning),
         List::of_words("damaged", 7_000, changes::damaged),
         List::of_words("loose_pieces", 3_000, changes::loose_pieces),
-        List::of_words("noise", 3_000, changes::noise),
-        List::of_words("foreign", 2_000, changes::foreign),
-        List::of_lines("bytes", 3_000, lines::faulty),
+        List::of_words("noise", 2_500, changes::noise),
+        List::of_words("foreign", 1_750, changes::foreign),
+        List::of_lines("bytes", 2_700, lines::faulty),
         List::of_lines("limits", 900, lines::near_the_limit),
         List {
             name: "no_final_newline", input: "မြန်မာ\nစာ\nအင်္ဂလန်".as_bytes().to_vec()

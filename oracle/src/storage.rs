@@ -165,7 +165,7 @@ mod tests {
         let mut output = [0; 4];
         assert_eq!(stored_form(&[0x1000, 0x102C, 0x1031, 0x103B], &mut output), Ok(4));
         assert_eq!(output, [0x1000, 0x103B, 0x1031, 0x102C]);
-        let short = stored_form(&[0x1025, 0x102E, 0x1038], &mut output[..1]);
+        let short = stored_form(&[0x1025, 0x102E, 0x103A], &mut output[..1]);
         assert_eq!(short, Err(Refusal::output_too_short(2)));
         assert_eq!(stored_form(&[0x1039, 0x1022], &mut []), Err(Refusal::foreign(1)));
         assert_eq!(stored_form(&[0; 65], &mut []), Err(Refusal::TOO_LONG));

@@ -55,6 +55,25 @@ fn words_are_normalised_first() {
     assert_eq!(add(&mut book, &[0x1025, 0x102E], 9), Ok(0));
     assert_eq!(book, [0x4D, 0x57, 1, 9, 0, 0, 0, 0x26]);
     assert_eq!(add(&mut book, &[0x1026], 9), refusal(12, 0));
+    let mut book = [0; 9];
+    assert_eq!(add(&mut book, &[0x1025, 0x1038, 0x102E], 9), Ok(0));
+    assert_eq!(book, [0x4D, 0x57, 2, 9, 0, 0, 0, 0x26, 0x38]);
+}
+
+/// Document 02: independent letters with a final or a tone are words of a book.
+#[test]
+fn independent_letters_with_finals_are_added_and_found() {
+    let mut book = [0; 11 + 11];
+    assert_eq!(add(&mut book, &[0x104E, 0x1004, 0x103A, 0x1038], 1), Ok(0));
+    assert_eq!(book[..11], [0x4D, 0x57, 4, 1, 0, 0, 0, 0x4E, 0x04, 0x3A, 0x38]);
+    assert_eq!(add(&mut book, &[0x1025, 0x1000, 0x1039, 0x1000], 2), Ok(11));
+    assert_eq!(book[11..], [0x4D, 0x57, 4, 2, 0, 0, 0, 0x25, 0x00, 0x39, 0x00]);
+    assert_eq!(find(&book, &[0x104E, 0x1004, 0x1038, 0x103A]), entry(0, 1));
+    // (46,0,1,4,0) (13,0,0,0,0) stands before (49,0,5,0,2).
+    assert_eq!(rank(&book, 0), entry(11, 2));
+    assert_eq!(rank(&book, 1), entry(0, 1));
+    assert_eq!(remove(&mut book, &[0x1025, 0x1000, 0x1039, 0x1000]), Ok(11));
+    assert_eq!(check(&book), Ok(1));
 }
 
 /// "first free byte plus 7 plus n passes the buffer's end": an exact fit does not.
@@ -95,7 +114,7 @@ fn a_removed_word_is_added_anew_at_the_end() {
 #[test]
 fn a_refused_word_comes_before_a_wrong_book() {
     let long = [0x1000; 65];
-    let cases: [(&[u16], u8, usize); 8] = [
+    let cases: [(&[u16], u8, usize); 10] = [
         (&long, 1, 64),
         (&[], 8, 0),
         (&[0x1000, 0x1022], 2, 1),
@@ -105,6 +124,8 @@ fn a_refused_word_comes_before_a_wrong_book() {
         (&[0x1000, 0x1000, 0x1039], 4, 3),
         // Sorted it is 1000 103B 103C, of which the first two values can go on.
         (&[0x1000, 0x103C, 0x103B], 3, 2),
+        (&[0x1023, 0x1000, 0x1039], 4, 3),
+        (&[0x104C, 0x1000, 0x103A], 3, 2),
     ];
     for (word, number, place) in cases {
         for mut book in [vec![], vec![0; 20], vec![1; 20], vec![0; 16_385]] {
@@ -133,7 +154,7 @@ fn an_overlong_buffer_is_no_book() {
 /// "start of the first wrong record or first stray byte"
 #[test]
 fn wrong_records_are_placed_at_their_start() {
-    let wrong: [&[u8]; 13] = [
+    let wrong: [&[u8]; 16] = [
         &[0x4D],
         &[0x4D, 0x57],
         &[0x4D, 0x57, 1, 0, 0, 0, 0],
@@ -148,6 +169,9 @@ fn wrong_records_are_placed_at_their_start() {
         &[0x4D, 0x57, 4, 0, 0, 0, 0, 0x00, 0x14, 0x37, 0x3A],
         &[0x4D, 0x57, 2, 0, 0, 0, 0, 0x25, 0x2E],
         &[0x4D, 0x57, 3, 0, 0, 0, 0, 0x00, 0x00, 0x39],
+        &[0x4D, 0x57, 3, 0, 0, 0, 0, 0x25, 0x00, 0x39],
+        &[0x4D, 0x57, 2, 0, 0, 0, 0, 0x25, 0x2D],
+        &[0x4D, 0x2D, 2, 0, 0, 0, 0, 0x4C, 0x38],
     ];
     for record in wrong {
         assert_eq!(check(record), refusal(11, 0), "{record:02X?}");

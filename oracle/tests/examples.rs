@@ -1,7 +1,8 @@
-//! All examples of document 01, in its order.
+//! All examples of document 01, in its order, and those of document 02 on independent
+//! letters that carry finals.
 
 use oracle::spelling::SpelledLengths;
-use oracle::{compare, key, normalise, part, read, record, spell_out, write, Refusal};
+use oracle::{compare, key, normalise, part, read, record, spell_out, stored_form, write, Refusal};
 use std::cmp::Ordering;
 
 fn weights(word: &[u16]) -> Vec<[u8; 5]> {
@@ -169,6 +170,7 @@ fn every_weight_of_the_page() {
     let independent = [0x1023, 0x1024, 0x1025, 0x1026, 0x1027, 0x1029, 0x102A];
     for (value, weight) in independent.into_iter().zip([2, 3, 4, 5, 6, 8, 9]) {
         assert_eq!(first(&[value]), [46, 0, 0, weight, 0]);
+        assert_eq!(first(&[value, 0x1020, 0x103A, 0x1037]), [46, 0, 33, weight, 1]);
     }
     let (y, r, w, h) = (0x103B, 0x103C, 0x103D, 0x103E);
     let groups: [&[u16]; 11] = [
@@ -216,4 +218,125 @@ fn every_weight_of_the_page() {
     }
     assert_eq!(first(&[0x1000, 0x1037]), [13, 0, 0, 0, 1]);
     assert_eq!(first(&[0x1000, 0x1038]), [13, 0, 0, 0, 2]);
+}
+
+/// A word of document 02, with what it is read to: records, weights and spelled syllables.
+struct Worked {
+    word: &'static [u16],
+    records: &'static [[u8; 7]],
+    weights: &'static [[u8; 5]],
+    spelled: &'static [&'static [u16]],
+}
+
+const WORKED: [Worked; 8] = [
+    // ဥက္က
+    Worked {
+        word: &[0x1025, 0x1000, 0x1039, 0x1000],
+        records: &[[0x25, 0, 0, 0, 1, 2, 0], [0; 7]],
+        weights: &[[46, 0, 1, 4, 0], [13, 0, 0, 0, 0]],
+        spelled: &[&[0x1025, 0x1000, 0x103A], &[0x1000]],
+    },
+    // ၎င်း
+    Worked {
+        word: &[0x104E, 0x1004, 0x103A, 0x1038],
+        records: &[[0x4E, 0, 0, 0, 5, 1, 2]],
+        weights: &[[49, 0, 5, 0, 2]],
+        spelled: &[&[0x104E, 0x1004, 0x103A, 0x1038]],
+    },
+    Worked {
+        word: &[0x1029, 0x1038],
+        records: &[[0x29, 0, 0, 0, 0, 0, 2]],
+        weights: &[[46, 0, 0, 8, 2]],
+        spelled: &[&[0x1029, 0x1038]],
+    },
+    Worked {
+        word: &[0x1023, 0x1004, 0x103A, 0x1039, 0x1002],
+        records: &[[0x23, 0, 0, 0, 5, 2, 0], [2, 0, 0, 0, 0, 0, 0]],
+        weights: &[[46, 0, 5, 2, 0], [15, 0, 0, 0, 0]],
+        spelled: &[&[0x1023, 0x1004, 0x103A], &[0x1002]],
+    },
+    Worked {
+        word: &[0x1023, 0x103F],
+        records: &[[0x23, 0, 0, 0, 31, 3, 0], [0x1E, 0, 0, 0, 0, 0, 0]],
+        weights: &[[46, 0, 31, 2, 0], [43, 0, 0, 0, 0]],
+        spelled: &[&[0x1023, 0x101E, 0x103A], &[0x101E]],
+    },
+    Worked {
+        word: &[0x104E, 0x103F, 0x103F],
+        records: &[[0x4E, 0, 0, 0, 31, 3, 0], [0x1E, 0, 0, 0, 31, 3, 0], [0x1E, 0, 0, 0, 0, 0, 0]],
+        weights: &[[49, 0, 31, 0, 0], [43, 0, 31, 0, 0], [43, 0, 0, 0, 0]],
+        spelled: &[&[0x104E, 0x101E, 0x103A], &[0x101E, 0x101E, 0x103A], &[0x101E]],
+    },
+    Worked {
+        word: &[0x1025, 0x1009, 0x103A],
+        records: &[[0x25, 0, 0, 0, 10, 1, 0]],
+        weights: &[[46, 0, 10, 4, 0]],
+        spelled: &[&[0x1025, 0x1009, 0x103A]],
+    },
+    Worked {
+        word: &[0x1026, 0x1038],
+        records: &[[0x26, 0, 0, 0, 0, 0, 2]],
+        weights: &[[46, 0, 0, 5, 2]],
+        spelled: &[&[0x1026, 0x1038]],
+    },
+];
+
+#[test]
+fn independent_letters_carry_finals_and_tones() {
+    for worked in WORKED {
+        let word = worked.word;
+        let reading = read(word).unwrap();
+        let records: Vec<_> = reading.syllables().iter().map(|one| one.record).collect();
+        assert_eq!(records, worked.records, "{word:04X?}");
+        assert_eq!(weights(word), worked.weights, "{word:04X?}");
+        assert_eq!(spelled(word), worked.spelled, "{word:04X?}");
+        assert_eq!(written_back(word), word);
+        assert_eq!(stored(word), word);
+    }
+}
+
+#[test]
+fn independent_letters_have_their_parts() {
+    let word = [0x1025, 0x1000, 0x1039, 0x1000, 0x1023, 0x103F, 0x104E, 0x1038];
+    let parts: [&[u16]; 5] =
+        [&[0x1025, 0x1000, 0x1039], &[0x1000], &[0x1023], &[0x103F], &[0x104E, 0x1038]];
+    for (number, expected) in parts.iter().enumerate() {
+        assert_eq!(part(&word, number), *expected);
+    }
+}
+
+#[test]
+fn independent_letters_are_refused_with_what_they_do_not_carry() {
+    assert_eq!(refused(&[0x1023, 0x1038, 0x103F]), (3, 2));
+    assert_eq!(refused(&[0x1025, 0x1038, 0x103F]), (3, 2));
+    assert_eq!(refused(&[0x1023, 0x103B]), (3, 1));
+    assert_eq!(refused(&[0x1023, 0x102C]), (3, 1));
+    assert_eq!(refused(&[0x104E, 0x102C]), (3, 1));
+    // 1000 begins a syllable of its own, which 103A cannot close.
+    assert_eq!(refused(&[0x104C, 0x1000, 0x103A]), (3, 2));
+    assert_eq!(refused(&[0x1023, 0x1004, 0x1039, 0x1000]), (3, 2));
+    assert_eq!(refused(&[0x1023, 0x1000, 0x1039]), (4, 3));
+    assert_eq!(refused(&[0x1023, 0x1004, 0x103A, 0x1039]), (4, 4));
+    // "An I or 104E after 1039 is still refused".
+    assert_eq!(refused(&[0x1000, 0x1000, 0x1039, 0x1025]), (3, 3));
+    assert_eq!(refused(&[0x1000, 0x1000, 0x1039, 0x104E]), (3, 3));
+}
+
+#[test]
+fn the_letter_u_is_stored_by_its_neighbour() {
+    assert_eq!(stored(&[0x1025, 0x1025, 0x103A]), [0x1025, 0x1009, 0x103A]);
+    assert_eq!(stored(&[0x1025, 0x1038, 0x102E]), [0x1026, 0x1038]);
+    assert_eq!(stored(&[0x1023, 0x1025, 0x1039, 0x1005]), [0x1023, 0x1009, 0x1039, 0x1005]);
+    let mut outcome = [0; 2];
+    assert_eq!(stored_form(&[0x1025, 0x103A], &mut outcome), Ok(2));
+    assert_eq!(outcome, [0x1009, 0x103A]);
+    assert_eq!(key(&[0x1025, 0x103A]), Err(Refusal { number: 3, place: 1 }));
+}
+
+#[test]
+fn the_program_prints_the_key_of_an_independent_letter_with_its_final() {
+    let mut output = Vec::new();
+    oracle::wordlist::run("ဥက္က\n၎င်း\n".as_bytes(), &mut output).unwrap();
+    let expected = "1 OK 2 2E00010400-0D00000000\n2 OK 1 3100050002\n";
+    assert_eq!(String::from_utf8(output).unwrap(), expected);
 }

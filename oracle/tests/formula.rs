@@ -28,6 +28,9 @@ struct Alphabet {
     medials: &'static [u16],
     vowels: &'static [(&'static [u16], u8, u8)],
     tones: &'static [u16],
+    /// Heads that take a final and a tone, but no medial and no vowel mark.
+    markless: &'static [u16],
+    /// Heads that carry nothing.
     alone: &'static [u16],
 }
 
@@ -48,12 +51,13 @@ const SMALL: Alphabet = Alphabet {
         (&[0x102F, 0x1036], 12, 0),
     ],
     tones: &[0x1037],
-    alone: &[0x1025],
+    markless: &[0x1025, 0x104E],
+    alone: &[0x104C],
 };
 
-const SMALL_VALUES: [u16; 16] = [
+const SMALL_VALUES: [u16; 18] = [
     0x1000, 0x1004, 0x1021, 0x1025, 0x103B, 0x103C, 0x103D, 0x102C, 0x102D, 0x102F, 0x1031, 0x1036,
-    0x1037, 0x1039, 0x103A, 0x103F,
+    0x1037, 0x1039, 0x103A, 0x103F, 0x104C, 0x104E,
 ];
 
 /// All sets of the given medials without Y and R together, each with its weight.
@@ -99,37 +103,43 @@ fn endings(alphabet: &Alphabet) -> Vec<(Vec<u16>, [u8; 3], Next)> {
     endings
 }
 
-/// All syllables over the alphabet, as the parts that they have in a word.
-fn parts(alphabet: &Alphabet) -> Vec<Part> {
+/// All syllables that the head begins, as the parts that they have in a word.
+fn parts_begun_by(head: (u16, u8, Next), alphabet: &Alphabet) -> Vec<Part> {
+    let (head, head_byte, begun_by) = head;
     let mut parts = Vec::new();
-    for &value in alphabet.alone {
-        let record = [(value - 0x1000) as u8, 0, 0, 0, 0, 0, 0];
-        parts.push(Part {
-            values: vec![value],
-            record,
-            begun_by: Next::Anything,
-            next: Next::Anything,
-        });
-    }
-    let mut heads = vec![(0x103F, 0x1E, Next::GreatSa)];
-    for &head in alphabet.heads {
-        heads.push((head, (head - 0x1000) as u8, Next::Anything));
-        if head <= 0x1020 {
-            heads.push((head, (head - 0x1000) as u8, Next::Letter));
-        }
-    }
-    for &(head, head_byte, begun_by) in &heads {
-        for (group, medial) in medial_groups(alphabet.medials) {
-            for &(vowel_values, vowel, tall) in alphabet.vowels {
-                for (ending, [final_weight, link, tone], next) in endings(alphabet) {
-                    let values = [&[head], &group[..], vowel_values, &ending[..]].concat();
-                    let record = [head_byte, medial, vowel, tall, final_weight, link, tone];
-                    parts.push(Part { values, record, begun_by, next });
-                }
+    for (group, medial) in medial_groups(alphabet.medials) {
+        for &(vowel_values, vowel, tall) in alphabet.vowels {
+            for (ending, [final_weight, link, tone], next) in endings(alphabet) {
+                let values = [&[head], &group[..], vowel_values, &ending[..]].concat();
+                let record = [head_byte, medial, vowel, tall, final_weight, link, tone];
+                parts.push(Part { values, record, begun_by, next });
             }
         }
     }
     parts
+}
+
+/// All syllables over the alphabet.
+fn parts(alphabet: &Alphabet) -> Vec<Part> {
+    let as_letter = |head: u16, begun_by| (head, (head - 0x1000) as u8, begun_by);
+    let mut heads = vec![(0x103F, 0x1E, Next::GreatSa)];
+    for &head in alphabet.heads {
+        heads.push(as_letter(head, Next::Anything));
+        if head <= 0x1020 {
+            heads.push(as_letter(head, Next::Letter));
+        }
+    }
+    let full = heads.into_iter().flat_map(|head| parts_begun_by(head, alphabet));
+    let without_marks = Alphabet { medials: &[], vowels: &[(&[], 0, 0)], ..*alphabet };
+    let markless = alphabet.markless.iter().map(|&head| as_letter(head, Next::Anything));
+    let markless = markless.flat_map(|head| parts_begun_by(head, &without_marks));
+    let alone = alphabet.alone.iter().map(|&value| Part {
+        values: vec![value],
+        record: [(value - 0x1000) as u8, 0, 0, 0, 0, 0, 0],
+        begun_by: Next::Anything,
+        next: Next::Anything,
+    });
+    full.chain(markless).chain(alone).collect()
 }
 
 type Rows = HashMap<Vec<u16>, Vec<u8>>;
@@ -218,15 +228,14 @@ fn every_single_syllable_is_read_and_written_back() {
         (&[0x102F, 0x1036], 12, 0),
     ];
     let letters: Vec<u16> = (0x1000..=0x1021).collect();
-    let alone: Vec<u16> = (0x1023..=0x104F)
-        .filter(|&value| !(0x102B..=0x103F).contains(&value) && value != 0x1028)
-        .collect();
+    let alone: Vec<u16> = (0x1040..=0x104F).filter(|&value| value != 0x104E).collect();
     let all = Alphabet {
         heads: letters.leak(),
         finals: &[0x1000, 0x1004, 0x1009, 0x101E, 0x1020],
         medials: &[0x103B, 0x103C, 0x103D, 0x103E],
         vowels,
         tones: &[0x1037, 0x1038],
+        markless: &[0x1023, 0x1024, 0x1025, 0x1026, 0x1027, 0x1029, 0x102A, 0x104E],
         alone: alone.leak(),
     };
     for part in parts(&all) {
@@ -253,12 +262,12 @@ fn every_single_syllable_is_read_and_written_back() {
     }
 }
 
-/// The writer takes a record exactly when some word is read to it: all pairs of
-/// link, final, tone and the next record's head, over bytes beyond every bound.
-#[test]
-fn the_writer_takes_exactly_what_reads_back() {
+/// How many of all pairs of link, final, tone and the next record's head, over bytes
+/// beyond every bound, are records that the writer takes for this head. What it takes is
+/// read to the same records.
+fn taken_by_the_writer(head: u8) -> usize {
     let mut taken = 0;
-    for bits in 0..9 * 36 * 5 * 4 {
+    for bits in 0..10 * 36 * 5 * 4 {
         let (link, rest) = (bits % 5, bits / 5);
         let (final_weight, rest) = (rest % 36, rest / 36);
         let (tone, rest) = (rest % 4, rest / 4);
@@ -271,9 +280,10 @@ fn the_writer_takes_exactly_what_reads_back() {
             5 => &[0x25, 0, 0, 0, 0, 0, 0],
             6 => &[0x3F, 0, 0, 0, 0, 0, 0],
             7 => &[0x1E, 0, 1, 1, 0, 0, 2],
+            8 => &[0x4E, 0, 0, 0, 1, 1, 1],
             _ => &[0x4B, 0, 0, 0, 0, 0, 0],
         };
-        let records = [&[0, 0, 0, 0, final_weight as u8, link as u8, tone as u8], next].concat();
+        let records = [&[head, 0, 0, 0, final_weight as u8, link as u8, tone as u8], next].concat();
         let mut output = [0; 64];
         let Ok(length) = write(&records, &mut output) else { continue };
         let reading = read(&output[..length]).unwrap();
@@ -281,7 +291,42 @@ fn the_writer_takes_exactly_what_reads_back() {
         assert_eq!(read, records);
         taken += 1;
     }
-    // Eight of the nine ends are rows; none or 33 plain finals go with 3 tones each,
-    // 33 stacked ones with the four letters to 1020, great sa with the two heads 1E.
-    assert_eq!(taken, 8 * 34 * 3 + 33 * 4 + 2);
+    taken
+}
+
+/// The writer takes a record exactly when some word is read to it.
+#[test]
+fn the_writer_takes_exactly_what_reads_back() {
+    // Nine of the ten ends are rows; none or 33 plain finals go with 3 tones each, 33
+    // stacked ones with the four letters to 1020, great sa with the two heads 1E.
+    for head in [0x00, 0x21, 0x25, 0x2A, 0x4E] {
+        assert_eq!(taken_by_the_writer(head), 9 * 34 * 3 + 33 * 4 + 2, "{head:02X}");
+    }
+    for head in [0x40, 0x4A, 0x4C, 0x4D, 0x4F] {
+        assert_eq!(taken_by_the_writer(head), 9, "{head:02X}");
+    }
+    for head in [0x22, 0x28, 0x3F, 0x50] {
+        assert_eq!(taken_by_the_writer(head), 0, "{head:02X}");
+    }
+}
+
+/// Medial, vowel and tall AA, over bytes beyond every bound: a C takes them in every way
+/// that a vowel is written, every other head in none.
+#[test]
+fn the_writer_takes_marks_on_a_letter_alone() {
+    let taken_marks = |head: u8, ending: [u8; 3]| {
+        let all = (0..13).flat_map(|medial| (0..14).map(move |vowel| (medial, vowel)));
+        let all = all.flat_map(|(medial, vowel)| (0..3).map(move |tall| [medial, vowel, tall]));
+        let records = all.map(|marks| [&[head][..], &marks, &ending].concat());
+        records.filter(|record| write(record, &mut [0; 64]).is_ok()).count()
+    };
+    for ending in [[0, 0, 0], [1, 1, 2]] {
+        assert_eq!(taken_marks(0x21, ending), 12 * (13 + 3));
+        for head in [0x23, 0x25, 0x2A, 0x4E] {
+            assert_eq!(taken_marks(head, ending), 1, "{head:02X}");
+        }
+        for head in [0x40, 0x4B, 0x4C] {
+            assert_eq!(taken_marks(head, ending), usize::from(ending == [0; 3]), "{head:02X}");
+        }
+    }
 }

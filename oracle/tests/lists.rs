@@ -2,7 +2,9 @@
 
 use oracle::lists::{all, random_row, row_of_length, shuffle_runs, List};
 use oracle::random::Random;
-use oracle::{compare, normalise, read};
+use oracle::reading::Syllable;
+use oracle::storage::store;
+use oracle::{compare, decode, normalise, read};
 use std::cmp::Ordering;
 use std::collections::BTreeSet;
 use std::sync::LazyLock;
@@ -83,6 +85,47 @@ fn every_weight_occurs() {
     assert!(final_weight.into_iter().eq(0..=33));
     assert!(vowel.into_iter().eq(0..=12));
     assert!(tone.into_iter().eq(0..=2));
+}
+
+/// A syllable of such a head: the head, the link of its final, and whether it has a tone.
+type Closed = (u16, u8, bool);
+
+/// The syllables of the readable words of a list whose heads take no medial and no vowel
+/// mark, but a final and a tone.
+fn markless_syllables(list: &List) -> BTreeSet<Closed> {
+    let mut seen = BTreeSet::new();
+    for line in list.input.split(|&byte| byte == b'\n') {
+        let Ok(stored) = decode(line).and_then(|word| store(&word)) else { continue };
+        for Syllable { record: [head, _, _, _, _, link, tone], .. } in stored.reading.syllables() {
+            seen.insert((0x1000 + u16::from(*head), *link, *tone > 0));
+        }
+    }
+    seen.retain(|(head, ..)| matches!(head, 0x1023..=0x102A | 0x104E));
+    seen
+}
+
+#[test]
+fn independent_letters_come_with_every_kind_of_final_and_with_tones() {
+    let heads = [0x1023, 0x1024, 0x1025, 0x1026, 0x1027, 0x1029, 0x102A, 0x104E];
+    let kinds = [(0, false), (0, true), (1, false), (1, true), (2, false), (3, false)];
+    let all = heads.iter().flat_map(|&head| kinds.map(|(link, tone)| (head, link, tone)));
+    let all: BTreeSet<Closed> = all.collect();
+    for name in ["products", "valid", "shuffled"] {
+        assert_eq!(markless_syllables(list(name)), all, "{name}");
+    }
+}
+
+/// Of the 36 things to carry, an I and 104E are read with two tones and five of the finals,
+/// and are open with two; 1025 102E is stored as 1026. Every other head that is no letter
+/// is refused with all of them. Of the 57 heads, 33 stand under each of the two finals.
+#[test]
+fn what_heads_carry_is_read_or_refused_as_the_documents_say() {
+    let answers = answers(list("carried"));
+    let count = |part: &str| answers.iter().filter(|answer| answer.contains(part)).count();
+    assert_eq!(answers.len(), 23 * 36 + 2 * 57);
+    assert_eq!(count(" OK "), 8 * 7 + 1 + 2 * 33);
+    assert_eq!(count(" NO 4 "), 8 * 2);
+    assert_eq!(count(" NO 3 "), 8 * 27 - 1 + 15 * 36 + 2 * 24);
 }
 
 #[test]

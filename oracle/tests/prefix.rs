@@ -120,11 +120,37 @@ fn words_of_equal_weights_find_each_other() {
     assert_eq!(found(&words, &[0x1021]), []);
 }
 
+/// An I, and 104E, with a final as other heads have.
+#[test]
+fn independent_letters_are_found_by_their_finals() {
+    let words: [&[u16]; 6] = [
+        &[0x1025, 0x1000, 0x1039, 0x1000],
+        &[0x1025, 0x1000, 0x103A],
+        &[0x1021, 0x102F, 0x1000, 0x103A],
+        &[0x1025],
+        &[0x104E, 0x1004, 0x103A, 0x1038],
+        &[0x104E],
+    ];
+    // 1025 has the head weight of 1021 and the vowel weight of 102F, with a final too.
+    assert_eq!(found(&words, &[0x1025, 0x1000, 0x103A]), [2, 1, 0]);
+    assert_eq!(found(&words, &[0x1021, 0x102F, 0x1000, 0x103A]), [2, 1, 0]);
+    assert_eq!(found(&words, &[0x1025, 0x1000, 0x1039, 0x1000]), [0]);
+    assert_eq!(found(&words, &[0x1025]), [3]);
+    assert_eq!(found(&words, &[0x1021, 0x1000, 0x103A]), []);
+    assert_eq!(found(&words, &[0x104E]), [5]);
+    assert_eq!(found(&words, &[0x104E, 0x1004, 0x103A]), []);
+    assert_eq!(found(&words, &[0x104E, 0x1004, 0x103A, 0x1038]), [4]);
+    assert_eq!(found(&[&[0x1023, 0x103F]], &[0x1023, 0x101E, 0x103A]), [0]);
+    let kinzi = [0x1023, 0x1004, 0x103A, 0x1039, 0x1002];
+    assert_eq!(found(&[&kinzi], &[0x1023, 0x1004, 0x103A]), [0]);
+}
+
 #[test]
 fn the_query_is_normalised() {
     let word: [u16; 5] = [0x1000, 0x1014, 0x103A, 0x1037, 0x1000];
     assert_eq!(found(&[&word], &[0x1000, 0x1014, 0x1037, 0x103A]), [0]);
     assert_eq!(found(&[&[0x1026, 0x1000]], &[0x1025, 0x102E]), [0]);
+    assert_eq!(found(&[&[0x1026, 0x1038]], &[0x1025, 0x1038, 0x102E]), [0]);
     assert_eq!(found(&[&[0x1000, 0x1009, 0x1039, 0x1005]], &[0x1000, 0x1025, 0x103A]), [0]);
     let marks = [0x1000, 0x103B, 0x103D, 0x1031, 0x102C, 0x1038];
     assert_eq!(found(&[&marks], &[0x1000, 0x1038, 0x102C, 0x1031, 0x103D, 0x103B]), [0]);
@@ -173,7 +199,7 @@ fn the_list_may_have_any_length() {
 /// "the order of tests is 01's, with 5 last"
 #[test]
 fn the_query_is_tested_before_the_book_and_the_book_before_the_list() {
-    let cases: [(&[u16], u8, usize); 9] = [
+    let cases: [(&[u16], u8, usize); 11] = [
         (&[0x1000; 65], 1, 64),
         (&[0; 65], 1, 64),
         (&[], 8, 0),
@@ -183,8 +209,10 @@ fn the_query_is_tested_before_the_book_and_the_book_before_the_list() {
         (&[0x1000, 0x1000, 0x1039], 4, 3),
         // Sorted it is 1000 103B 103C, of which the first two values can go on.
         (&[0x1000, 0x103C, 0x103B], 3, 2),
-        // Stored it is 1026 1038, which is refused behind its first value.
-        (&[0x1025, 0x1038, 0x102E], 3, 1),
+        // Stored it is 1026 103A, which is refused behind its first value.
+        (&[0x1025, 0x103A, 0x102E], 3, 1),
+        (&[0x1023, 0x1000, 0x1039], 4, 3),
+        (&[0x104C, 0x1000, 0x103A], 3, 2),
     ];
     let (right, _) = book_of(&[&[0x1000], &[0x1000, 0x1000]]);
     let wrong = [&right[..], &[7]].concat();
@@ -228,7 +256,7 @@ fn readable(values: &[u16], length: usize) -> Vec<Vec<u16>> {
 /// Spelled out, a final stands by itself, in whichever form it was written.
 #[test]
 fn short_words_are_found_by_their_spelled_syllables() {
-    let words = readable(&[0x1000, 0x101E, 0x102C, 0x1039, 0x103A, 0x103F], 4);
+    let words = readable(&[0x1000, 0x101E, 0x1025, 0x102C, 0x1039, 0x103A, 0x103F], 4);
     let keys: Vec<_> = words.iter().map(|word| keys_of_spelled(word)).collect();
     let (book, starts) = book_of(&words.iter().map(Vec::as_slice).collect::<Vec<_>>());
     let mut finds = 0;

@@ -44,12 +44,17 @@ fn continuations_follow_the_outcome() {
 
 #[test]
 fn the_letter_u_meets_its_neighbour_after_sorting() {
-    assert_eq!(refused_normalising(&[0x1025, 0x1038, 0x102E]), (3, 1));
+    assert_eq!(key(&[0x1025, 0x1038, 0x102E]).unwrap().row(), [[46, 0, 0, 5, 2]]);
     assert_eq!(refused_normalising(&[0x1025, 0x1031, 0x102E]), (3, 1));
     assert_eq!(refused_normalising(&[0x1025, 0x103A]), (3, 1));
-    // An I takes no final, so 1009 is a head and the killer is too much.
-    assert_eq!(refused_normalising(&[0x1025, 0x1025, 0x103A]), (3, 2));
+    // An I takes a final, so 1009 is one; after a digit it is a head, and the killer is too
+    // much.
+    assert_eq!(key(&[0x1025, 0x1025, 0x103A]).unwrap().row(), [[46, 0, 10, 4, 0]]);
+    assert_eq!(refused_normalising(&[0x1040, 0x1025, 0x103A]), (3, 2));
     assert_eq!(key(&[0x1000, 0x1025, 0x1037, 0x103A]).unwrap().row(), [[13, 0, 10, 0, 1]]);
+    // Only a direct neighbour counts.
+    let kept = [0x1025, 0x1000, 0x1039, 0x1000];
+    assert_eq!(key(&kept).unwrap().row(), [[46, 0, 1, 4, 0], [13, 0, 0, 0, 0]]);
 }
 
 #[test]
@@ -122,9 +127,12 @@ fn open_ends_are_unfinished() {
 
 #[test]
 fn only_a_final_letter_follows_the_stacker() {
-    for value in [0x1021, 0x1025, 0x1040, 0x104A, 0x104C, 0x103F, 0x103B, 0x1039, 0x1037] {
-        assert_eq!(refused(&[0x1000, 0x1000, 0x1039, value]), (3, 3));
-        assert_eq!(refused(&[0x1000, 0x1004, 0x103A, 0x1039, value]), (3, 4));
+    let others = [0x1021, 0x1025, 0x1040, 0x104A, 0x104C, 0x104E, 0x103F, 0x103B, 0x1039, 0x1037];
+    for (head, value) in
+        [0x1000, 0x1025, 0x104E].into_iter().flat_map(|head| others.map(|value| (head, value)))
+    {
+        assert_eq!(refused(&[head, 0x1000, 0x1039, value]), (3, 3));
+        assert_eq!(refused(&[head, 0x1004, 0x103A, 0x1039, value]), (3, 4));
     }
     assert_eq!(refused(&[0x1000, 0x1000, 0x1039, 0x1000, 0x103A]), (3, 4));
     // The letter under the stacker is a head, so nothing can be stacked under it.
@@ -132,7 +140,7 @@ fn only_a_final_letter_follows_the_stacker() {
 }
 
 #[test]
-fn great_sa_needs_a_full_open_syllable_before_it() {
+fn great_sa_needs_a_syllable_before_it_that_takes_a_final() {
     let records = |word: &[u16]| -> Vec<[u8; 7]> {
         read(word).unwrap().syllables().iter().map(|syllable| syllable.record).collect()
     };
@@ -140,10 +148,22 @@ fn great_sa_needs_a_full_open_syllable_before_it() {
         records(&[0x1000, 0x103F, 0x103F]),
         [[0, 0, 0, 0, 31, 3, 0], [0x1E, 0, 0, 0, 31, 3, 0], [0x1E, 0, 0, 0, 0, 0, 0]]
     );
-    assert_eq!(refused(&[0x1025, 0x103F]), (3, 1));
+    assert_eq!(
+        records(&[0x1025, 0x103F, 0x104E, 0x103F]),
+        [
+            [0x25, 0, 0, 0, 31, 3, 0],
+            [0x1E, 0, 0, 0, 0, 0, 0],
+            [0x4E, 0, 0, 0, 31, 3, 0],
+            [0x1E, 0, 0, 0, 0, 0, 0]
+        ]
+    );
     assert_eq!(refused(&[0x1040, 0x103F]), (3, 1));
-    assert_eq!(refused(&[0x1000, 0x1037, 0x103F]), (3, 2));
-    assert_eq!(refused(&[0x1000, 0x1000, 0x103A, 0x103F]), (3, 3));
+    assert_eq!(refused(&[0x104C, 0x103F]), (3, 1));
+    for head in [0x1000, 0x1025, 0x104E] {
+        assert_eq!(refused(&[head, 0x1037, 0x103F]), (3, 2));
+        assert_eq!(refused(&[head, 0x1038, 0x103F]), (3, 2));
+        assert_eq!(refused(&[head, 0x1000, 0x103A, 0x103F]), (3, 3));
+    }
     assert_eq!(records(&[0x1000, 0x1000, 0x103F]).len(), 3);
     assert_eq!(part(&[0x1000, 0x102C, 0x103F, 0x102E], 1), [0x103F, 0x102E]);
     assert_eq!(part(&[0x1000, 0x1000, 0x1039, 0x1000], 0), [0x1000, 0x1000, 0x1039]);
@@ -151,7 +171,7 @@ fn great_sa_needs_a_full_open_syllable_before_it() {
 
 #[test]
 fn syllables_alone_have_six_zeros_in_their_record() {
-    for value in [0x1025, 0x102A, 0x1040, 0x104A, 0x104F] {
+    for value in [0x1025, 0x102A, 0x1040, 0x104A, 0x104E, 0x104F] {
         let head = (value - 0x1000) as u8;
         assert_eq!(record(&[value], 0).record, [head, 0, 0, 0, 0, 0, 0]);
     }
@@ -159,6 +179,45 @@ fn syllables_alone_have_six_zeros_in_their_record() {
     let word = [0x1000, 0x103B, 0x1031, 0x102B, 0x1000, 0x103A, 0x1038];
     assert_eq!(record(&word, 0).record, [0, 1, 8, 1, 1, 1, 2]);
     assert_eq!(key(&word).unwrap().row(), [[13, 1, 1, 8, 2]]);
+}
+
+/// "Their records may carry final, link and tone": medial, vowel and tall stay 0.
+#[test]
+fn an_independent_letter_has_no_medial_and_no_vowel_in_its_record() {
+    let heads = [0x1023, 0x1024, 0x1025, 0x1026, 0x1027, 0x1029, 0x102A, 0x104E];
+    let endings: [(&[u16], [u8; 3]); 8] = [
+        (&[], [0, 0, 0]),
+        (&[0x1037], [0, 0, 1]),
+        (&[0x1038], [0, 0, 2]),
+        (&[0x1020, 0x103A], [33, 1, 0]),
+        (&[0x1000, 0x103A, 0x1037], [1, 1, 1]),
+        (&[0x1000, 0x1039, 0x1020], [1, 2, 0]),
+        (&[0x1004, 0x103A, 0x1039, 0x1000], [5, 2, 0]),
+        (&[0x103F, 0x102C], [31, 3, 0]),
+    ];
+    for head in heads {
+        for (ending, [final_weight, link, tone]) in endings {
+            let expected = [(head - 0x1000) as u8, 0, 0, 0, final_weight, link, tone];
+            assert_eq!(record(&[&[head], ending].concat(), 0).record, expected);
+        }
+    }
+}
+
+#[test]
+fn what_only_a_full_syllable_carries_is_refused_elsewhere() {
+    for head in [0x1023, 0x1025, 0x102A, 0x104E, 0x104C, 0x1040, 0x104B] {
+        for mark in (0x103B..=0x103E).chain(0x102B..=0x1032).chain([0x1036]) {
+            assert_eq!(refused(&[head, mark]), (3, 1));
+        }
+    }
+    for head in [0x104C, 0x104D, 0x104F, 0x1040, 0x1049, 0x104A, 0x104B] {
+        assert_eq!(refused(&[head, 0x1037]), (3, 1));
+        assert_eq!(refused(&[head, 0x1038]), (3, 1));
+        // The letter begins a syllable of its own.
+        assert_eq!(refused(&[head, 0x1000, 0x103A]), (3, 2));
+        assert_eq!(refused(&[head, 0x1000, 0x1039]), (3, 2));
+        assert_eq!(refused(&[head, 0x1004, 0x103A, 0x1039, 0x1000]), (3, 2));
+    }
 }
 
 #[test]
@@ -178,7 +237,24 @@ fn the_writer_refuses_what_no_reader_yields() {
         vec![0x3F, 0, 0, 0, 0, 0, 0],                       // great sa as a head
         vec![0x22, 0, 0, 0, 0, 0, 0],                       // foreign head
         vec![0x25, 0, 4, 0, 0, 0, 0],                       // I with a vowel
-        vec![0x40, 0, 0, 0, 0, 0, 1],                       // digit with a tone
+        vec![0x25, 0, 0, 1, 0, 0, 0],                       // I with a tall AA alone
+        vec![0x25, 1, 0, 0, 0, 0, 0],                       // I with a medial
+        vec![0x23, 0, 2, 0, 1, 1, 0],                       // I with a vowel and a final
+        vec![0x23, 4, 0, 0, 0, 0, 2],                       // I with a medial and a tone
+        vec![0x4E, 0, 1, 0, 5, 1, 2],                       // 104E with a vowel
+        vec![0x4E, 2, 0, 0, 5, 1, 2],                       // 104E with a medial
+        vec![0x4C, 0, 0, 0, 1, 1, 0],                       // another sign with a final
+        vec![0x4D, 0, 0, 0, 0, 0, 1],                       // another sign with a tone
+        vec![0x4F, 0, 0, 0, 1, 2, 0, 0, 0, 0, 0, 0, 0, 0],  // another sign, stacked final
+        vec![0x4F, 0, 0, 0, 31, 3, 0, 0x1E, 0, 0, 0, 0, 0, 0],
+        vec![0x25, 0, 0, 0, 1, 2, 0], // I with an open stacked final
+        vec![0x25, 0, 0, 0, 1, 2, 1, 0, 0, 0, 0, 0, 0, 0], // I stacked with a tone
+        vec![0, 0, 0, 0, 1, 2, 0, 0x25, 0, 0, 0, 0, 0, 0], // I under a stacker
+        vec![0, 0, 0, 0, 1, 2, 0, 0x4E, 0, 0, 0, 0, 0, 0], // 104E under a stacker
+        vec![0x40, 0, 0, 0, 0, 0, 1], // digit with a tone
+        vec![0x40, 0, 0, 0, 1, 1, 0], // digit with a final
+        vec![0x4A, 0, 0, 0, 0, 0, 2], // stop with a tone
+        vec![0x4B, 0, 0, 0, 1, 1, 0], // stop with a final
         vec![0, 12, 0, 0, 0, 0, 0],
         vec![0, 0, 13, 0, 0, 0, 0],
         vec![0, 0, 1, 2, 0, 0, 0],
@@ -198,6 +274,13 @@ fn the_writer_takes_what_a_reader_yields() {
         [0x1000, 0x1004, 0x103A, 0x1039, 0x1001]
     );
     assert_eq!(written(&[0, 0, 0, 0, 31, 3, 0, 0x1E, 0, 0, 0, 0, 0, 0]), [0x1000, 0x103F]);
+    assert_eq!(written(&[0x23, 0, 0, 0, 31, 3, 0, 0x1E, 0, 0, 0, 0, 0, 0]), [0x1023, 0x103F]);
+    assert_eq!(
+        written(&[0x25, 0, 0, 0, 5, 2, 0, 2, 0, 0, 0, 0, 0, 0]),
+        [0x1025, 0x1004, 0x103A, 0x1039, 0x1002]
+    );
+    assert_eq!(written(&[0x4E, 0, 0, 0, 5, 1, 2]), [0x104E, 0x1004, 0x103A, 0x1038]);
+    assert_eq!(written(&[0x29, 0, 0, 0, 0, 0, 1]), [0x1029, 0x1037]);
     assert_eq!(
         written(&[0, 11, 9, 1, 33, 1, 2]),
         [0x1000, 0x103C, 0x103D, 0x103E, 0x1031, 0x102B, 0x103A, 0x1020, 0x103A, 0x1038]
@@ -262,6 +345,9 @@ fn ties_go_by_the_stored_forms() {
     let (stacked, killed) = ([0x1000, 0x1000, 0x1039, 0x1000], [0x1000, 0x1000, 0x103A, 0x1000]);
     assert_eq!(compare(&stacked, &killed), Ok(Ordering::Less));
     assert_eq!(compare(&[0x1021, 0x102D], &[0x1023]), Ok(Ordering::Less));
+    let (marked, independent) = ([0x1021, 0x102F, 0x1000, 0x103A], [0x1025, 0x1000, 0x103A]);
+    assert_eq!(key(&marked), key(&independent));
+    assert_eq!(compare(&marked, &independent), Ok(Ordering::Less));
     assert_eq!(compare(&[0x1025, 0x102E], &[0x1026]), Ok(Ordering::Equal));
     assert_eq!(compare(&[], &[0x104A]), Ok(Ordering::Less));
     assert_eq!(compare(&[0x1000], &[0x1000, 0x104A]), Ok(Ordering::Less));

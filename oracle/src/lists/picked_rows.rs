@@ -72,7 +72,14 @@ impl Default for RowUnderWay {
 fn pick_writing(random: &mut Random, piece: Piece) -> &'static Writing {
     let percent = random.below(100);
     let wanted = |writing: &&Writing| match piece {
-        Piece::Head => (writing.then == Piece::Head) == (percent < 15),
+        Piece::Head => {
+            writing.then
+                == match percent {
+                    0..10 => Piece::Head,
+                    10..25 => Piece::Final,
+                    _ => Piece::MedialGroup,
+                }
+        }
         Piece::StackedHead | Piece::GreatSaHead => true,
         Piece::MedialGroup | Piece::Vowel => writing.values().is_empty() == (percent < 40),
         Piece::Tone => writing.values().is_empty() == (percent < 60),

@@ -1,15 +1,16 @@
 //! Every writing of every piece, each with every writing of another piece.
 
 use crate::formula::writings;
-use crate::syllable::{link, Piece, Writing};
+use crate::syllable::{link, Piece, Writing, TONES};
 
 type Words = Vec<Vec<u16>>;
 
 /// All products, one after the other.
 pub fn words() -> impl Iterator<Item = Vec<u16>> {
-    let products: [fn() -> Words; 9] = [
+    let products: [fn() -> Words; 10] = [
         heads_by_medials,
-        alone_by_alone,
+        markless_by_markless,
+        markless_by_finals_by_tones,
         medials_by_vowels_by_tones,
         vowels_by_finals,
         medials_by_finals,
@@ -21,8 +22,14 @@ pub fn words() -> impl Iterator<Item = Vec<u16>> {
     products.into_iter().flat_map(|product| product())
 }
 
-fn of(piece: Piece) -> Vec<&'static Writing> {
+/// All writings of the piece.
+pub fn of(piece: Piece) -> Vec<&'static Writing> {
     writings(piece).collect()
+}
+
+/// The heads after which this piece stands.
+fn heads_before(then: Piece) -> impl Iterator<Item = &'static Writing> {
+    writings(Piece::Head).filter(move |head| head.then == then)
 }
 
 fn joined(parts: &[&[u16]]) -> Vec<u16> {
@@ -44,7 +51,7 @@ fn after_final(ending: &Writing, number: usize) -> [u16; 1] {
 
 fn heads_by_medials() -> Words {
     let mut words = Words::new();
-    for head in of(Piece::Head).into_iter().filter(|head| head.then != Piece::Head) {
+    for head in heads_before(Piece::MedialGroup) {
         for medial in of(Piece::MedialGroup) {
             words.push(joined(&[head.values(), medial.values()]));
         }
@@ -57,12 +64,30 @@ fn heads_by_medials() -> Words {
     words
 }
 
-fn alone_by_alone() -> Words {
-    let alone = || of(Piece::Head).into_iter().filter(|head| head.then == Piece::Head);
+/// Heads that take no medial and no vowel mark.
+pub fn markless() -> impl Iterator<Item = &'static Writing> {
+    heads_before(Piece::Head).chain(heads_before(Piece::Final))
+}
+
+fn markless_by_markless() -> Words {
     let mut words = Words::new();
-    for first in alone() {
+    for first in markless() {
         words.push(first.values().to_vec());
-        words.extend(alone().map(|second| joined(&[first.values(), second.values()])));
+        words.extend(markless().map(|second| joined(&[first.values(), second.values()])));
+    }
+    words
+}
+
+/// Each final with one tone of those that it takes, and no final with each.
+fn markless_by_finals_by_tones() -> Words {
+    let mut words = Words::new();
+    for head in heads_before(Piece::Final) {
+        for ending in of(Piece::Final) {
+            let (tone, next) = (words.len() % TONES.len(), after_final(ending, words.len()));
+            let tone = if ending.then == Piece::Tone { TONES[tone] } else { &[] };
+            words.push(joined(&[head.values(), ending.values(), tone, &next]));
+        }
+        words.extend(TONES.map(|tone| joined(&[head.values(), tone])));
     }
     words
 }
