@@ -83,6 +83,81 @@ great-sa-alone =
       spell = (0x1015 ∷ 0x101E ∷ 0x103A ∷ []) ∷ (0x101E ∷ []) ∷ (0x1014 ∷ 0x102C ∷ []) ∷ [];
     }
 
+-- an I with a stacked final, ဥက္က; and 104E with a plain final and a tone, ၎င်း
+abbrev pub ukka : Example
+ukka =
+    record {
+      word = 0x1025 ∷ 0x1000 ∷ 0x1039 ∷ 0x1000 ∷ [];
+      row = syllable 0x1025 no-medial no-vowel (stacked 0x1000) no-tone ∷ bare 0x1000 ∷ [];
+      weigh = (46 ∷ 0 ∷ 1 ∷ 4 ∷ 0 ∷ []) ∷ (13 ∷ 0 ∷ 0 ∷ 0 ∷ 0 ∷ []) ∷ [];
+      spell = (0x1025 ∷ 0x1000 ∷ 0x103A ∷ []) ∷ (0x1000 ∷ []) ∷ [];
+    }
+
+abbrev pub aforementioned : Example
+aforementioned =
+    record {
+      word = 0x104E ∷ 0x1004 ∷ 0x103A ∷ 0x1038 ∷ [];
+      row = syllable 0x104E no-medial no-vowel (plain 0x1004) visarga ∷ [];
+      weigh = (49 ∷ 0 ∷ 5 ∷ 0 ∷ 2 ∷ []) ∷ [];
+      spell = (0x104E ∷ 0x1004 ∷ 0x103A ∷ 0x1038 ∷ []) ∷ [];
+    }
+
+-- an I with a tone alone, with kinzi, and with 103F after it; 104E with a stacked final
+abbrev pub toned-i : Example
+toned-i =
+    record {
+      word = 0x1029 ∷ 0x1038 ∷ [];
+      row = syllable 0x1029 no-medial no-vowel no-final visarga ∷ [];
+      weigh = (46 ∷ 0 ∷ 0 ∷ 8 ∷ 2 ∷ []) ∷ [];
+      spell = (0x1029 ∷ 0x1038 ∷ []) ∷ [];
+    }
+
+abbrev pub kinzi-i : Example
+kinzi-i =
+    record {
+      word = 0x1023 ∷ 0x1004 ∷ 0x103A ∷ 0x1039 ∷ 0x1002 ∷ [];
+      row = syllable 0x1023 no-medial no-vowel kinzi no-tone ∷ bare 0x1002 ∷ [];
+      weigh = (46 ∷ 0 ∷ 5 ∷ 2 ∷ 0 ∷ []) ∷ (15 ∷ 0 ∷ 0 ∷ 0 ∷ 0 ∷ []) ∷ [];
+      spell = (0x1023 ∷ 0x1004 ∷ 0x103A ∷ []) ∷ (0x1002 ∷ []) ∷ [];
+    }
+
+abbrev pub great-sa-i : Example
+great-sa-i =
+    record {
+      word = 0x1023 ∷ 0x103F ∷ [];
+      row = syllable 0x1023 no-medial no-vowel great-sa no-tone ∷ bare 0x101E ∷ [];
+      weigh = (46 ∷ 0 ∷ 31 ∷ 2 ∷ 0 ∷ []) ∷ (43 ∷ 0 ∷ 0 ∷ 0 ∷ 0 ∷ []) ∷ [];
+      spell = (0x1023 ∷ 0x101E ∷ 0x103A ∷ []) ∷ (0x101E ∷ []) ∷ [];
+    }
+
+abbrev pub stacked-sign : Example
+stacked-sign =
+    record {
+      word = 0x104E ∷ 0x1000 ∷ 0x1039 ∷ 0x1000 ∷ [];
+      row = syllable 0x104E no-medial no-vowel (stacked 0x1000) no-tone ∷ bare 0x1000 ∷ [];
+      weigh = (49 ∷ 0 ∷ 1 ∷ 0 ∷ 0 ∷ []) ∷ (13 ∷ 0 ∷ 0 ∷ 0 ∷ 0 ∷ []) ∷ [];
+      spell = (0x104E ∷ 0x1000 ∷ 0x103A ∷ []) ∷ (0x1000 ∷ []) ∷ [];
+    }
+
+-- what 1025 1025 103A and 1025 1038 102E are stored as
+abbrev pub plain-i : Example
+plain-i =
+    record {
+      word = 0x1025 ∷ 0x1009 ∷ 0x103A ∷ [];
+      row = syllable 0x1025 no-medial no-vowel (plain 0x1009) no-tone ∷ [];
+      weigh = (46 ∷ 0 ∷ 10 ∷ 4 ∷ 0 ∷ []) ∷ [];
+      spell = (0x1025 ∷ 0x1009 ∷ 0x103A ∷ []) ∷ [];
+    }
+
+abbrev pub toned-uu : Example
+toned-uu =
+    record {
+      word = 0x1026 ∷ 0x1038 ∷ [];
+      row = syllable 0x1026 no-medial no-vowel no-final visarga ∷ [];
+      weigh = (46 ∷ 0 ∷ 0 ∷ 5 ∷ 2 ∷ []) ∷ [];
+      spell = (0x1026 ∷ 0x1038 ∷ []) ∷ [];
+    }
+
 -- one syllable of a letter and a plain final, with the weights of both
 abbrev with-plain : ℕ → ℕ → ℕ → ℕ → Example
 with-plain head final head-weight final-weight =
@@ -140,6 +215,14 @@ examples =
     ∷ plain-ka
     ∷ plain-nga
     ∷ plain-sa
+    ∷ ukka
+    ∷ aforementioned
+    ∷ toned-i
+    ∷ kinzi-i
+    ∷ great-sa-i
+    ∷ stacked-sign
+    ∷ plain-i
+    ∷ toned-uu
     ∷ []
 
 abbrev pub isRight : Example → Bool
@@ -185,12 +268,18 @@ broken =
     ∷ (bare 0x1039 ∷ [])
     ∷ (bare 0x103F ∷ [])
     ∷ (bare 0x1022 ∷ [])
-    -- an I, N, P or S carries nothing
+    -- an I, N, P or S carries no medial and no vowel
     ∷ (syllable 0x1025 (group ya false false) no-vowel no-final no-tone ∷ [])
     ∷ (syllable 0x1025 no-medial (vowel-aa false) no-final no-tone ∷ [])
+    ∷ (syllable 0x1023 (group ra false false) no-vowel (plain 0x1000) dot ∷ [])
+    ∷ (syllable 0x104E (group ya false false) no-vowel no-final no-tone ∷ [])
+    ∷ (syllable 0x104E no-medial vowel-ii (plain 0x1004) visarga ∷ [])
+    -- an N, P or S other than 104E carries nothing
     ∷ (syllable 0x1040 no-medial no-vowel (plain 0x1000) no-tone ∷ [])
     ∷ (syllable 0x104A no-medial no-vowel no-final dot ∷ [])
-    ∷ (syllable 0x104E no-medial no-vowel (stacked 0x1000) no-tone ∷ bare 0x1000 ∷ [])
+    ∷ (syllable 0x104C no-medial no-vowel (stacked 0x1000) no-tone ∷ bare 0x1000 ∷ [])
+    ∷ (syllable 0x104D no-medial no-vowel no-final visarga ∷ [])
+    ∷ (syllable 0x104F no-medial no-vowel (plain 0x1000) no-tone ∷ [])
     -- a plain final 1021, and a final that is no letter
     ∷ (syllable 0x1000 no-medial no-vowel (plain 0x1021) no-tone ∷ [])
     ∷ (syllable 0x1000 no-medial no-vowel (plain 0x1025) no-tone ∷ [])
@@ -201,17 +290,20 @@ broken =
     ∷ (syllable 0x1000 no-medial no-vowel (stacked 0x1000) dot ∷ bare 0x1000 ∷ [])
     ∷ (syllable 0x1000 no-medial no-vowel kinzi visarga ∷ bare 0x1000 ∷ [])
     ∷ (syllable 0x1000 no-medial no-vowel great-sa dot ∷ bare 0x101E ∷ [])
+    ∷ (syllable 0x1023 no-medial no-vowel great-sa visarga ∷ bare 0x101E ∷ [])
     -- a stacked final, kinzi or 103F at the end
     ∷ (syllable 0x1000 no-medial no-vowel (stacked 0x1000) no-tone ∷ [])
     ∷ (syllable 0x1000 no-medial no-vowel kinzi no-tone ∷ [])
     ∷ (syllable 0x1000 no-medial no-vowel great-sa no-tone ∷ [])
-    -- a stacked final or kinzi before 1021, an I, a digit
+    -- a stacked final or kinzi before 1021, an I, a sign, a digit
     ∷ (syllable 0x1000 no-medial no-vowel (stacked 0x1000) no-tone ∷ bare 0x1021 ∷ [])
     ∷ (syllable 0x1000 no-medial no-vowel kinzi no-tone ∷ bare 0x1025 ∷ [])
+    ∷ (syllable 0x1000 no-medial no-vowel (stacked 0x1000) no-tone ∷ syllable 0x1025 no-medial no-vowel no-final visarga ∷ [])
+    ∷ (syllable 0x1025 no-medial no-vowel (stacked 0x1000) no-tone ∷ bare 0x104E ∷ [])
     ∷ (syllable 0x1000 no-medial no-vowel (stacked 0x1000) no-tone ∷ bare 0x1040 ∷ [])
-    -- 103F begins a syllable with the head 101E alone, and follows a full syllable alone
+    -- 103F begins a syllable with the head 101E alone, and follows a syllable that carries a final alone
     ∷ (syllable 0x1000 no-medial no-vowel great-sa no-tone ∷ bare 0x1000 ∷ [])
-    ∷ (syllable 0x1023 no-medial no-vowel great-sa no-tone ∷ bare 0x101E ∷ [])
+    ∷ (syllable 0x1040 no-medial no-vowel great-sa no-tone ∷ bare 0x101E ∷ [])
     ∷ []
 
 broken-right : T (every (λ (row : Row). not (isRowAfter no-final row)) broken)

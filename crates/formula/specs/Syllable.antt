@@ -1,10 +1,10 @@
--- Document 01, "The syllable": what a syllable is, what it asks of its neighbours, and how it is written.
+-- Document 01, "The syllable", and document 02, E2: what a syllable is, what it asks of its neighbours, and how it is written.
 -- A description: no reader stands here. Assumes nothing.
 use mathlib.Core.Bool.{Bool, true, false, not, _&&_, _||_}
 use mathlib.Core.List.{List, [], _∷_, _++_}
 use Prim.Native.Nat.{ℕ}
 use lib.Dec.{eqb}
-use Rattle.letters.specs.Letters.{isConsonant}
+use Rattle.letters.specs.Letters.{isConsonant, isIndependentVowel}
 use Rattle.letters.specs.Marks.{neither, ya, ra, MedialGroup, group, no-medial, Vowel, no-vowel, vowel-aa, vowel-i, vowel-ii, vowel-u, vowel-uu, vowel-e, vowel-ai, vowel-e-aa, vowel-e-aa-killer, vowel-am, vowel-i-u, vowel-u-am, ToneMark, no-tone, dot, visarga, medialText, vowelText, toneText}
 use Rattle.letters.specs.Weights.{isHead, isFinalLetter}
 
@@ -18,7 +18,7 @@ pub data Final : Type 0 where
   great-sa : Final
 
 -- "A full syllable has a head, at most one medial group, one vowel, one final and one tone, in that order."
--- An I, N, P or S is a syllable whose head carries nothing.
+-- An I, N, P or S is a syllable too, whose head carries less or nothing.
 pub data Syllable : Type 0 where
   syllable : ℕ → MedialGroup → Vowel → Final → ToneMark → Syllable
 
@@ -36,9 +36,10 @@ finalOf (syllable h m v f t) = f
 unfoldable pub carriesMarks : ℕ → Bool
 carriesMarks h = isConsonant h
 
--- and those that may carry a final and a tone
+-- and those that may carry a final and a tone. Document 02, E2: "Each I, and 104E alone among the signs, may now take a final and a tone as a
+-- full syllable does, but no medial and no vowel mark."
 unfoldable pub carriesFinal : ℕ → Bool
-carriesFinal h = isConsonant h
+carriesFinal h = isConsonant h || (isIndependentVowel h || eqb h 0x104E)
 
 abbrev pub isNoMedial : MedialGroup → Bool
 isNoMedial (group neither w h) = not w && not h

@@ -26,7 +26,8 @@ isToneNumber link tone = leb tone 2 && (leb link 1 || eqb tone 0)
 unfoldable pub linkAdmits : ℕ → ℕ → Bool
 linkAdmits link head = leb link 1 || (eqb link 2 && isFinalLetter head) || (eqb link 3 && eqb head 0x101E)
 
--- bytes that are a syllable's record; "For an I, N, P or S the last six are 0."
+-- bytes that are a syllable's record. "For an I, N, P or S the last six are 0", but document 02, E2, lets those of an I and 104E "carry final, link
+-- and tone"
 unfoldable pub isRecord : List ℕ → Bool
 isRecord bytes =
     isHead (0x1000 + getD bytes 0 0)

@@ -4,6 +4,7 @@ ghost use mathlib.Core.Path.{_≡_};
 ghost use Prim.Native.Nat.{_+_, _≤_};
 ghost use lib.ListN.{length, take, drop};
 ghost use Rattle.formula.specs.Limits.{recordSize};
+ghost use Rattle.letters.specs.Letters.{isIndependentVowel};
 ghost use Rattle.letters.specs.Weights.{isHead};
 ghost use Rattle.formula.specs.Syllable.{carriesMarks, carriesFinal};
 ghost use Rattle.syllable_text.specs.Record.{isVowelNumbers, isFinalNumbers, isToneNumber, linkAdmits, isRecord, mayFollow};
@@ -49,14 +50,11 @@ fn is_record(bytes: [u8; Word::RECORD]) -> bool
         & (carries_final(head) | ((link == 0) & (tone == 0)))
 }
 
-// Whether the byte is that of a head: a consonant, an independent vowel, a digit, a stop or a sign.
+// Whether the byte is that of a head: one that carries a final, a digit, a stop or a sign.
 fn is_head(head: u8) -> bool
     ensures { λ r. ⌜ r ≡ isHead (0x1000 + head) ⌝ }
 {
-    (head <= 0x21)
-        | ((0x23 <= head) & (head <= 0x27))
-        | ((0x29 <= head) & (head <= 0x2A))
-        | ((0x40 <= head) & (head <= 0x4F))
+    carries_final(head) | ((0x40 <= head) & (head <= 0x4F))
 }
 
 // Whether the head may have a medial group and a vowel.
@@ -70,7 +68,14 @@ fn carries_marks(head: u8) -> bool
 fn carries_final(head: u8) -> bool
     ensures { λ r. ⌜ r ≡ carriesFinal (0x1000 + head) ⌝ }
 {
-    head <= 0x21
+    carries_marks(head) | is_independent_vowel(head) | (head == 0x4E)
+}
+
+// Whether the byte is that of an independent vowel.
+fn is_independent_vowel(head: u8) -> bool
+    ensures { λ r. ⌜ r ≡ isIndependentVowel (0x1000 + head) ⌝ }
+{
+    ((0x23 <= head) & (head <= 0x27)) | ((0x29 <= head) & (head <= 0x2A))
 }
 
 // Whether there is such a vowel; only those with AA are tall.

@@ -6,9 +6,10 @@ use mathlib.Core.List.{[], _∷_}
 use Prim.Native.Nat.{ℕ}
 use lib.Dec.{T, eqb}
 use Rattle.letters.specs.Choice.{pick}
+use Rattle.letters.specs.Letters.{isConsonant}
 use Rattle.letters.specs.Marks.{neither, MedialGroup, group, Vowel, no-vowel, vowels, ToneMark, no-tone, dot, visarga}
 use Rattle.letters.specs.Weights.{isFinalLetter}
-use Rattle.letters.proofs.Tests.{is-true}
+use Rattle.letters.proofs.Tests.{is-true, or-left}
 use Rattle.formula.proofs.Lists.{both-left, both-right, every}
 use Rattle.formula.proofs.Pieces.{each-vowel, each-medial}
 use Rattle.formula.specs.Syllable.{Final, no-final, plain, stacked, kinzi, great-sa, syllable, carriesMarks, carriesFinal, isNoMedial, isNoVowel, isNoFinal, isNoTone, isClosed, takesTone, isSyllable}
@@ -131,7 +132,7 @@ carried false s i = absurd i
 -- what carries marks carries a final too, and a final letter carries both
 pub marks-final : (h : ℕ) → T (carriesMarks h) → T (carriesFinal h)
 unfolding carriesMarks carriesFinal
-marks-final h c = c
+marks-final h c = or-left (isConsonant h) _ c
 
 pub letter-marks : (h : ℕ) → T (isFinalLetter h) → T (carriesMarks h)
 unfolding carriesMarks

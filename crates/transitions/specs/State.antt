@@ -28,7 +28,7 @@ abbrev pub headState : Bool → ℕ → State
 headState true h = pick (isFinalLetter h) (pick (eqb h 0x1004) head-nga head-closes) head-stays
 headState false h = head-stays
 
--- a head that carries no marks but a final is as one whose vowel takes no more marks
+-- a head that carries no marks but a final, an I or 104E, is as one whose vowel takes no more marks
 abbrev pub begunState : Bool → ℕ → State
 begunState opened h = pick (carriesMarks h) (headState opened h) with-vowel
 

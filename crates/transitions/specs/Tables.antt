@@ -56,13 +56,14 @@ entryOf state x = entry (transition (kindOf x) x (stateAt state))
 unfoldable pub gainOf : ℕ → ℕ → ℕ
 gainOf state x = amountOf (transition (kindOf x) x (stateAt state)) * 2 ^ (8 * byteOf (kindOf x))
 
+-- 4 is the class of the heads that carry a final and no marks, 23 of those that carry nothing
 abbrev pub classIn : Kind → ℕ → ℕ
 classIn Consonant x = pick (eqb x 0x1004) 1 (pick (eqb x 0x1021) 2 0)
 classIn Foreign x = 3
 classIn IndependentVowel x = 4
-classIn Digit x = 4
-classIn Stop x = 4
-classIn Sign x = 4
+classIn Digit x = 23
+classIn Stop x = 23
+classIn Sign x = pick (eqb x 0x104E) 4 23
 classIn VowelMark x = pick (eqb x 0x1036) 13 (x - 0x102B + 5)
 classIn Tone x = x - 0x1037 + 14
 classIn Stacker x = 16
@@ -99,6 +100,7 @@ examples =
     ∷ 0x103D
     ∷ 0x103E
     ∷ 0x103F
+    ∷ 0x1040
     ∷ []
 
 -- two transitions that are the same, as a test

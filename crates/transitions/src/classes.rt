@@ -2,7 +2,8 @@
 ghost use mathlib.Core.Path.{_≡_};
 ghost use Rattle.transitions.specs.Tables.{classOf};
 
-// Neighbours stand in different arms, so that the compiler makes one table of bytes; 3 is the class of the foreign values.
+// Neighbours stand in different arms, so that the compiler makes one table of bytes; 3 is the class of the foreign values,
+// 4 of an I and 104E, which carry a final, and 23 of the heads that carry nothing.
 pub fn class_of(x: u16) -> u8
     ensures { λ r. ⌜ r ≡ classOf x ⌝ }
 {
@@ -34,8 +35,9 @@ pub fn class_of(x: u16) -> u8
         0x103D => 20,
         0x103E => 21,
         0x103F => 22,
-        0x1040 | 0x1042 | 0x1044 | 0x1046 | 0x1048 | 0x104A | 0x104C | 0x104E => 4,
-        0x1041 | 0x1043 | 0x1045 | 0x1047 | 0x1049 | 0x104B | 0x104D | 0x104F => 4,
+        0x1040 | 0x1042 | 0x1044 | 0x1046 | 0x1048 | 0x104A | 0x104C => 23,
+        0x1041 | 0x1043 | 0x1045 | 0x1047 | 0x1049 | 0x104B | 0x104D | 0x104F => 23,
+        0x104E => 4,
         _ => 3,
     }
 }

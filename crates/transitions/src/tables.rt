@@ -46,7 +46,7 @@ fn rules_in(class: u8) -> Rules
         },
         4 => Rules {
             picks: 0o111111111110111,
-            outcomes: 0x4060,
+            outcomes: 0x4E60,
             amounts: 0x0,
         },
         5 => Rules {
@@ -137,6 +137,11 @@ fn rules_in(class: u8) -> Rules
         22 => Rules {
             picks: 0o111111111110000,
             outcomes: 0x4460,
+            amounts: 0x0,
+        },
+        23 => Rules {
+            picks: 0o111111111110111,
+            outcomes: 0x4060,
             amounts: 0x0,
         },
         _ => Rules {

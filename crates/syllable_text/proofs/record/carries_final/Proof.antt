@@ -1,16 +1,28 @@
--- `syllable_text::record::carries_final` meets its contract: the test agrees with `carriesFinal` at each byte.
+-- `syllable_text::record::carries_final` meets its contract: the tests agree with `carriesFinal` at each byte.
 -- Assumes nothing.
+use mathlib.Core.Bool.{_||_}
 use Prim.Native.Nat.{ℕ, _+_}
 use native.Mathlib.Omega.{arith}
-use lib.Dec.{leb}
-use Rattle.formula.specs.Syllable.{carriesFinal}
+use lib.Dec.{eqb}
+use borrow.Author.Needs.{needs}
+use Rattle.letters.specs.Letters.{isIndependentVowel}
+use Rattle.formula.specs.Syllable.{carriesMarks, carriesFinal}
 use Rattle.syllable_text.proofs.Bytes.{on-bytes}
 use Rattle.syllable_text.proofs.record.carries_final.Statement.{statement}
 use Rattle.syllable_text.proofs.record.carries_final.Tie as tie
 
+carries-marks-requires : tie.Need-carries-marks-requires
+carries-marks-requires c κs = search needs
+
+is-independent-vowel-requires : tie.Need-is-independent-vowel-requires
+is-independent-vowel-requires c κs = search needs
+
 returns : tie.Need-returns
-unfolding carriesFinal
-returns c = on-bytes (λ (h : ℕ). leb h 0x21) (λ (h : ℕ). carriesFinal (0x1000 + h)) tt (c .args .head) (omega arith)
+unfolding carriesMarks carriesFinal
+returns c =
+    rw (c .before .carries-marks .ensures, c .is-independent-vowel .ensures)
+    (on-bytes (λ (h : ℕ). carriesMarks (0x1000 + h) || isIndependentVowel (0x1000 + h) || eqb h 0x4E) (λ (h : ℕ). carriesFinal (0x1000 + h)) tt
+    (c .before .before .args .head) (omega arith))
 
 pub carries-final-spec : {M : Type 1} → statement M
-carries-final-spec = tie.close (tie.spec returns)
+carries-final-spec = tie.close (tie.spec carries-marks-requires is-independent-vowel-requires returns)

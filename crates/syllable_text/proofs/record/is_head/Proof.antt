@@ -4,15 +4,21 @@ use mathlib.Core.Bool.{_&&_, _||_}
 use Prim.Native.Nat.{ℕ, _+_}
 use native.Mathlib.Omega.{arith}
 use lib.Dec.{leb}
+use borrow.Author.Needs.{needs}
 use Rattle.letters.specs.Weights.{isHead}
+use Rattle.formula.specs.Syllable.{carriesFinal}
 use Rattle.syllable_text.proofs.Bytes.{on-bytes}
 use Rattle.syllable_text.proofs.record.is_head.Statement.{statement}
 use Rattle.syllable_text.proofs.record.is_head.Tie as tie
 
+carries-final-requires : tie.Need-carries-final-requires
+carries-final-requires c κs = search needs
+
 returns : tie.Need-returns
+unfolding carriesFinal
 returns c =
-    on-bytes (λ (h : ℕ). leb h 0x21 || (leb 0x23 h && leb h 0x27) || (leb 0x29 h && leb h 0x2A) || (leb 0x40 h && leb h 0x4F)) (λ (h : ℕ). isHead (0x1000 + h)) tt
-    (c .args .head) (omega arith)
+    rw (c .carries-final .ensures)
+    (on-bytes (λ (h : ℕ). carriesFinal (0x1000 + h) || (leb 0x40 h && leb h 0x4F)) (λ (h : ℕ). isHead (0x1000 + h)) tt (c .before .args .head) (omega arith))
 
 pub is-head-spec : {M : Type 1} → statement M
-is-head-spec = tie.close (tie.spec returns)
+is-head-spec = tie.close (tie.spec carries-final-requires returns)

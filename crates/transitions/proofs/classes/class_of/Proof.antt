@@ -133,11 +133,15 @@ unfolding pick classOf
 returns-29 c = same-at classOf _ (arm 28) refl (c .before .args .x) (c .match .keys29)
 
 returns-30 : tie.Need-returns-30
-returns-30 c = sym (none-foreign (reverse (armsOf lts.body)) tt (c .before .args .x) (c .match .rest))
+unfolding pick classOf
+returns-30 c = same-at classOf _ (arm 29) refl (c .before .args .x) (c .match .keys30)
+
+returns-31 : tie.Need-returns-31
+returns-31 c = sym (none-foreign (reverse (armsOf lts.body)) tt (c .before .args .x) (c .match .rest))
 
 pub class-of-spec : {M : Type 1} → statement M
 class-of-spec =
     tie.close
     (tie.spec returns returns-2 returns-3 returns-4 returns-5 returns-6 returns-7 returns-8 returns-9 returns-10 returns-11
     returns-12 returns-13 returns-14 returns-15 returns-16 returns-17 returns-18 returns-19 returns-20 returns-21
-    returns-22 returns-23 returns-24 returns-25 returns-26 returns-27 returns-28 returns-29 returns-30)
+    returns-22 returns-23 returns-24 returns-25 returns-26 returns-27 returns-28 returns-29 returns-30 returns-31)

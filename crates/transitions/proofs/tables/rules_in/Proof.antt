@@ -104,7 +104,11 @@ unfolding rulesIn pick carriesMarks carriesFinal
 returns-23 c = rw (c .match .keys23) refl
 
 returns-24 : tie.Need-returns-24
-returns-24 c = sym (no-rules (reverse (armsOf lts.body)) tt (c .before .args .class) (c .match .rest))
+unfolding rulesIn pick carriesMarks carriesFinal
+returns-24 c = rw (c .match .keys24) refl
+
+returns-25 : tie.Need-returns-25
+returns-25 c = sym (no-rules (reverse (armsOf lts.body)) tt (c .before .args .class) (c .match .rest))
 
 pub rules-in-spec : {M : Type 1} → statement M
 rules-in-spec =
@@ -133,4 +137,5 @@ rules-in-spec =
     returns-21
     returns-22
     returns-23
-    returns-24)
+    returns-24
+    returns-25)
