@@ -2,6 +2,7 @@ pub mod Tests
 pub mod Bytes
 pub mod Records
 pub mod Agree
+pub mod Base
 pub mod Walk
 pub mod Lookups
 pub mod Added

@@ -45,24 +45,36 @@ abbrev pub endOf : ℕ → List Entry → ℕ
 endOf at [] = at
 endOf at (entry ∷ entries) = endOf (at + size entry) entries
 
+-- What follows is said of books whose words meet a condition, and used at the readable words.
+
 -- an entry that a record can hold
-pub record GoodEntry (entry : Entry) : Type 0 where
+pub record GoodEntryOf (Allowed : List ℕ → Type 0) (entry : Entry) : Type 0 where
   pub some : 1 ≤ length (entry .word)
-  pub readable : Readable (entry .word)
+  pub readable : Allowed (entry .word)
   pub stock : entry .stock < 4294967296
 
 -- each entry starts where the one before ends, can be held, and where it is live no live entry before it has its word
-abbrev pub GoodAfter : ℕ → List Entry → List Entry → Type 0
-GoodAfter at seen [] = Unit {0}
-GoodAfter at seen (entry ∷ entries) =
-    (entry .start ≡ at) × GoodEntry entry × T (isFresh seen entry) × GoodAfter (at + size entry) (seen ++ (entry ∷ [])) entries
+abbrev pub GoodAfterOf : (List ℕ → Type 0) → ℕ → List Entry → List Entry → Type 0
+GoodAfterOf Allowed at seen [] = Unit {0}
+GoodAfterOf Allowed at seen (entry ∷ entries) =
+    (entry .start ≡ at) × GoodEntryOf Allowed entry × T (isFresh seen entry) × GoodAfterOf Allowed (at + size entry) (seen ++ (entry ∷ [])) entries
 
 -- "A book is a lent buffer of at most 16,384 bytes: records from byte 0, then only zero bytes."
-pub record IsBook (bytes : List ℕ) (entries : List Entry) : Type 0 where
+pub record IsBookOf (Allowed : List ℕ → Type 0) (bytes : List ℕ) (entries : List Entry) : Type 0 where
   pub short : length bytes ≤ bookLimit
   pub pad : ℕ
   pub written : bytes ≡ records entries ++ zeros pad
-  pub good : GoodAfter 0 [] entries
+  pub good : GoodAfterOf Allowed 0 [] entries
+
+-- "Every record's word, removed ones included, is in storage order and readable"
+abbrev pub GoodEntry : Entry → Type 0
+GoodEntry = GoodEntryOf Readable
+
+abbrev pub GoodAfter : ℕ → List Entry → List Entry → Type 0
+GoodAfter = GoodAfterOf Readable
+
+abbrev pub IsBook : List ℕ → List Entry → Type 0
+IsBook = IsBookOf Readable
 
 -- the buffer is a book with this first free byte
 pub record Opened (bytes : List ℕ) (free : ℕ) : Type 0 where

@@ -3,7 +3,7 @@
 -- Assumes nothing.
 use mathlib.Core.Path.{_≡_}
 use mathlib.Core.Bool.{Bool, false, not, _&&_}
-use mathlib.Core.List.{List, [], _∷_}
+use mathlib.Core.List.{List, [], _∷_, _++_}
 use Prim.Native.Nat.{ℕ}
 use lib.Dec.{T}
 use lib.ListN.{replicate}
@@ -11,7 +11,8 @@ use Rattle.letters.specs.Choice.{pick}
 use Rattle.letters.specs.Marks.{ya, ra, MedialGroup, group, medialGroups, no-medial, medialText, Vowel, vowels, no-vowel, vowel-aa, vowel-ii, vowel-e-aa-killer, vowel-i-u, vowelText, ToneMark, toneMarks, no-tone, dot, visarga, toneText}
 use Rattle.formula.specs.Limits.{limit}
 use Rattle.formula.specs.Syllable.{no-final, plain, stacked, kinzi, great-sa, syllable, bare, carriesMarks, carriesFinal}
-use Rattle.formula.specs.Row.{Row, isRowAfter, join, Gives}
+use Rattle.formula.specs.Row.{Row, isRowOf, isRowAfter, join, Gives}
+use Rattle.formula.specs.Base.{isBaseSyllable}
 use Rattle.formula.specs.Spelled.{spelled}
 use Rattle.formula.specs.Weighing.{weightsOf, weights}
 use Rattle.formula.proofs.Lists.{both-left, both-right, every, All, every-all, sameList, sameLists, sameList-equal, sameLists-equal}
@@ -178,9 +179,9 @@ plain-nga = with-plain 0x1021 0x1004 46 5
 abbrev pub plain-sa : Example
 plain-sa = with-plain 0x1015 0x101E 34 31
 
--- the one table of worked words that are readable; 1000 1031 102C 103A is "one syllable"
-abbrev pub examples : List Example
-examples =
+-- the words of document 01 and the queries that find them, whose rows are rows of 01; 1000 1031 102C 103A is "one syllable"
+abbrev baseExamples : List Example
+baseExamples =
     record { word = []; row = []; weigh = []; spell = [] }
     ∷ letter
     ∷ record {
@@ -215,7 +216,12 @@ examples =
     ∷ plain-ka
     ∷ plain-nga
     ∷ plain-sa
-    ∷ ukka
+    ∷ []
+
+-- the words of document 02, E2, whose rows are not
+abbrev finalExamples : List Example
+finalExamples =
+    ukka
     ∷ aforementioned
     ∷ toned-i
     ∷ kinzi-i
@@ -224,6 +230,17 @@ examples =
     ∷ plain-i
     ∷ toned-uu
     ∷ []
+
+-- the one table of worked words that are readable
+abbrev pub examples : List Example
+examples = baseExamples ++ finalExamples
+
+abbrev isBase : Example → Bool
+isBase e = isRowOf isBaseSyllable no-final (e .row)
+
+base-right : T (every isBase baseExamples && every (λ (e : Example). not (isBase e)) finalExamples)
+unfolding isBaseSyllable
+base-right = tt
 
 abbrev pub isRight : Example → Bool
 isRight e =

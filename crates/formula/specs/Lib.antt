@@ -3,6 +3,7 @@ pub mod Limits
 pub mod Held
 pub mod Syllable
 pub mod Row
+pub mod Base
 pub mod Record
 pub mod Packed
 pub mod Spelled

@@ -12,10 +12,14 @@ use Rattle.formula.specs.Syllable.{Final, no-final, Syllable, headOf, fi
 abbrev pub Row : Type 0
 Row = List Syllable
 
--- the list is a row where a syllable with the final f stands before it
+-- the list is a row of syllables that pass the test, where a syllable with the final f stands before it
+module _ (isOne : Syllable → Bool) where
+  abbrev pub isRowOf : Final → Row → Bool
+  isRowOf f [] = isClosed f
+  isRowOf f (s ∷ row) = follows f (headOf s) && (isOne s && isRowOf (finalOf s) row)
+
 abbrev pub isRowAfter : Final → Row → Bool
-isRowAfter f [] = isClosed f
-isRowAfter f (s ∷ row) = follows f (headOf s) && (isSyllable s && isRowAfter (finalOf s) row)
+isRowAfter = isRowOf isSyllable
 
 -- Document 01: "A row of syllables is a list of syllables under these rules".
 abbrev pub IsRow : Row → Type 0

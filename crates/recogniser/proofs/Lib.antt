@@ -5,3 +5,5 @@ pub mod Walking
 pub mod Determined
 pub mod Words
 pub mod Decided
+pub mod Base
+pub mod Beginnings

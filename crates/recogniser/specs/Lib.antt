@@ -1,3 +1,4 @@
 pub mod Answer
+pub mod Base
 pub mod Walked
 pub mod Concluded

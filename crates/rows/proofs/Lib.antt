@@ -3,3 +3,4 @@ pub mod Complete
 pub mod Viable
 pub mod Begin
 pub mod Admitted
+pub mod Base

@@ -150,7 +150,7 @@ module _ (word bytes : List ℕ) (row : Row) (g : Gives row word) (p : recordByt
       absurd z
   asked number below (refuses refusal place) b h = absurd (refused-no-row word refusal place (h .refused) (row-read .admissible) row g)
 
-  read-back : (reading : Reading) → ReadRight word reading → ReadBack word bytes reading
+  pub read-back : (reading : Reading) → ReadRight word reading → ReadBack word bytes reading
   read-back reading right =
       record {
         n = length row;

@@ -4,3 +4,4 @@ pub mod Determined
 pub mod Words
 pub mod Prefix
 pub mod Searched
+pub mod Base
