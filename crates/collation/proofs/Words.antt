@@ -10,7 +10,7 @@ use lib.Dec.{T, leb, leb→le}
 use lib.ListN.{length, getD}
 use Rattle.letters.specs.Choice.{pick}
 use Rattle.letters.specs.Letters.{isAdmitted}
-use Rattle.letters.specs.Marks.{ya, neither, group, no-medial, no-vowel, vowel-aa, vowel-i-u, no-tone, dot}
+use Rattle.letters.specs.Marks.{ya, neither, group, no-medial, no-vowel, vowel-aa, vowel-u, vowel-i-u, no-tone, dot, visarga}
 use Rattle.formula.specs.Limits.{limit}
 use Rattle.formula.specs.Syllable.{no-final, plain, stacked, syllable, bare, carriesMarks, carriesFinal}
 use Rattle.formula.specs.Row.{Row, isRowAfter, join, Gives}
@@ -66,6 +66,28 @@ pairs =
     -- an I goes behind 1021 by its vowel weight, and before the signs
     ∷ record { first = one (0x1021 ∷ []) (bare 0x1021 ∷ []) 46 0 0 0 0; second = one (0x1023 ∷ []) (bare 0x1023 ∷ []) 46 0 0 2 0; is = Less }
     ∷ record { first = one (0x104C ∷ []) (bare 0x104C ∷ []) 47 0 0 0 0; second = one (0x102A ∷ []) (bare 0x102A ∷ []) 46 0 0 9 0; is = Greater }
+    -- document 02, E2: an I keeps its vowel weight where a final stands, and the final is weighed before it; 104E weighs as a sign
+    ∷ record {
+      first = one (0x1023 ∷ 0x1000 ∷ 0x103A ∷ []) (syllable 0x1023 no-medial no-vowel (plain 0x1000) no-tone ∷ []) 46 0 1 2 0;
+      second = one (0x1025 ∷ 0x1000 ∷ 0x103A ∷ []) (syllable 0x1025 no-medial no-vowel (plain 0x1000) no-tone ∷ []) 46 0 1 4 0;
+      is = Less;
+    }
+    ∷ record {
+      first = one (0x1023 ∷ 0x1000 ∷ 0x103A ∷ []) (syllable 0x1023 no-medial no-vowel (plain 0x1000) no-tone ∷ []) 46 0 1 2 0;
+      second = one (0x102A ∷ []) (bare 0x102A ∷ []) 46 0 0 9 0;
+      is = Greater;
+    }
+    ∷ record {
+      first = one (0x104E ∷ 0x1004 ∷ 0x103A ∷ 0x1038 ∷ []) (syllable 0x104E no-medial no-vowel (plain 0x1004) visarga ∷ []) 49 0 5 0 2;
+      second = one (0x104F ∷ []) (bare 0x104F ∷ []) 50 0 0 0 0;
+      is = Less;
+    }
+    -- 1025 and 1021 102F weigh the same with the same final, and go by their values
+    ∷ record {
+      first = one (0x1021 ∷ 0x102F ∷ 0x1000 ∷ 0x103A ∷ []) (syllable 0x1021 no-medial vowel-u (plain 0x1000) no-tone ∷ []) 46 0 1 4 0;
+      second = one (0x1025 ∷ 0x1000 ∷ 0x103A ∷ []) (syllable 0x1025 no-medial no-vowel (plain 0x1000) no-tone ∷ []) 46 0 1 4 0;
+      is = Less;
+    }
     -- "equal rows compare by code values in storage order": a tall AA weighs as an AA
     ∷ record {
       first = one (0x1000 ∷ 0x102C ∷ []) (syllable 0x1000 no-medial (vowel-aa false) no-final no-tone ∷ []) 13 0 0 1 0;
@@ -86,6 +108,16 @@ pairs =
       is = Equal;
     }
     ∷ record { first = one (0x1025 ∷ 0x102E ∷ []) (bare 0x1026 ∷ []) 46 0 0 5 0; second = one (0x1026 ∷ []) (bare 0x1026 ∷ []) 46 0 0 5 0; is = Equal }
+    ∷ record {
+      first = one (0x1025 ∷ 0x1025 ∷ 0x103A ∷ []) (syllable 0x1025 no-medial no-vowel (plain 0x1009) no-tone ∷ []) 46 0 10 4 0;
+      second = one (0x1025 ∷ 0x1009 ∷ 0x103A ∷ []) (syllable 0x1025 no-medial no-vowel (plain 0x1009) no-tone ∷ []) 46 0 10 4 0;
+      is = Equal;
+    }
+    ∷ record {
+      first = one (0x1025 ∷ 0x1038 ∷ 0x102E ∷ []) (syllable 0x1026 no-medial no-vowel no-final visarga ∷ []) 46 0 0 5 2;
+      second = one (0x1026 ∷ 0x1038 ∷ []) (syllable 0x1026 no-medial no-vowel no-final visarga ∷ []) 46 0 0 5 2;
+      is = Equal;
+    }
     -- "1D00010000-0D00000000-2B001D0B00"
     ∷ record {
       first =

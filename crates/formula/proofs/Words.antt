@@ -140,16 +140,7 @@ stacked-sign =
       spell = (0x104E ∷ 0x1000 ∷ 0x103A ∷ []) ∷ (0x1000 ∷ []) ∷ [];
     }
 
--- what 1025 1025 103A and 1025 1038 102E are stored as
-abbrev pub plain-i : Example
-plain-i =
-    record {
-      word = 0x1025 ∷ 0x1009 ∷ 0x103A ∷ [];
-      row = syllable 0x1025 no-medial no-vowel (plain 0x1009) no-tone ∷ [];
-      weigh = (46 ∷ 0 ∷ 10 ∷ 4 ∷ 0 ∷ []) ∷ [];
-      spell = (0x1025 ∷ 0x1009 ∷ 0x103A ∷ []) ∷ [];
-    }
-
+-- what 1025 1038 102E is stored as
 abbrev pub toned-uu : Example
 toned-uu =
     record {
@@ -159,25 +150,35 @@ toned-uu =
       spell = (0x1026 ∷ 0x1038 ∷ []) ∷ [];
     }
 
--- one syllable of a letter and a plain final, with the weights of both
-abbrev with-plain : ℕ → ℕ → ℕ → ℕ → Example
-with-plain head final head-weight final-weight =
+-- one syllable of a head and a plain final, with the weights of both and the vowel weight of the head
+abbrev with-plain : ℕ → ℕ → ℕ → ℕ → ℕ → Example
+with-plain head final head-weight final-weight vowel-weight =
     record {
       word = head ∷ final ∷ 0x103A ∷ [];
       row = syllable head no-medial no-vowel (plain final) no-tone ∷ [];
-      weigh = (head-weight ∷ 0 ∷ final-weight ∷ 0 ∷ 0 ∷ []) ∷ [];
+      weigh = (head-weight ∷ 0 ∷ final-weight ∷ vowel-weight ∷ 0 ∷ []) ∷ [];
       spell = (head ∷ final ∷ 0x103A ∷ []) ∷ [];
     }
 
 -- the first syllable of `university`, with a plain final for the stacked one; that of `england`, for kinzi; and that of `great-sa-alone`
 abbrev pub plain-ka : Example
-plain-ka = with-plain 0x1010 0x1000 29 1
+plain-ka = with-plain 0x1010 0x1000 29 1 0
 
 abbrev pub plain-nga : Example
-plain-nga = with-plain 0x1021 0x1004 46 5
+plain-nga = with-plain 0x1021 0x1004 46 5 0
 
 abbrev pub plain-sa : Example
-plain-sa = with-plain 0x1015 0x101E 34 31
+plain-sa = with-plain 0x1015 0x101E 34 31 0
+
+-- the first syllable of `ukka` likewise, that of `aforementioned` without its tone, and what 1025 1025 103A is stored as
+abbrev pub plain-i : Example
+plain-i = with-plain 0x1025 0x1000 46 1 4
+
+abbrev pub plain-sign : Example
+plain-sign = with-plain 0x104E 0x1004 49 5 0
+
+abbrev pub nya-i : Example
+nya-i = with-plain 0x1025 0x1009 46 10 4
 
 -- the words of document 01 and the queries that find them, whose rows are rows of 01; 1000 1031 102C 103A is "one syllable"
 abbrev baseExamples : List Example
@@ -227,8 +228,10 @@ finalExamples =
     ∷ kinzi-i
     ∷ great-sa-i
     ∷ stacked-sign
-    ∷ plain-i
     ∷ toned-uu
+    ∷ plain-i
+    ∷ plain-sign
+    ∷ nya-i
     ∷ []
 
 -- the one table of worked words that are readable

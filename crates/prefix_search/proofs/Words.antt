@@ -13,7 +13,7 @@ use Rattle.formula.specs.Syllable.{carriesMarks, carriesFinal}
 use Rattle.formula.specs.Row.{Row, Gives}
 use Rattle.formula.specs.Weighing.{weightsOf}
 use Rattle.formula.proofs.Lists.{both-left, both-right, every, every-at, All, every-all}
-use Rattle.formula.proofs.Words.{Example, letter, closed, university, england, problem, great-sa-alone, plain-ka, plain-nga, plain-sa, isRight, right}
+use Rattle.formula.proofs.Words.{Example, letter, closed, university, england, problem, great-sa-alone, plain-ka, plain-nga, plain-sa, ukka, aforementioned, plain-i, plain-sign, isRight, right}
 use Rattle.rows.proofs.Viable.{only-row}
 use Rattle.weighing.specs.Prefix.{beginsWith}
 use Rattle.entries.specs.Entries.{Entry}
@@ -35,6 +35,9 @@ pairs =
     pair plain-ka university true
     ∷ pair plain-nga england true
     ∷ pair plain-sa great-sa-alone true
+    ∷ pair plain-i ukka true
+    -- the tone counts
+    ∷ pair plain-sign aforementioned false
     -- a word finds itself
     ∷ pair university university true
     -- the medial counts

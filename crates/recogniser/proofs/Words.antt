@@ -1,4 +1,4 @@
--- The starred words of document 01: the answer that the definitions give each word, its weights and its spelled syllables.
+-- The starred words of documents 01 and 02: the answer that the definitions give each word, its weights and its spelled syllables.
 -- Assumes nothing.
 use mathlib.Core.Path.{_≡_, refl, ap, sym, subst, _∙_}
 use mathlib.Core.Bool.{Bool, true, false, _&&_}
@@ -82,7 +82,7 @@ module _ (word : List ℕ) (a : Admissible word) where
           f b rest (omega (arith, inside))
           (subst (λ (n : ℕ). run (take n word) [] ≡ some b) (sym (add-one at)) (goes-on word at kept b inside e (ap (step kept) value ∙ s)))
 
--- what document 01 says of a word: its syllables' weights and spelled forms, or the number and place of its refusal
+-- what the documents say of a word: its syllables' weights and spelled forms, or the number and place of its refusal
 pub data Expected : Type 0 where
   readable : List (List ℕ) → List (List ℕ) → Expected
   refused : ℕ → ℕ → Expected
@@ -105,6 +105,24 @@ starred =
     ∷ (0x103F ∷ [], refused 3 0)
     ∷ (0x1000 ∷ 0x103B ∷ 0x103C ∷ [], refused 3 2)
     ∷ (0x1000 ∷ 0x102C ∷ 0x103A ∷ [], refused 3 2)
+    -- document 02, E2: an I or 104E carries no medial and no vowel mark, and 103F follows no tone
+    ∷ (0x1025 ∷ 0x103B ∷ [], refused 3 1)
+    ∷ (0x1025 ∷ 0x102C ∷ [], refused 3 1)
+    ∷ (0x104E ∷ 0x103E ∷ [], refused 3 1)
+    ∷ (0x104E ∷ 0x102D ∷ [], refused 3 1)
+    ∷ (0x1023 ∷ 0x1038 ∷ 0x103F ∷ [], refused 3 2)
+    -- a stacked final at the end waits for a letter; "An I or 104E after 1039 is still refused"
+    ∷ (0x1023 ∷ 0x1000 ∷ 0x1039 ∷ [], refused 4 3)
+    ∷ (0x1000 ∷ 0x1000 ∷ 0x1039 ∷ 0x1025 ∷ [], refused 3 3)
+    ∷ (0x1025 ∷ 0x1000 ∷ 0x1039 ∷ 0x104E ∷ [], refused 3 3)
+    -- "104E alone among the signs": 104C, 104D, 104F, N and P carry nothing
+    ∷ (0x104C ∷ 0x1000 ∷ 0x103A ∷ [], refused 3 2)
+    ∷ (0x104D ∷ 0x1038 ∷ [], refused 3 1)
+    ∷ (0x104F ∷ 0x103F ∷ [], refused 3 1)
+    ∷ (0x1040 ∷ 0x1000 ∷ 0x1039 ∷ [], refused 3 2)
+    ∷ (0x104A ∷ 0x1037 ∷ [], refused 3 1)
+    -- what 1025 103A is stored as
+    ∷ (0x1009 ∷ 0x103A ∷ [], refused 3 1)
     ∷ [])
 
 -- the row that was kept has these weights and spelled syllables
