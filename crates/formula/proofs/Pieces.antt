@@ -1,8 +1,10 @@
--- A test that passes at every vowel or medial group of the lists passes at any.
+-- A test that passes at every vowel or medial group of the lists passes at any; and the vowel and the group that are none.
 -- Assumes nothing.
+use mathlib.Core.Path.{_≡_, refl}
 use mathlib.Core.Bool.{Bool, true, false}
 use lib.Dec.{T}
-use Rattle.letters.specs.Marks.{neither, ya, ra, MedialGroup, group, medialGroups, Vowel, no-vowel, vowel-aa, vowel-i, vowel-ii, vowel-u, vowel-uu, vowel-e, vowel-ai, vowel-e-aa, vowel-e-aa-killer, vowel-am, vowel-i-u, vowel-u-am, vowels}
+use Rattle.letters.specs.Marks.{neither, ya, ra, MedialGroup, group, medialGroups, no-medial, Vowel, no-vowel, vowel-aa, vowel-i, vowel-ii, vowel-u, vowel-uu, vowel-e, vowel-ai, vowel-e-aa, vowel-e-aa-killer, vowel-am, vowel-i-u, vowel-u-am, vowels}
+use Rattle.formula.specs.Syllable.{isNoMedial, isNoVowel}
 use Rattle.formula.proofs.Lists.{every, every-all, All}
 
 -- a test that passes at every vowel of the list passes at any vowel
@@ -43,3 +45,14 @@ each-medial f t m = go (every-all f (λ (g : MedialGroup). T (f g)) (λ (g : Med
     go a (group neither true true) = a .1 .1 .1 .1 .1 .1 .1 .1 .1 .0
     go a (group ya true true) = a .1 .1 .1 .1 .1 .1 .1 .1 .1 .1 .0
     go a (group ra true true) = a .1 .1 .1 .1 .1 .1 .1 .1 .1 .1 .1 .0
+
+-- the tests for no medial and no vowel leave one
+pub no-medial-is : (m : MedialGroup) → T (isNoMedial m) → m ≡ no-medial
+no-medial-is (group neither false false) i = refl
+no-medial-is (group neither false true) i = absurd i
+no-medial-is (group neither true h) i = absurd i
+no-medial-is (group ya w h) i = absurd i
+no-medial-is (group ra w h) i = absurd i
+
+pub no-vowel-is : (v : Vowel) → T (isNoVowel v) → v ≡ no-vowel
+no-vowel-is no-vowel i = refl

@@ -3,8 +3,8 @@
 -- Assumes nothing.
 use mathlib.Core.Path.{_≡_}
 use mathlib.Core.Bool.{Bool, false, not, _&&_}
-use mathlib.Core.List.{List, [], _∷_, _++_}
-use Prim.Native.Nat.{ℕ}
+use mathlib.Core.List.{List, [], _∷_, _++_, map}
+use Prim.Native.Nat.{ℕ, _-_}
 use lib.Dec.{T}
 use lib.ListN.{replicate}
 use Rattle.letters.specs.Choice.{pick}
@@ -13,14 +13,16 @@ use Rattle.formula.specs.Limits.{limit}
 use Rattle.formula.specs.Syllable.{no-final, plain, stacked, kinzi, great-sa, syllable, bare, carriesMarks, carriesFinal}
 use Rattle.formula.specs.Row.{Row, isRowOf, isRowAfter, join, Gives}
 use Rattle.formula.specs.Base.{isBaseSyllable}
+use Rattle.formula.specs.Record.{recordOf}
 use Rattle.formula.specs.Spelled.{spelled}
 use Rattle.formula.specs.Weighing.{weightsOf, weights}
 use Rattle.formula.proofs.Lists.{both-left, both-right, every, All, every-all, sameList, sameLists, sameList-equal, sameLists-equal}
 
--- a word, the row that gives it, the row's weights and its spelled syllables
+-- a word, the row that gives it, the row's records, its weights and its spelled syllables
 pub record Example : Type 0 where
   pub word : List ℕ
   pub row : Row
+  pub records : List (List ℕ)
   pub weigh : List (List ℕ)
   pub spell : List (List ℕ)
 
@@ -30,6 +32,7 @@ letter =
     record {
       word = 0x1000 ∷ [];
       row = bare 0x1000 ∷ [];
+      records = (0x00 ∷ 0 ∷ 0 ∷ 0 ∷ 0 ∷ 0 ∷ 0 ∷ []) ∷ [];
       weigh = (13 ∷ 0 ∷ 0 ∷ 0 ∷ 0 ∷ []) ∷ [];
       spell = (0x1000 ∷ []) ∷ [];
     }
@@ -40,6 +43,7 @@ closed =
     record {
       word = 0x1000 ∷ 0x1014 ∷ 0x103A ∷ 0x1037 ∷ [];
       row = syllable 0x1000 no-medial no-vowel (plain 0x1014) dot ∷ [];
+      records = (0x00 ∷ 0 ∷ 0 ∷ 0 ∷ 21 ∷ 1 ∷ 1 ∷ []) ∷ [];
       weigh = (13 ∷ 0 ∷ 21 ∷ 0 ∷ 1 ∷ []) ∷ [];
       spell = (0x1000 ∷ 0x1014 ∷ 0x103A ∷ 0x1037 ∷ []) ∷ [];
     }
@@ -50,6 +54,7 @@ university =
     record {
       word = 0x1010 ∷ 0x1000 ∷ 0x1039 ∷ 0x1000 ∷ 0x101E ∷ 0x102D ∷ 0x102F ∷ 0x101C ∷ 0x103A ∷ [];
       row = syllable 0x1010 no-medial no-vowel (stacked 0x1000) no-tone ∷ bare 0x1000 ∷ syllable 0x101E no-medial vowel-i-u (plain 0x101C) no-tone ∷ [];
+      records = (0x10 ∷ 0 ∷ 0 ∷ 0 ∷ 1 ∷ 2 ∷ 0 ∷ []) ∷ (0x00 ∷ 0 ∷ 0 ∷ 0 ∷ 0 ∷ 0 ∷ 0 ∷ []) ∷ (0x1E ∷ 0 ∷ 11 ∷ 0 ∷ 29 ∷ 1 ∷ 0 ∷ []) ∷ [];
       weigh = (29 ∷ 0 ∷ 1 ∷ 0 ∷ 0 ∷ []) ∷ (13 ∷ 0 ∷ 0 ∷ 0 ∷ 0 ∷ []) ∷ (43 ∷ 0 ∷ 29 ∷ 11 ∷ 0 ∷ []) ∷ [];
       spell = (0x1010 ∷ 0x1000 ∷ 0x103A ∷ []) ∷ (0x1000 ∷ []) ∷ (0x101E ∷ 0x102D ∷ 0x102F ∷ 0x101C ∷ 0x103A ∷ []) ∷ [];
     }
@@ -60,6 +65,7 @@ england =
     record {
       word = 0x1021 ∷ 0x1004 ∷ 0x103A ∷ 0x1039 ∷ 0x1002 ∷ 0x101C ∷ 0x1014 ∷ 0x103A ∷ [];
       row = syllable 0x1021 no-medial no-vowel kinzi no-tone ∷ bare 0x1002 ∷ syllable 0x101C no-medial no-vowel (plain 0x1014) no-tone ∷ [];
+      records = (0x21 ∷ 0 ∷ 0 ∷ 0 ∷ 5 ∷ 2 ∷ 0 ∷ []) ∷ (0x02 ∷ 0 ∷ 0 ∷ 0 ∷ 0 ∷ 0 ∷ 0 ∷ []) ∷ (0x1C ∷ 0 ∷ 0 ∷ 0 ∷ 21 ∷ 1 ∷ 0 ∷ []) ∷ [];
       weigh = (46 ∷ 0 ∷ 5 ∷ 0 ∷ 0 ∷ []) ∷ (15 ∷ 0 ∷ 0 ∷ 0 ∷ 0 ∷ []) ∷ (41 ∷ 0 ∷ 21 ∷ 0 ∷ 0 ∷ []) ∷ [];
       spell = (0x1021 ∷ 0x1004 ∷ 0x103A ∷ []) ∷ (0x1002 ∷ []) ∷ (0x101C ∷ 0x1014 ∷ 0x103A ∷ []) ∷ [];
     }
@@ -70,6 +76,7 @@ problem =
     record {
       word = 0x1015 ∷ 0x103C ∷ 0x103F ∷ 0x1014 ∷ 0x102C ∷ [];
       row = syllable 0x1015 (group ra false false) no-vowel great-sa no-tone ∷ bare 0x101E ∷ syllable 0x1014 no-medial (vowel-aa false) no-final no-tone ∷ [];
+      records = (0x15 ∷ 2 ∷ 0 ∷ 0 ∷ 31 ∷ 3 ∷ 0 ∷ []) ∷ (0x1E ∷ 0 ∷ 0 ∷ 0 ∷ 0 ∷ 0 ∷ 0 ∷ []) ∷ (0x14 ∷ 0 ∷ 1 ∷ 0 ∷ 0 ∷ 0 ∷ 0 ∷ []) ∷ [];
       weigh = (34 ∷ 2 ∷ 31 ∷ 0 ∷ 0 ∷ []) ∷ (43 ∷ 0 ∷ 0 ∷ 0 ∷ 0 ∷ []) ∷ (33 ∷ 0 ∷ 0 ∷ 1 ∷ 0 ∷ []) ∷ [];
       spell = (0x1015 ∷ 0x103C ∷ 0x101E ∷ 0x103A ∷ []) ∷ (0x101E ∷ []) ∷ (0x1014 ∷ 0x102C ∷ []) ∷ [];
     }
@@ -80,6 +87,7 @@ great-sa-alone =
     record {
       word = 0x1015 ∷ 0x103F ∷ 0x1014 ∷ 0x102C ∷ [];
       row = syllable 0x1015 no-medial no-vowel great-sa no-tone ∷ bare 0x101E ∷ syllable 0x1014 no-medial (vowel-aa false) no-final no-tone ∷ [];
+      records = (0x15 ∷ 0 ∷ 0 ∷ 0 ∷ 31 ∷ 3 ∷ 0 ∷ []) ∷ (0x1E ∷ 0 ∷ 0 ∷ 0 ∷ 0 ∷ 0 ∷ 0 ∷ []) ∷ (0x14 ∷ 0 ∷ 1 ∷ 0 ∷ 0 ∷ 0 ∷ 0 ∷ []) ∷ [];
       weigh = (34 ∷ 0 ∷ 31 ∷ 0 ∷ 0 ∷ []) ∷ (43 ∷ 0 ∷ 0 ∷ 0 ∷ 0 ∷ []) ∷ (33 ∷ 0 ∷ 0 ∷ 1 ∷ 0 ∷ []) ∷ [];
       spell = (0x1015 ∷ 0x101E ∷ 0x103A ∷ []) ∷ (0x101E ∷ []) ∷ (0x1014 ∷ 0x102C ∷ []) ∷ [];
     }
@@ -90,6 +98,7 @@ ukka =
     record {
       word = 0x1025 ∷ 0x1000 ∷ 0x1039 ∷ 0x1000 ∷ [];
       row = syllable 0x1025 no-medial no-vowel (stacked 0x1000) no-tone ∷ bare 0x1000 ∷ [];
+      records = (0x25 ∷ 0 ∷ 0 ∷ 0 ∷ 1 ∷ 2 ∷ 0 ∷ []) ∷ (0x00 ∷ 0 ∷ 0 ∷ 0 ∷ 0 ∷ 0 ∷ 0 ∷ []) ∷ [];
       weigh = (46 ∷ 0 ∷ 1 ∷ 4 ∷ 0 ∷ []) ∷ (13 ∷ 0 ∷ 0 ∷ 0 ∷ 0 ∷ []) ∷ [];
       spell = (0x1025 ∷ 0x1000 ∷ 0x103A ∷ []) ∷ (0x1000 ∷ []) ∷ [];
     }
@@ -99,6 +108,7 @@ aforementioned =
     record {
       word = 0x104E ∷ 0x1004 ∷ 0x103A ∷ 0x1038 ∷ [];
       row = syllable 0x104E no-medial no-vowel (plain 0x1004) visarga ∷ [];
+      records = (0x4E ∷ 0 ∷ 0 ∷ 0 ∷ 5 ∷ 1 ∷ 2 ∷ []) ∷ [];
       weigh = (49 ∷ 0 ∷ 5 ∷ 0 ∷ 2 ∷ []) ∷ [];
       spell = (0x104E ∷ 0x1004 ∷ 0x103A ∷ 0x1038 ∷ []) ∷ [];
     }
@@ -109,6 +119,7 @@ toned-i =
     record {
       word = 0x1029 ∷ 0x1038 ∷ [];
       row = syllable 0x1029 no-medial no-vowel no-final visarga ∷ [];
+      records = (0x29 ∷ 0 ∷ 0 ∷ 0 ∷ 0 ∷ 0 ∷ 2 ∷ []) ∷ [];
       weigh = (46 ∷ 0 ∷ 0 ∷ 8 ∷ 2 ∷ []) ∷ [];
       spell = (0x1029 ∷ 0x1038 ∷ []) ∷ [];
     }
@@ -118,6 +129,7 @@ kinzi-i =
     record {
       word = 0x1023 ∷ 0x1004 ∷ 0x103A ∷ 0x1039 ∷ 0x1002 ∷ [];
       row = syllable 0x1023 no-medial no-vowel kinzi no-tone ∷ bare 0x1002 ∷ [];
+      records = (0x23 ∷ 0 ∷ 0 ∷ 0 ∷ 5 ∷ 2 ∷ 0 ∷ []) ∷ (0x02 ∷ 0 ∷ 0 ∷ 0 ∷ 0 ∷ 0 ∷ 0 ∷ []) ∷ [];
       weigh = (46 ∷ 0 ∷ 5 ∷ 2 ∷ 0 ∷ []) ∷ (15 ∷ 0 ∷ 0 ∷ 0 ∷ 0 ∷ []) ∷ [];
       spell = (0x1023 ∷ 0x1004 ∷ 0x103A ∷ []) ∷ (0x1002 ∷ []) ∷ [];
     }
@@ -127,6 +139,7 @@ great-sa-i =
     record {
       word = 0x1023 ∷ 0x103F ∷ [];
       row = syllable 0x1023 no-medial no-vowel great-sa no-tone ∷ bare 0x101E ∷ [];
+      records = (0x23 ∷ 0 ∷ 0 ∷ 0 ∷ 31 ∷ 3 ∷ 0 ∷ []) ∷ (0x1E ∷ 0 ∷ 0 ∷ 0 ∷ 0 ∷ 0 ∷ 0 ∷ []) ∷ [];
       weigh = (46 ∷ 0 ∷ 31 ∷ 2 ∷ 0 ∷ []) ∷ (43 ∷ 0 ∷ 0 ∷ 0 ∷ 0 ∷ []) ∷ [];
       spell = (0x1023 ∷ 0x101E ∷ 0x103A ∷ []) ∷ (0x101E ∷ []) ∷ [];
     }
@@ -136,6 +149,7 @@ stacked-sign =
     record {
       word = 0x104E ∷ 0x1000 ∷ 0x1039 ∷ 0x1000 ∷ [];
       row = syllable 0x104E no-medial no-vowel (stacked 0x1000) no-tone ∷ bare 0x1000 ∷ [];
+      records = (0x4E ∷ 0 ∷ 0 ∷ 0 ∷ 1 ∷ 2 ∷ 0 ∷ []) ∷ (0x00 ∷ 0 ∷ 0 ∷ 0 ∷ 0 ∷ 0 ∷ 0 ∷ []) ∷ [];
       weigh = (49 ∷ 0 ∷ 1 ∷ 0 ∷ 0 ∷ []) ∷ (13 ∷ 0 ∷ 0 ∷ 0 ∷ 0 ∷ []) ∷ [];
       spell = (0x104E ∷ 0x1000 ∷ 0x103A ∷ []) ∷ (0x1000 ∷ []) ∷ [];
     }
@@ -146,6 +160,7 @@ toned-uu =
     record {
       word = 0x1026 ∷ 0x1038 ∷ [];
       row = syllable 0x1026 no-medial no-vowel no-final visarga ∷ [];
+      records = (0x26 ∷ 0 ∷ 0 ∷ 0 ∷ 0 ∷ 0 ∷ 2 ∷ []) ∷ [];
       weigh = (46 ∷ 0 ∷ 0 ∷ 5 ∷ 2 ∷ []) ∷ [];
       spell = (0x1026 ∷ 0x1038 ∷ []) ∷ [];
     }
@@ -156,6 +171,7 @@ with-plain head final head-weight final-weight vowel-weight =
     record {
       word = head ∷ final ∷ 0x103A ∷ [];
       row = syllable head no-medial no-vowel (plain final) no-tone ∷ [];
+      records = ((head - 0x1000) ∷ 0 ∷ 0 ∷ 0 ∷ final-weight ∷ 1 ∷ 0 ∷ []) ∷ [];
       weigh = (head-weight ∷ 0 ∷ final-weight ∷ vowel-weight ∷ 0 ∷ []) ∷ [];
       spell = (head ∷ final ∷ 0x103A ∷ []) ∷ [];
     }
@@ -183,11 +199,12 @@ nya-i = with-plain 0x1025 0x1009 46 10 4
 -- the words of document 01 and the queries that find them, whose rows are rows of 01; 1000 1031 102C 103A is "one syllable"
 abbrev baseExamples : List Example
 baseExamples =
-    record { word = []; row = []; weigh = []; spell = [] }
+    record { word = []; row = []; records = []; weigh = []; spell = [] }
     ∷ letter
     ∷ record {
       word = 0x101E ∷ 0x1019 ∷ 0x102E ∷ 0x1038 ∷ [];
       row = bare 0x101E ∷ syllable 0x1019 no-medial vowel-ii no-final visarga ∷ [];
+      records = (0x1E ∷ 0 ∷ 0 ∷ 0 ∷ 0 ∷ 0 ∷ 0 ∷ []) ∷ (0x19 ∷ 0 ∷ 3 ∷ 0 ∷ 0 ∷ 0 ∷ 2 ∷ []) ∷ [];
       weigh = (43 ∷ 0 ∷ 0 ∷ 0 ∷ 0 ∷ []) ∷ (38 ∷ 0 ∷ 0 ∷ 3 ∷ 2 ∷ []) ∷ [];
       spell = (0x101E ∷ []) ∷ (0x1019 ∷ 0x102E ∷ 0x1038 ∷ []) ∷ [];
     }
@@ -197,6 +214,7 @@ baseExamples =
     ∷ record {
       word = 0x1000 ∷ 0x1031 ∷ 0x102C ∷ 0x103A ∷ [];
       row = syllable 0x1000 no-medial (vowel-e-aa-killer false) no-final no-tone ∷ [];
+      records = (0x00 ∷ 0 ∷ 9 ∷ 0 ∷ 0 ∷ 0 ∷ 0 ∷ []) ∷ [];
       weigh = (13 ∷ 0 ∷ 0 ∷ 9 ∷ 0 ∷ []) ∷ [];
       spell = (0x1000 ∷ 0x1031 ∷ 0x102C ∷ 0x103A ∷ []) ∷ [];
     }
@@ -204,12 +222,14 @@ baseExamples =
     ∷ record {
       word = 0x1026 ∷ [];
       row = bare 0x1026 ∷ [];
+      records = (0x26 ∷ 0 ∷ 0 ∷ 0 ∷ 0 ∷ 0 ∷ 0 ∷ []) ∷ [];
       weigh = (46 ∷ 0 ∷ 0 ∷ 5 ∷ 0 ∷ []) ∷ [];
       spell = (0x1026 ∷ []) ∷ [];
     }
     ∷ record {
       word = replicate limit 0x1000;
       row = replicate limit (bare 0x1000);
+      records = replicate limit (0x00 ∷ 0 ∷ 0 ∷ 0 ∷ 0 ∷ 0 ∷ 0 ∷ []);
       weigh = replicate limit (13 ∷ 0 ∷ 0 ∷ 0 ∷ 0 ∷ []);
       spell = replicate limit (0x1000 ∷ []);
     }
@@ -245,17 +265,21 @@ base-right : T (every isBase baseExamples && every (λ (e : Example). not (isBas
 unfolding isBaseSyllable
 base-right = tt
 
+abbrev hasForms : Example → Bool
+hasForms e =
+    sameLists (map recordOf (e .row)) (e .records) && (sameLists (weights (e .row)) (e .weigh) && sameLists (spelled (e .row)) (e .spell))
+
 abbrev pub isRight : Example → Bool
-isRight e =
-    isRowAfter no-final (e .row) && (sameList (join (e .row)) (e .word) && (sameLists (weights (e .row)) (e .weigh) && sameLists (spelled (e .row)) (e .spell)))
+isRight e = isRowAfter no-final (e .row) && (sameList (join (e .row)) (e .word) && hasForms e)
 
 examples-right : T (every isRight examples)
-unfolding weightsOf pick carriesMarks carriesFinal
+unfolding recordOf weightsOf pick carriesMarks carriesFinal
 examples-right = tt
 
 -- what the test says of each example
 pub record Right (e : Example) : Type 0 where
   pub gives : Gives (e .row) (e .word)
+  pub recorded : map recordOf (e .row) ≡ e .records
   pub weighs : weights (e .row) ≡ e .weigh
   pub spells : spelled (e .row) ≡ e .spell
 
@@ -263,16 +287,19 @@ pub right : (e : Example) → T (isRight e) → Right e
 right e t =
     let is = isRowAfter no-final (e .row) in
     let joins = sameList (join (e .row)) (e .word) in
+    let recorded = sameLists (map recordOf (e .row)) (e .records) in
     let weigh = sameLists (weights (e .row)) (e .weigh) in
     let spell = sameLists (spelled (e .row)) (e .spell) in
-    let after : T (joins && (weigh && spell)) = both-right is (joins && (weigh && spell)) t in
-    let last : T (weigh && spell) = both-right joins (weigh && spell) after in
+    let after : T (joins && hasForms e) = both-right is (joins && hasForms e) t in
+    let forms : T (hasForms e) = both-right joins (hasForms e) after in
+    let last : T (weigh && spell) = both-right recorded (weigh && spell) forms in
     record {
       gives =
           record {
-            is-row = both-left is (joins && (weigh && spell)) t;
-            joined = sameList-equal (join (e .row)) (e .word) (both-left joins (weigh && spell) after);
+            is-row = both-left is (joins && hasForms e) t;
+            joined = sameList-equal (join (e .row)) (e .word) (both-left joins (hasForms e) after);
           };
+      recorded = sameLists-equal (map recordOf (e .row)) (e .records) (both-left recorded (weigh && spell) forms);
       weighs = sameLists-equal (weights (e .row)) (e .weigh) (both-left weigh spell last);
       spells = sameLists-equal (spelled (e .row)) (e .spell) (both-right weigh spell last);
     }

@@ -10,12 +10,12 @@ use lib.ListN.{getD, set}
 use lib.Seq.{sets}
 use Rattle.letters.specs.Choice.{pick}
 use Rattle.letters.specs.Letters.{within, isConsonant}
-use Rattle.letters.specs.Marks.{MedialGroup, Vowel, no-vowel}
+use Rattle.letters.specs.Marks.{MedialGroup, Vowel}
 use Rattle.letters.specs.Weights.{isHead, headWeight, headWeighed, independentVowelWeight, independentVowelWeighed, medialSet, medialWeight, medialTable, vowelWeight, weightOr}
 use Rattle.letters.specs.declared.weight.Weighed.{Weighed}
 use Rattle.letters.specs.declared.weight.Weighed.the-variants.{Weight, Nothing}
 use Rattle.formula.proofs.Classes.{head-bounds}
-use Rattle.formula.proofs.Pieces.{each-medial}
+use Rattle.formula.proofs.Pieces.{each-medial, no-vowel-is}
 use Rattle.formula.specs.Syllable.{Final, no-final, plain, stacked, kinzi, great-sa, Syllable, syllable, carriesMarks, isNoMedial, isNoVowel, isSyllable}
 use Rattle.formula.specs.Record.{finalNumberOf}
 use Rattle.formula.specs.Packed.{packed}
@@ -43,9 +43,6 @@ final-weighs kinzi = refl
 final-weighs great-sa = refl
 
 -- an independent vowel is no consonant, so it carries no vowel
-no-vowel-weight : (v : Vowel) → T (isNoVowel v) → vowelWeight v ≡ 0
-no-vowel-weight no-vowel t = refl
-
 vowel-weighs : (h : ℕ) (v : Vowel) → T (carriesMarks h || isNoVowel v)
     → weightOr (independentVowelWeighed h) (vowelWeight v) ≡ independentVowelWeight h + vowelWeight v
 unfolding pick carriesMarks
@@ -54,7 +51,7 @@ vowel-weighs h v marks = go (within 0x1023 0x1027 h) (within 0x1029 0x102A h) (l
     none : 0x1023 ≤ h → vowelWeight v ≡ 0
     none l =
         either (vowelWeight v ≡ 0) (isConsonant h) (isNoVowel v) (λ t. let k = high 0x1000 0x1021 h t in let z : ⊥ = omega arith in absurd z)
-        (no-vowel-weight v) marks
+        (λ t. ap vowelWeight (no-vowel-is v t)) marks
 
     go : (early late : Bool) → (T early → 0x1023 ≤ h) → (T late → 0x1029 ≤ h)
         → weightOr (pick (early || late) (Weight (pick early (h - 0x1023 + 2) (pick late (h - 0x1029 + 8) 0))) Nothing) (vowelWeight v)

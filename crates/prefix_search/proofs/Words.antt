@@ -11,6 +11,7 @@ use Rattle.letters.proofs.Tests.{same, same-equal}
 use Rattle.formula.specs.Limits.{limit}
 use Rattle.formula.specs.Syllable.{carriesMarks, carriesFinal}
 use Rattle.formula.specs.Row.{Row, Gives}
+use Rattle.formula.specs.Record.{recordOf}
 use Rattle.formula.specs.Weighing.{weightsOf}
 use Rattle.formula.proofs.Lists.{both-left, both-right, every, every-at, All, every-all}
 use Rattle.formula.proofs.Words.{Example, letter, closed, university, england, problem, great-sa-alone, plain-ka, plain-nga, plain-sa, ukka, aforementioned, plain-i, plain-sign, isRight, right}
@@ -55,7 +56,7 @@ abbrev isPair : Pair → Bool
 isPair p = isReadable (p .query) && (isReadable (p .word) && same (beginsWith (p .word .row) (p .query .row)) (p .found))
 
 pairs-right : T (every isPair pairs)
-unfolding pairs weightsOf pick carriesMarks carriesFinal
+unfolding pairs recordOf weightsOf pick carriesMarks carriesFinal
 pairs-right = tt
 
 module _ (e : Example) (t : T (isReadable e)) where

@@ -4,3 +4,4 @@ pub mod Viable
 pub mod Begin
 pub mod Admitted
 pub mod Base
+pub mod Heads

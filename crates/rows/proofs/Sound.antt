@@ -7,39 +7,24 @@ use mathlib.Core.Option.{Option, none, some}
 use Prim.Native.Nat.{ℕ}
 use lib.Dec.{T, eqb, eqb→eq}
 use Rattle.letters.specs.Letters.{kindOf}
-use Rattle.letters.specs.Marks.{MedialGroup, group, neither, ya, ra, medialGroups, no-medial, medialText, Vowel, no-vowel, vowel-aa, vowel-i, vowel-ii, vowel-u, vowel-uu, vowel-e, vowel-ai, vowel-e-aa, vowel-e-aa-killer, vowel-am, vowel-i-u, vowel-u-am, vowels, vowelText, ToneMark, no-tone, dot, visarga, toneMarks, toneText}
+use Rattle.letters.specs.Marks.{MedialGroup, group, neither, medialGroups, no-medial, medialText, Vowel, no-vowel, vowels, vowelText, ToneMark, no-tone, dot, visarga, toneMarks, toneText}
 use Rattle.letters.specs.Weights.{isHead, isFinalLetter}
 use Rattle.letters.specs.declared.kind.Kind.{Kind}
 use Rattle.letters.specs.declared.kind.Kind.the-variants.{Consonant, IndependentVowel, Medial, VowelMark, Tone, Killer, Stacker, GreatSa, Digit, Stop, Sign, Foreign}
 use Rattle.formula.proofs.Classes.{inClass, kind-class, head-of}
 use Rattle.letters.proofs.Tests.{or-left, or-right, or-false}
 use Rattle.formula.proofs.Lists.{both, both-left, both-right, sameList, sameList-equal}
+use Rattle.formula.proofs.Pieces.{no-medial-is, no-vowel-is}
 use Rattle.formula.specs.Syllable.{Final, no-final, plain, stacked, kinzi, great-sa, Syllable, syllable, bare, headOf, finalOf, carriesMarks, carriesFinal, isNoMedial, isNoVowel, isNoFinal, isNoTone, isClosed, isFinal, takesTone, isSyllable, follows, finalText, headText, part}
 use Rattle.formula.specs.Row.{Row, isRowAfter, IsRow, joinAfter, join, Gives}
 use Rattle.rows.specs.Machine.{firstOf, writtenAs, medialAnd, vowelAnd, toneOf, when, onto, endOf, KeptOk, keptJoin, isNotGreatSa, isOpen, isBare, admits, stepHead, stepMedial, stepVowel, stepTone, stepGreatSa, close, killed, stepKiller, stacks, stepStacker, act, step, andThen, run}
 
 -- absent pieces are written with nothing
 pub no-medial-text : (m : MedialGroup) → T (isNoMedial m) → medialText m ≡ []
-no-medial-text (group neither false false) t = refl
-no-medial-text (group neither false true) t = absurd t
-no-medial-text (group neither true h) t = absurd t
-no-medial-text (group ya w h) t = absurd t
-no-medial-text (group ra w h) t = absurd t
+no-medial-text m t = ap medialText (no-medial-is m t)
 
 pub no-vowel-text : (v : Vowel) → T (isNoVowel v) → vowelText v ≡ []
-no-vowel-text no-vowel t = refl
-no-vowel-text (vowel-aa tall) t = absurd t
-no-vowel-text vowel-i t = absurd t
-no-vowel-text vowel-ii t = absurd t
-no-vowel-text vowel-u t = absurd t
-no-vowel-text vowel-uu t = absurd t
-no-vowel-text vowel-e t = absurd t
-no-vowel-text vowel-ai t = absurd t
-no-vowel-text (vowel-e-aa tall) t = absurd t
-no-vowel-text (vowel-e-aa-killer tall) t = absurd t
-no-vowel-text vowel-am t = absurd t
-no-vowel-text vowel-i-u t = absurd t
-no-vowel-text vowel-u-am t = absurd t
+no-vowel-text v t = ap vowelText (no-vowel-is v t)
 
 pub no-final-text : (f : Final) → T (isNoFinal f) → finalText f ≡ []
 no-final-text no-final t = refl
