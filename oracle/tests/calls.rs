@@ -1,5 +1,7 @@
 //! The calls hold what their names say, and are small enough.
 
+mod markless;
+
 use oracle::calls::{all, checksum, Play};
 use std::collections::BTreeSet;
 use std::sync::LazyLock;
@@ -31,6 +33,26 @@ fn every_answer_occurs() {
     numbers("rank", &[11, 15]);
     numbers("order", &[11, 5]);
     numbers("word", &[11, 5]);
+}
+
+/// The words of the calls with this letter, which have a number behind the word.
+fn words_of(letter: char) -> impl Iterator<Item = Vec<u16>> {
+    let words = CALLS.input.lines().filter(move |line| line.ends_with(letter));
+    let words = words.filter_map(|line| line.rsplit_once(' ')).map(|(values, _)| values);
+    words.map(|values| {
+        values.split(' ').map(|value| u16::from_str_radix(value, 16).unwrap()).collect()
+    })
+}
+
+#[test]
+fn independent_letters_are_added_and_searched_for_with_every_kind_of_final() {
+    let added = markless::kinds_in(words_of('a'));
+    assert_eq!(added, markless::kinds());
+    let ends = |kinds: BTreeSet<markless::Kind>| -> BTreeSet<(u8, bool)> {
+        kinds.into_iter().map(|(_, link, tone)| (link, tone)).collect()
+    };
+    let searched = markless::kinds_in(words_of('b'));
+    assert_eq!(ends(searched), ends(markless::kinds()));
 }
 
 /// 2 · 16,777,619 + 3, and that times 16,777,619 without what passes 32 bits.

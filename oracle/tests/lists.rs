@@ -1,9 +1,9 @@
 //! The word lists hold what their names say, and are small enough.
 
+mod markless;
+
 use oracle::lists::{all, random_row, row_of_length, shuffle_runs, List};
 use oracle::random::Random;
-use oracle::reading::Syllable;
-use oracle::storage::store;
 use oracle::{compare, decode, normalise, read};
 use std::cmp::Ordering;
 use std::collections::BTreeSet;
@@ -87,31 +87,12 @@ fn every_weight_occurs() {
     assert!(tone.into_iter().eq(0..=2));
 }
 
-/// A syllable of such a head: the head, the link of its final, and whether it has a tone.
-type Closed = (u16, u8, bool);
-
-/// The syllables of the readable words of a list whose heads take no medial and no vowel
-/// mark, but a final and a tone.
-fn markless_syllables(list: &List) -> BTreeSet<Closed> {
-    let mut seen = BTreeSet::new();
-    for line in list.input.split(|&byte| byte == b'\n') {
-        let Ok(stored) = decode(line).and_then(|word| store(&word)) else { continue };
-        for Syllable { record: [head, _, _, _, _, link, tone], .. } in stored.reading.syllables() {
-            seen.insert((0x1000 + u16::from(*head), *link, *tone > 0));
-        }
-    }
-    seen.retain(|(head, ..)| matches!(head, 0x1023..=0x102A | 0x104E));
-    seen
-}
-
 #[test]
 fn independent_letters_come_with_every_kind_of_final_and_with_tones() {
-    let heads = [0x1023, 0x1024, 0x1025, 0x1026, 0x1027, 0x1029, 0x102A, 0x104E];
-    let kinds = [(0, false), (0, true), (1, false), (1, true), (2, false), (3, false)];
-    let all = heads.iter().flat_map(|&head| kinds.map(|(link, tone)| (head, link, tone)));
-    let all: BTreeSet<Closed> = all.collect();
     for name in ["products", "valid", "shuffled"] {
-        assert_eq!(markless_syllables(list(name)), all, "{name}");
+        let lines = list(name).input.split(|&byte| byte == b'\n');
+        let words = lines.filter_map(|line| decode(line).ok()).map(|word| word.to_vec());
+        assert_eq!(markless::kinds_in(words), markless::kinds(), "{name}");
     }
 }
 

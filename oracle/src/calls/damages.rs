@@ -103,6 +103,7 @@ fn hand_made() -> Vec<Vec<u8>> {
         two(&ka, &removed_ka),
         two(&removed_ka, &ka),
         two(&removed_ka, &removed_ka),
+        record(b"MW", 3, &[0x25, 0x00, 0x3A]),
         // Equal live words; of three, the second is the first that is wrong.
         two(&ka, &ka),
         two(&two(&ka, &ka), &ka),
@@ -147,6 +148,7 @@ fn hand_made() -> Vec<Vec<u8>> {
         record(b"MW", 3, &[0x00, 0x25, 0x3A]),
         record(b"MW", 4, &[0x00, 0x25, 0x39, 0x05]),
         record(b"MW", 3, &[0x00, 0x2C, 0x31]),
+        record(b"M-", 2, &[0x4C, 0x38]),
         // Stray bytes.
         two(&ka, b"\0\x01"),
         two(&ka, b"\0\0\0M"),

@@ -8,7 +8,7 @@ use crate::word::WORD_LIMIT;
 /// Books of some words, some of them removed: the order with every room that is near
 /// enough, and every byte asked for as a start.
 pub fn listings(play: &mut Play, random: &mut Random) {
-    for round in 0..8 {
+    for round in 0..7 {
         let size = random.between(40, 120);
         play.new_book(size);
         let _ = play.order(0);

@@ -6,7 +6,7 @@ use crate::random::Random;
 
 /// Words in word order, of which neighbours have the same weights, begin with one
 /// another, or differ in the last weight alone.
-const CLOSE: [&[u16]; 22] = [
+const CLOSE: [&[u16]; 27] = [
     &[0x104A],
     &[0x1040],
     &[0x1000],
@@ -27,7 +27,12 @@ const CLOSE: [&[u16]; 22] = [
     &[0x1021],
     &[0x1021, 0x102D],
     &[0x1023],
+    &[0x1023, 0x1038],
     &[0x1026],
+    &[0x1021, 0x102D, 0x1000, 0x103A],
+    &[0x1023, 0x1000, 0x103A],
+    &[0x104E],
+    &[0x104E, 0x1037],
     &[0x104F],
 ];
 

@@ -25,9 +25,11 @@ pub fn turns(play: &mut Play, random: &mut Random) {
 
 /// One word in many spellings: it is there once.
 pub fn spellings(play: &mut Play, random: &mut Random) {
-    let words: [&[u16]; 8] = [
+    let words: [&[u16]; 10] = [
         &[0x1000, 0x1014, 0x103A, 0x1037],
         &[0x1026],
+        &[0x1026, 0x1038],
+        &[0x1025, 0x1009, 0x103A],
         &[0x1000, 0x1009, 0x103A],
         &[0x1015, 0x1009, 0x1039, 0x1005, 0x1019],
         &[0x1000, 0x103B, 0x103D, 0x103E, 0x1031, 0x102C, 0x103A, 0x1038],
