@@ -2,6 +2,7 @@
 
 use crate::call::Call;
 use crate::case::Case;
+use oracle::word::WORD_LIMIT;
 use std::iter::{once, successors};
 use std::ops::Range;
 
@@ -44,10 +45,12 @@ fn book(case: &Case) -> &[u8] {
     }
 }
 
-/// Cases of as long lists, one item of which is simpler.
+/// Cases of lists that are no longer, one item of which is simpler, or in which the word is stored as
+/// it is.
 fn simpler_cases(case: &Case) -> impl Iterator<Item = Case> + '_ {
     simpler(&case.bytes, 0)
         .map(|bytes| Case { bytes, ..case.clone() })
+        .chain(with_stored_word(case))
         .chain(with_simpler_words(case))
         .chain(simpler(&case.word, 0x1000).map(|word| Case { word, ..case.clone() }))
         .chain(simpler(&case.second, 0x1000).map(|second| Case { second, ..case.clone() }))
@@ -130,37 +133,76 @@ fn letters(case: &Case) -> Vec<Vec<u8>> {
     once(word.iter().map(|&value| value as u8).collect()).chain(records).collect()
 }
 
-/// Cases with a stretch less in every word that has the same values there, so that what fits may still
-/// fit.
+/// Where letters stand in words: so many before them, or so many behind them.
+#[derive(Clone, Copy)]
+enum Place {
+    FromFront(usize),
+    FromEnd(usize),
+}
+
+impl Place {
+    /// The stretch of so many letters at this place of a word, if it is that long.
+    fn stretch(self, letters: usize, word: usize) -> Option<Range<usize>> {
+        let start = match self {
+            Place::FromFront(before) => before,
+            Place::FromEnd(behind) => word.checked_sub(behind + letters)?,
+        };
+        (start + letters <= word).then_some(start..start + letters)
+    }
+}
+
+/// Cases with a stretch less in every word that has the same values there, counted from its front or
+/// from its end, so that what fits may still fit.
 fn with_shorter_words(case: &Case) -> impl Iterator<Item = Case> + '_ {
     letters(case).into_iter().flat_map(move |letters| {
         let length = letters.len();
         let all =
             (0..length).flat_map(move |start| (start + 1..=length).map(move |end| start..end));
-        all.map(move |stretch| replaced(case, stretch.start, &letters[stretch], None))
+        all.flat_map(move |stretch| {
+            let places = [Place::FromFront(stretch.start), Place::FromEnd(length - stretch.end)];
+            places.map(|place| replaced(case, place, &letters[stretch.clone()], None))
+        })
     })
 }
 
-/// Cases with one value made the simplest in every word that has the same value there.
+/// Cases with one value made simpler in every word that has the same value there: the simplest, or
+/// what mostly weighs the same, AA for tall AA and a killer for a stacker.
 fn with_simpler_words(case: &Case) -> impl Iterator<Item = Case> + '_ {
+    const SIMPLER: [(u8, u8); 2] = [(0x2B, 0x2C), (0x39, 0x3A)];
     letters(case).into_iter().flat_map(move |letters| {
-        let places = (0..letters.len()).filter(|&place| letters[place] != 0).collect::<Vec<_>>();
-        places.into_iter().map(move |place| replaced(case, place, &[letters[place]], Some(0)))
+        let simplest = letters.clone().into_iter().enumerate().filter(|&(_, letter)| letter != 0);
+        let simplest = simplest.map(|(place, letter)| (place, letter, 0));
+        let simpler = letters.into_iter().enumerate().flat_map(|(place, letter)| {
+            let fitting = SIMPLER.into_iter().filter(move |&(from, _)| from == letter);
+            fitting.map(move |(from, to)| (place, from, to))
+        });
+        let all = simplest.chain(simpler);
+        all.map(|(place, from, to)| replaced(case, Place::FromFront(place), &[from], Some(to)))
     })
+}
+
+/// The case with the word of a book as it is stored, where it is typed otherwise.
+fn with_stored_word(case: &Case) -> Option<Case> {
+    let mut stored = [0; WORD_LIMIT];
+    let count = oracle::stored_form(&case.word, &mut stored).ok()?;
+    let word = stored[..count].to_vec();
+    (word != case.word && !book(case).is_empty()).then(|| Case { word, ..case.clone() })
 }
 
 /// The case with other letters in every word that has these at the place.
-fn replaced(case: &Case, place: usize, letters: &[u8], by: Option<u8>) -> Case {
+fn replaced(case: &Case, place: Place, letters: &[u8], by: Option<u8>) -> Case {
     let mut smaller = case.clone();
-    let stretch = place..place + letters.len();
-    let word = case.word.get(stretch.clone());
-    if word.is_some_and(|word| word.iter().map(|&value| value as u8).eq(letters.iter().copied())) {
-        smaller.word.splice(stretch.clone(), by.map(|letter| 0x1000 + u16::from(letter)));
+    let same = |word: &[u8]| {
+        let stretch = place.stretch(letters.len(), word.len())?;
+        (word[stretch.clone()] == *letters).then_some(stretch)
+    };
+    if let Some(stretch) = same(&case.word.iter().map(|&value| value as u8).collect::<Vec<_>>()) {
+        smaller.word.splice(stretch, by.map(|letter| 0x1000 + u16::from(letter)));
     }
     // The last record first, so that those before it stay where they are.
     for record in records(book(case)).into_iter().rev() {
         let first = record.start + 7;
-        if case.bytes[first..record.end].get(stretch.clone()) == Some(letters) {
+        if let Some(stretch) = same(&case.bytes[first..record.end]) {
             smaller.bytes.splice(first + stretch.start..first + stretch.end, by);
             smaller.bytes[record.start + 2] -= (letters.len() - by.iter().len()) as u8;
         }

@@ -227,7 +227,8 @@ fn equal_weights_in_exchanged_order_are_found() {
         }
     });
     assert_eq!(found.case.numbers, [2, 0]);
-    assert!(found.case.bytes.len() <= 20, "{}", found.case);
+    // At most a final that is written in two ways: 1000 1000 103A 1000 and 1000 1000 1039 1000.
+    assert!(found.case.bytes.len() <= 22, "{}", found.case);
 }
 
 #[test]
