@@ -189,7 +189,7 @@ fn words_come_in_every_length() {
 #[test]
 fn outputs_come_in_every_length_from_none_to_enough() {
     const LONGEST: usize = 6;
-    let (rooms, rooms_for_keys) = rooms(3 * INPUTS);
+    let (rooms, rooms_for_keys) = rooms(4 * INPUTS);
     let of_values = [Call::Spell, Call::Write, Call::Normalise, Call::StoredForm, Call::Decode];
     let of_books = [Call::BookFindPrefix, Call::BookOrder, Call::BookWord];
     for call in of_values.into_iter().chain(of_books) {

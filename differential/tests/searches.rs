@@ -33,6 +33,21 @@ fn words_are_found_in_every_way() {
                 words.windows(2).any(keys)
             })
         }),
+        ("an independent vowel with a final by a mark of 1021", |case, outcome| {
+            found(case, outcome).is_some_and(|(query, words)| {
+                let first = |word: &[u16]| oracle::record(word, 0).record;
+                first(&query)[0] == 0x21
+                    && first(&query)[4] > 0
+                    && words.iter().any(|word| matches!(first(word)[0], 0x23..=0x2A))
+            })
+        }),
+        ("a mark of 1021 by an independent vowel with a final", |case, outcome| {
+            found(case, outcome).is_some_and(|(query, words)| {
+                let first = |word: &[u16]| oracle::record(word, 0).record;
+                matches!(first(&query), [0x23..=0x2A, _, _, _, 1..=33, ..])
+                    && words.iter().any(|word| first(word)[0] == 0x21)
+            })
+        }),
         ("a query typed otherwise", |case, outcome| {
             found(case, outcome)
                 .is_some_and(|(query, words)| query != case.word && !words.is_empty())

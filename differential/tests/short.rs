@@ -3,9 +3,16 @@
 use differential::{difference, Call, Case, Proved, Reference};
 
 /// One value or more of each kind: those that the rules name, and one of the others.
-const REPRESENTATIVES: [u16; 24] = [
-    0x1000, 0x1004, 0x1009, 0x101E, 0x1021, 0x1025, 0x1040, 0x104A, 0x104C, 0x102B, 0x102C, 0x102D,
-    0x102E, 0x102F, 0x1031, 0x1036, 0x1037, 0x1038, 0x1039, 0x103A, 0x103B, 0x103C, 0x103D, 0x103F,
+const REPRESENTATIVES: [u16; 26] = [
+    0x1000, 0x1004, 0x1009, 0x101E, 0x1021, 0x1023, 0x1025, 0x1040, 0x104A, 0x104C, 0x104E, 0x102B,
+    0x102C, 0x102D, 0x102E, 0x102F, 0x1031, 0x1036, 0x1037, 0x1038, 0x1039, 0x103A, 0x103B, 0x103C,
+    0x103D, 0x103F,
+];
+
+/// What finals are made of, a tone, a medial and a vowel mark, and a head of each kind: it carries all
+/// of them, finals and tones alone, or nothing.
+const MADE_INTO_FINALS: [u16; 12] = [
+    0x1000, 0x1004, 0x1009, 0x1025, 0x104C, 0x104E, 0x102E, 0x1038, 0x1039, 0x103A, 0x103B, 0x103F,
 ];
 
 /// Tries each word of so many of the values, with room for whatever is written.
@@ -59,6 +66,14 @@ fn every_word_of_four_representatives() {
     try_all(&REPRESENTATIVES, 4, Call::StoredForm);
 }
 
+/// The shortest word with kinzi has five values.
+#[test]
+fn every_word_of_five_values_that_are_made_into_finals() {
+    for call in [Call::Syllables, Call::Spell, Call::Key] {
+        try_all(&MADE_INTO_FINALS, 5, call);
+    }
+}
+
 #[test]
 fn every_place_of_every_word_of_up_to_three_values() {
     for place in 0..=3 {
@@ -69,7 +84,7 @@ fn every_place_of_every_word_of_up_to_three_values() {
 }
 
 /// Words that begin alike in one way or another; each third one is removed.
-const BOOKED: [&[u16]; 24] = [
+const BOOKED: [&[u16]; 32] = [
     &[0x1000],
     &[0x1000, 0x1000],
     &[0x1000, 0x1000, 0x1000],
@@ -91,9 +106,17 @@ const BOOKED: [&[u16]; 24] = [
     &[0x101E, 0x102D, 0x102F],
     &[0x1021, 0x102D],
     &[0x1023],
+    &[0x1023, 0x1038],
+    &[0x1023, 0x103F],
     &[0x1025, 0x104C],
+    &[0x1025, 0x1000, 0x103A],
+    &[0x1025, 0x1000, 0x1039, 0x1000],
+    &[0x1025, 0x1004, 0x103A, 0x1039, 0x1000],
+    &[0x1021, 0x102F, 0x1000, 0x103A],
     &[0x1026],
     &[0x1040, 0x1040],
+    &[0x104E],
+    &[0x104E, 0x1038],
 ];
 
 fn booked() -> Vec<u8> {

@@ -9,7 +9,7 @@ mod products;
 use crate::random::Random;
 use crate::wordlist;
 
-pub use changes::shuffle_runs;
+pub use changes::{shuffle_runs, WITH_LETTER_U};
 pub use picked_rows::{random_row, row_of_length, RowUnderWay};
 
 /// One list: an input of `wordlist`.

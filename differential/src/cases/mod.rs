@@ -114,11 +114,11 @@ impl Cases {
 
 /// A room from none to more than enough.
 fn near(random: &mut Random, needed: usize) -> usize {
-    match random.below(12) {
+    match random.below(13) {
         0..4 => needed,
         4 => needed.saturating_sub(1),
-        5 => needed + random.pick(&[1, 1, 2, 5]),
-        6 => 0,
+        5..7 => needed + random.pick(&[1, 1, 2, 5]),
+        7 => 0,
         _ => random.below(needed + 1),
     }
 }

@@ -1,5 +1,6 @@
 //! Records for the writer: of rows, of rows that were changed, and bytes by chance.
 
+use oracle::letters::{admitted_values, carries_marks, is_head};
 use oracle::lists::{random_row, row_of_length};
 use oracle::random::Random;
 use oracle::word::WORD_LIMIT;
@@ -10,8 +11,9 @@ pub fn records(random: &mut Random) -> Vec<u8> {
         0 => any_bytes(random),
         1 => small_bytes(random),
         2 => one_syllable(random),
-        3..6 => row_about_the_limit(random),
-        6..13 => {
+        3 => markless(random),
+        4..7 => row_about_the_limit(random),
+        7..14 => {
             let mut bytes = row(random);
             for _ in 0..random.pick(&[1, 1, 2]) {
                 damage(random, &mut bytes);
@@ -31,6 +33,18 @@ fn row(random: &mut Random) -> Vec<u8> {
 fn row_about_the_limit(random: &mut Random) -> Vec<u8> {
     let length = random.between(WORD_LIMIT - 2, WORD_LIMIT + 2);
     row_of_length(random, length).records.concat()
+}
+
+/// The records of a syllable, of which the head is one that takes no medial and no vowel mark: it
+/// may or may not carry what stands behind it.
+fn markless(random: &mut Random) -> Vec<u8> {
+    let mut records = random_row(random, 1).records;
+    let heads = admitted_values().filter(|&value| is_head(value) && !carries_marks(value));
+    records[0][0] = (random.pick(&heads.collect::<Vec<u16>>()) - 0x1000) as u8;
+    if random.chance(60) {
+        records[0][1..4].fill(0);
+    }
+    records.concat()
 }
 
 fn any_bytes(random: &mut Random) -> Vec<u8> {

@@ -28,7 +28,7 @@ pub struct Shelf {
 }
 
 /// One of so many books is of the longest kind, and full or nearly so.
-const LONGEST_ONE_OF: usize = 150;
+const LONGEST_ONE_OF: usize = 75;
 
 impl Shelf {
     /// A book without bytes.

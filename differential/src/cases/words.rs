@@ -1,8 +1,8 @@
 //! Words: valid ones, damaged ones, and values by chance.
 
 use oracle::formula::writings;
-use oracle::letters::admitted_values;
-use oracle::lists::{random_row, row_of_length, shuffle_runs};
+use oracle::letters::{admitted_values, class_of, Class};
+use oracle::lists::{random_row, row_of_length, shuffle_runs, WITH_LETTER_U};
 use oracle::random::Random;
 use oracle::syllable::Piece;
 use oracle::word::WORD_LIMIT;
@@ -14,11 +14,12 @@ static ADMITTED: LazyLock<Vec<u16>> = LazyLock::new(|| admitted_values().collect
 pub fn word(random: &mut Random) -> Vec<u16> {
     match random.below(100) {
         0..2 => Vec::new(),
-        2..24 => valid(random),
-        24..28 => long(random),
-        28..33 => at_the_limit(random),
-        33..45 => shuffled(random),
-        45..65 => damaged(random),
+        2..22 => valid(random),
+        22..26 => long(random),
+        26..31 => at_the_limit(random),
+        31..43 => shuffled(random),
+        43..61 => damaged(random),
+        61..65 => markless(random),
         65..72 => beginning(random),
         72..76 => doubled(random),
         76..82 => letter_u(random),
@@ -121,6 +122,7 @@ fn any_admitted(random: &mut Random) -> u16 {
         random.pick(&[
             0x102B, 0x102C, 0x102D, 0x102E, 0x102F, 0x1030, 0x1031, 0x1032, 0x1036, 0x1037, 0x1038,
             0x1039, 0x103A, 0x103B, 0x103C, 0x103D, 0x103E, 0x103F, 0x1004, 0x101E, 0x1021, 0x1025,
+            0x104E,
         ])
     }
 }
@@ -144,22 +146,8 @@ fn doubled(random: &mut Random) -> Vec<u16> {
 
 /// A word with 1025 before what changes it, or before what only comes near.
 fn letter_u(random: &mut Random) -> Vec<u16> {
-    let middles: [&[u16]; 12] = [
-        &[0x1025, 0x102E],
-        &[0x1000, 0x1025, 0x103A],
-        &[0x1000, 0x1025, 0x1039, 0x1005],
-        &[0x1000, 0x1025, 0x1037, 0x103A],
-        &[0x1000, 0x1025, 0x103A, 0x1039, 0x1005],
-        &[0x1000, 0x1025, 0x1039],
-        &[0x1025],
-        &[0x1025, 0x1025, 0x102E],
-        &[0x1025, 0x102E, 0x102E],
-        &[0x1025, 0x1038, 0x102E],
-        &[0x1025, 0x1031, 0x102E],
-        &[0x1025, 0x103F],
-    ];
     let mut word = if random.chance(50) { valid(random) } else { Vec::new() };
-    word.extend(random.pick(&middles));
+    word.extend(random.pick(&WITH_LETTER_U));
     if random.chance(30) {
         word.push(any_admitted(random));
     }
@@ -172,12 +160,52 @@ fn letter_u(random: &mut Random) -> Vec<u16> {
     word
 }
 
+/// A head that takes no medial and no vowel mark, with what a syllable can have behind it, which
+/// it may or may not carry; sometimes under a final that asks for a letter.
+fn markless(random: &mut Random) -> Vec<u16> {
+    let asking: [&[u16]; 2] = [&[0x1000, 0x1000, 0x1039], &[0x1000, 0x1004, 0x103A, 0x1039]];
+    let mut word = match random.below(10) {
+        0 => random.pick(&asking).to_vec(),
+        1..5 => valid(random),
+        _ => Vec::new(),
+    };
+    let of_class = |class| ADMITTED.iter().copied().filter(move |&it| class_of(it) == Some(class));
+    let class = random.pick(&[
+        Class::IndependentVowel,
+        Class::IndependentVowel,
+        Class::Sign,
+        Class::Sign,
+        Class::Digit,
+        Class::Stop,
+    ]);
+    word.push(random.pick(&of_class(class).collect::<Vec<u16>>()));
+    let behind =
+        [(Piece::MedialGroup, 15), (Piece::Vowel, 15), (Piece::Final, 70), (Piece::Tone, 50)];
+    for (piece, percent) in behind {
+        if random.chance(percent) {
+            word.extend(any_writing(random, piece));
+        }
+    }
+    match random.below(4) {
+        0 => word.push(0x103F),
+        1 => word.extend(valid(random)),
+        2 => shuffle_runs(random, &mut word),
+        _ => {}
+    }
+    word
+}
+
+fn any_writing(random: &mut Random, piece: Piece) -> &'static [u16] {
+    let all: Vec<_> = writings(piece).collect();
+    random.pick(&all).values()
+}
+
 /// Writings of pieces in any order.
 fn loose_pieces(random: &mut Random) -> Vec<u16> {
     let mut word = Vec::new();
     for _ in 0..random.between(1, 8) {
-        let all: Vec<_> = writings(random.pick(&Piece::ALL)).collect();
-        word.extend(random.pick(&all).values());
+        let piece = random.pick(&Piece::ALL);
+        word.extend(any_writing(random, piece));
     }
     word
 }
