@@ -109,7 +109,8 @@ static inline int jogcairn_word_live(uint64_t answer)
 /* Reads a word as it is handed in. First: its syllables. [1 to 4] */
 uint64_t jogcairn_read(const uint16_t *word, size_t count);
 
-/* The record of the syllable `number`, from 0: the low 56 bits of the answer are its seven bytes, the head lowest. [1 to 4, none] */
+/* The record of the syllable `number`, from 0: the low 56 bits of the answer are its seven bytes, the head lowest. Behind an independent vowel and
+   behind 104E, medial, vowel and tall are 0; behind a digit, a stop or another sign all six are. [1 to 4, none] */
 uint64_t jogcairn_record(const uint16_t *word, size_t count, size_t number);
 
 /* The part of the word that the syllable `number` is, from 0. First: the place of its first value; second: how many values it has.
@@ -137,8 +138,8 @@ uint64_t jogcairn_stored_form(const uint16_t *word, size_t count, uint16_t *outp
 uint64_t jogcairn_typed_place(const uint16_t *word, size_t count, size_t place);
 
 /* Writes the collation key of a word, normalised, always JOGCAIRN_KEY_SIZE bytes: five a syllable, then zeros. memcmp orders keys as the
-   dictionary files words; words that weigh the same have the same key, and jogcairn_compare tells them apart. First: the syllables.
-   [1 to 5] */
+   dictionary files words; words that weigh the same have the same key, and jogcairn_compare tells them apart. An independent vowel weighs as its
+   mark on 1021, whatever final and tone it has. First: the syllables. [1 to 5] */
 uint64_t jogcairn_key(const uint16_t *word, size_t count, uint8_t *key, size_t room);
 
 /* Compares two words, normalised. First: 0 where the first comes before the second, 1 where they are one word, 2 where it comes after.
