@@ -61,6 +61,9 @@ impl Error for ComparisonRefusal {
 /// assert_eq!(jogcairn::compare(&[0x1025, 0x102E], &[0x1026])?, Ordering::Equal);
 /// // The two AA weigh the same, so that the code values decide.
 /// assert_eq!(jogcairn::compare(&[0x1000, 0x102B], &[0x1000, 0x102C])?, Ordering::Less);
+/// // So do ဥက် and အုက်.
+/// let (with_mark, independent) = ([0x1021, 0x102F, 0x1000, 0x103A], [0x1025, 0x1000, 0x103A]);
+/// assert_eq!(jogcairn::compare(&independent, &with_mark)?, Ordering::Greater);
 /// # Ok::<(), jogcairn::ComparisonRefusal>(())
 /// ```
 pub fn compare(first: &[u16], second: &[u16]) -> Result<Ordering, ComparisonRefusal> {

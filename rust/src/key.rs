@@ -93,11 +93,18 @@ impl Key {
         self.0.len() / 5
     }
 
-    /// The weights of each syllable: head, medial, final, vowel, tone.
+    /// The weights of each syllable: head, medial, final, vowel, tone. An independent vowel weighs
+    /// as its mark on အ, whatever final and tone it has.
     ///
     /// ```
-    /// let key = jogcairn::Key::of(&[0x101E, 0x1019, 0x102E, 0x1038])?;
+    /// use jogcairn::Key;
+    ///
+    /// let key = Key::of(&[0x101E, 0x1019, 0x102E, 0x1038])?;
     /// assert_eq!(key.rows().last(), Some([38, 0, 0, 3, 2]));
+    /// // ဥက္က, and အုက္က with the same weights.
+    /// let key = Key::of(&[0x1025, 0x1000, 0x1039, 0x1000])?;
+    /// assert_eq!(key.rows().collect::<Vec<_>>(), [[46, 0, 1, 4, 0], [13, 0, 0, 0, 0]]);
+    /// assert_eq!(key, Key::of(&[0x1021, 0x102F, 0x1000, 0x1039, 0x1000])?);
     /// # Ok::<(), jogcairn::Refusal>(())
     /// ```
     pub fn rows(&self) -> impl ExactSizeIterator<Item = [u8; 5]> + '_ {

@@ -24,6 +24,31 @@
 //! # Ok::<(), jogcairn::Refusal>(())
 //! ```
 //!
+//! An independent vowel, and the sign ၎ (104E), may carry a final and a tone as a letter does, but
+//! no medial and no vowel mark; a digit, a stop or another sign carries nothing.
+//!
+//! ```
+//! use jogcairn::{read, spell, write, Book, Word};
+//!
+//! let mut bytes = [0; 64];
+//! let mut book = Book::new(&mut bytes);
+//! for (name, spelled, key) in [
+//!     ("ဥက္က", vec!["ဥက်", "က"], "2E00010400-0D00000000"),
+//!     ("၎င်း", vec!["၎င်း"], "3100050002"),
+//! ] {
+//!     let word: Word = name.parse()?;
+//!     assert_eq!(word.key().to_string(), key);
+//!     let syllables: Vec<String> =
+//!         spell(&word)?.syllables().map(|values| String::from_utf16(values).unwrap()).collect();
+//!     assert_eq!(syllables, spelled);
+//!     let records: Vec<u8> = read(&word)?.flat_map(|syllable| syllable.record.bytes()).collect();
+//!     assert_eq!(write(&records)?, word.values());
+//!     let start = book.add(&word, 61)?;
+//!     assert_eq!(book.find(&word)?.start, start);
+//! }
+//! # Ok::<(), jogcairn::Refusal>(())
+//! ```
+//!
 //! | to | call |
 //! |---|---|
 //! | cut a word into syllables | [`read`], [`record`], [`part`] |

@@ -15,6 +15,9 @@
 /// assert_eq!(first.bytes(), [0x10, 0, 0, 0, 1, 2, 0]);
 /// # Ok::<(), jogcairn::Refusal>(())
 /// ```
+///
+/// Behind an independent vowel and behind 104E, medial, vowel and tall are 0; behind a digit, a
+/// stop or another sign all six bytes are.
 #[derive(Clone, Copy, Debug, PartialEq, Eq, Hash)]
 pub struct Record([u8; 7]);
 
@@ -76,11 +79,13 @@ impl Record {
         self.0[1]
     }
 
-    /// The weight of the vowel; 0 for none, and for an independent vowel.
+    /// The weight of the vowel; 0 for none, and for an independent vowel, whose key has its weight.
     ///
     /// ```
     /// let record = jogcairn::record(&[0x101E, 0x1019, 0x102E, 0x1038], 1)?.unwrap();
     /// assert_eq!(record.vowel(), 3);
+    /// // ဩး
+    /// assert_eq!(jogcairn::record(&[0x1029, 0x1038], 0)?.unwrap().vowel(), 0);
     /// # Ok::<(), jogcairn::Refusal>(())
     /// ```
     pub const fn vowel(self) -> u8 {
@@ -103,6 +108,9 @@ impl Record {
     /// ```
     /// let lan = jogcairn::record(&[0x101C, 0x1014, 0x103A], 0)?.unwrap();
     /// assert_eq!(lan.final_letter(), Some(0x1014));
+    /// // ၎င်း, a sign with a final.
+    /// let aforementioned = jogcairn::record(&[0x104E, 0x1004, 0x103A, 0x1038], 0)?.unwrap();
+    /// assert_eq!(aforementioned.final_letter(), Some(0x1004));
     /// # Ok::<(), jogcairn::Refusal>(())
     /// ```
     pub const fn final_letter(self) -> Option<u16> {

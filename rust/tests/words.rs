@@ -1,19 +1,13 @@
-//! The words that the scope document names, and the order of its tests.
+//! The words that the scope document and the later requests name, and the order of the tests.
 
+mod answers;
+
+use answers::{found, refused, weights};
 use jogcairn::{
     book, compare, decode, key_into, normalise, part, read, spell_into, stored_form, typed_place,
-    write, Book, Key, Reason, Refusal, Told, Which, Word, BOOK_LIMIT, KEY_SIZE, WORD_LIMIT,
+    write, Book, Reason, Refusal, Told, Which, Word, BOOK_LIMIT, KEY_SIZE, WORD_LIMIT,
 };
 use std::cmp::Ordering;
-
-fn refused<T: std::fmt::Debug>(result: Result<T, Refusal>) -> (u8, usize) {
-    let refusal = result.unwrap_err();
-    (refusal.number(), refusal.place)
-}
-
-fn weights(word: &[u16]) -> Vec<[u8; 5]> {
-    Key::of(word).unwrap().rows().collect()
-}
 
 #[test]
 fn the_words_to_try_are_weighed_as_the_document_says() {
@@ -52,7 +46,7 @@ fn words_are_stored_as_the_document_says() {
 
 #[test]
 fn the_parts_joined_give_the_word_and_the_records_written_too() {
-    for text in ["တက္ကသိုလ်", "အင်္ဂလန်", "ပြဿနာ", "သမီး", "၂၀၁၁", "ကမ္ဘောဒီးယား", ""]
+    for text in ["တက္ကသိုလ်", "အင်္ဂလန်", "ပြဿနာ", "သမီး", "၂၀၁၁", "ကမ္ဘောဒီးယား", "ဥက္က", "၎င်း", "ဣဿ", ""]
     {
         let word: Word = text.parse().unwrap();
         assert_eq!(word.to_string(), text);
@@ -137,11 +131,6 @@ fn a_book_is_kept_through_its_calls() {
     assert_eq!(stocks(&book), [1]);
     assert_eq!(book.add(&[0x1000], 4), Ok(18));
     assert_eq!(bytes, *b"MW\x02\x01\0\0\0\x00\x2CM-\x02\x02\0\0\0\x00\x2BMW\x01\x04\0\0\0\x00");
-}
-
-/// The starts of the records that a text finds by its first syllables.
-fn found(book: &Book, text: &str) -> Vec<u16> {
-    book.find_prefix(&decode(text.as_bytes()).unwrap()).unwrap()
 }
 
 #[test]

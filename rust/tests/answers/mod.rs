@@ -1,0 +1,19 @@
+//! What the tests ask of an answer.
+
+use jogcairn::{decode, Book, Key, Refusal};
+
+/// The number and the place of a refusal.
+pub fn refused<T: std::fmt::Debug>(result: Result<T, Refusal>) -> (u8, usize) {
+    let refusal = result.unwrap_err();
+    (refusal.number(), refusal.place)
+}
+
+/// The weights of a word, syllable by syllable.
+pub fn weights(word: &[u16]) -> Vec<[u8; 5]> {
+    Key::of(word).unwrap().rows().collect()
+}
+
+/// The starts of the records that a text finds by its first syllables.
+pub fn found(book: &Book, text: &str) -> Vec<u16> {
+    book.find_prefix(&decode(text.as_bytes()).unwrap()).unwrap()
+}
