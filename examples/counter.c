@@ -26,6 +26,8 @@ static const struct part parts[] = {
     {"အပူပေးစက်", 15},     /* heater */
     {"လေဝင်ပေါက်", 310},   /* air inlet */
     {"ပတ္တာ", 52},          /* hinge */
+    {"ဥက္က", 61},           /* an independent vowel with a stacked final */
+    {"၎င်း", 62},            /* the sign "aforementioned" with a final and a tone */
     {"လေအေးပေးစ်က", 9},   /* killer and letter exchanged */
     {"ပုိက့း်", 5},           /* two tones, and its marks typed in another order */
     {"ပန်ကက္", 6},          /* the stacker at the end waits for a letter */
@@ -262,26 +264,35 @@ int main(void)
         file_part(parts[at]);
     find_part("ပိုက်");
     find_part("ပန်းကာ");
+    find_part("ဥက္က");
+    find_part("၎င်း");
     list_continued("လေ");
     list_continued("ပတ်");
+    list_continued("ဥက်");
     list_continued("ပ");
     list_continued("ပတ္");
     list_parts();
-    print_rank(5);
+    print_rank(7);
     list_continued("ပန်");
     remove_part("ပန်ကာ");
     remove_part("ပန်ကာ");
     list_continued("ပန်");
     list_parts();
-    print_rank(5);
+    print_rank(7);
     print_record(0);
     print_record(1);
     print_syllables("တက္ကသိုလ်");
+    print_syllables("ဥက္က");
+    print_syllables("၎င်း");
     print_syllables("ပုိက်");
     print_order("ပိုက်", "ပန်ကာ");
     print_order("ပုိက်", "ပိုက်");
+    print_order("ဥက္က", "အုက္က");
+    print_order("၎င်း", "ဥက္က");
     print_order("ပန်ကာ", "ပုိက့း်");
     print_stored("ပုိက်");
+    print_stored("ဥက္က");
+    print_stored("၎ငး်");
     print_stored("ပုိက့း်");
     return 0;
 }
