@@ -13,8 +13,8 @@ static unsigned char stack[STACK_SIZE];
 static ucontext_t here, there;
 static void (*measured)(void);
 
-/* The longest word, which is a row of syllables; one that has to be sorted; and one that is refused. */
-static uint16_t words[3][JOGCAIRN_WORD_LIMIT];
+/* The longest word, which is a row of syllables; one that has to be sorted; one that is refused; and a row of independent vowels with finals. */
+static uint16_t words[4][JOGCAIRN_WORD_LIMIT];
 static const uint16_t *word = words[0];
 
 /* The longest book, full, and a copy of it to be changed; and a full one whose words all begin with the same syllable. */
@@ -114,10 +114,12 @@ static size_t deepest(void (*run)(void))
 static void make_words(void)
 {
     static const uint16_t sorted[] = {0x1000, 0x1037, 0x103A, 0x102F}, refused[] = {0x1000, 0x1038, 0x1037, 0x103B};
+    static const uint16_t closed[] = {0x1025, 0x1000, 0x1039, 0x1000};
     for (size_t at = 0; at < JOGCAIRN_WORD_LIMIT; at++) {
         words[0][at] = 0x1000;
         words[1][at] = at < 2 ? 0x1000 : sorted[at % 4];
         words[2][at] = refused[at % 4];
+        words[3][at] = closed[at % 4];
     }
 }
 
