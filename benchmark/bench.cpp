@@ -78,7 +78,7 @@ static void need(bool holds, const char *what)
     }
 }
 
-// The words of a file, one a line, that are stored; the others are counted.
+// The words of a file, one a line, that are stored; the others are counted. Two libraries whose counts differ were timed on different words.
 static std::vector<Word> words_of(const char *path, size_t &refused)
 {
     std::ifstream file(path);
