@@ -12,6 +12,7 @@
 #include <cstring>
 #include <fstream>
 #include <functional>
+#include <iterator>
 #include <set>
 #include <string>
 #include <vector>
@@ -19,6 +20,7 @@
 extern "C" {
 uint64_t peer_read(const uint16_t *, size_t);
 uint64_t peer_spell(const uint16_t *, size_t);
+uint64_t peer_write(const uint8_t *, size_t, uint16_t *, size_t);
 uint64_t peer_normalise(const uint16_t *, size_t, uint16_t *, size_t);
 uint64_t peer_stored_form(const uint16_t *, size_t, uint16_t *, size_t);
 uint64_t peer_typed_place(const uint16_t *, size_t, size_t);
@@ -103,6 +105,21 @@ static void aim(const char *name, double ratio, double most)
     std::printf("  %-54s %6.3f  aim %.3f: %s\n", name, ratio, most, ratio <= most ? "met" : "missed");
 }
 
+// The records of a word's stored form.
+static std::vector<uint8_t> records_of(const Word &word)
+{
+    std::vector<uint8_t> records;
+    uint16_t form[JOGCAIRN_WORD_LIMIT];
+    size_t count = jogcairn_first(jogcairn_normalise(word.data(), word.size(), form, JOGCAIRN_WORD_LIMIT));
+    size_t syllables = jogcairn_first(jogcairn_read(form, count));
+    for (size_t number = 0; number < syllables; number++) {
+        uint64_t record = jogcairn_record(form, count, number);
+        for (unsigned byte = 0; byte < JOGCAIRN_RECORD_SIZE; byte++)
+            records.push_back(jogcairn_record_byte(record, byte));
+    }
+    return records;
+}
+
 // A word far off in the file.
 static size_t far_from(size_t i, size_t count)
 {
@@ -121,13 +138,15 @@ static void time_words(const std::vector<Word> &words)
     UCollator *collator = ucol_open("my", &status);
     const UNormalizer2 *nfc = unorm2_getNFCInstance(&status);
     need(U_SUCCESS(status), "ICU has no Burmese collation or no NFC");
+    std::vector<std::vector<uint8_t>> records;
+    std::transform(words.begin(), words.end(), std::back_inserter(records), records_of);
     auto text = [&](size_t i) { return reinterpret_cast<const UChar *>(words[i].data()); };
     auto size = [&](size_t i) { return int32_t(words[i].size()); };
 
     auto ours_compare = [&](size_t i, size_t k) { return jogcairn_compare(words[i].data(), words[i].size(), words[k].data(), words[k].size()); };
     auto peer_order = [&](size_t i, size_t k) { return peer_compare(words[i].data(), words[i].size(), words[k].data(), words[k].size()); };
     auto icu_order = [&](size_t i, size_t k) { return uint64_t(ucol_strcoll(collator, text(i), size(i), text(k), size(k)) + 1); };
-    enum { PASS, READ, SPELL, NORMALISE, STORED_FORM, TYPED_PLACE, KEY, FAR, NEXT, PEER_READ, PEER_SPELL, PEER_NORMALISE, PEER_STORED_FORM, PEER_TYPED_PLACE, PEER_KEY, PEER_FAR, PEER_NEXT, NFC, ICU_KEY, ICU_FAR, ICU_NEXT };
+    enum { PASS, READ, SPELL, WRITE, NORMALISE, STORED_FORM, TYPED_PLACE, KEY, FAR, NEXT, PEER_READ, PEER_SPELL, PEER_WRITE, PEER_NORMALISE, PEER_STORED_FORM, PEER_TYPED_PLACE, PEER_KEY, PEER_FAR, PEER_NEXT, NFC, ICU_KEY, ICU_FAR, ICU_NEXT };
     std::vector<Case> cases = {
         timed("a plain pass, a table look a value", count,
               [&](size_t i) {
@@ -141,6 +160,8 @@ static void time_words(const std::vector<Word> &words)
               [&](size_t i) {
                   return jogcairn_spell(words[i].data(), words[i].size(), spelled, JOGCAIRN_SPELLED_LIMIT, starts, JOGCAIRN_WORD_LIMIT) + spelled[i % 8];
               }),
+        timed("write", count,
+              [&](size_t i) { return jogcairn_write(records[i].data(), records[i].size(), form, JOGCAIRN_WORD_LIMIT) + form[i % 8]; }),
         timed("normalise", count,
               [&](size_t i) { return jogcairn_normalise(words[i].data(), words[i].size(), form, JOGCAIRN_WORD_LIMIT) + form[i % 8]; }),
         timed("stored form", count,
@@ -151,6 +172,8 @@ static void time_words(const std::vector<Word> &words)
         timed("compare, neighbours of the file", count, [&](size_t i) { return ours_compare(i, (i + 1) % count); }),
         timed("other implementation: read", count, [&](size_t i) { return peer_read(words[i].data(), words[i].size()); }),
         timed("other implementation: spell", count, [&](size_t i) { return peer_spell(words[i].data(), words[i].size()); }),
+        timed("other implementation: write", count,
+              [&](size_t i) { return peer_write(records[i].data(), records[i].size(), form, JOGCAIRN_WORD_LIMIT) + form[i % 8]; }),
         timed("other implementation: normalise", count,
               [&](size_t i) { return peer_normalise(words[i].data(), words[i].size(), form, JOGCAIRN_WORD_LIMIT) + form[i % 8]; }),
         timed("other implementation: stored form", count,

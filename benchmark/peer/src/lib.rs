@@ -1,7 +1,7 @@
 //! C names for the other implementation, so that the benchmark calls it beside the proved library in one program. Each answers with one
 //! number that depends on the whole answer, or with `REFUSED`.
 
-use oracle::{book, collation, reading, spelling, storage};
+use oracle::{book, collation, reading, spelling, storage, writing};
 use std::slice;
 
 /// The answer to what is refused.
@@ -33,6 +33,13 @@ pub unsafe extern "C" fn peer_spell(word: *const u16, count: usize) -> u64 {
     let (mut values, mut starts) = ([0; 190], [0; 64]);
     spelling::spell_out(unsafe { part(word, count) }, &mut values, &mut starts)
         .map_or(REFUSED, |_| u64::from(values[count % 190]) + starts[count % 64] as u64)
+}
+
+/// # Safety
+/// As for [`part`] and [`output`].
+#[no_mangle]
+pub unsafe extern "C" fn peer_write(records: *const u8, bytes: usize, word: *mut u16, room: usize) -> u64 {
+    writing::write(unsafe { part(records, bytes) }, unsafe { output(word, room) }).map_or(REFUSED, |count| count as u64)
 }
 
 /// # Safety
