@@ -1,19 +1,14 @@
 -- The first heads of two rows tell their order where they weigh differently: the head's weight is the first that is compared.
 -- Assumes nothing.
 use mathlib.Core.Path.{_≡_, refl, ap, sym, subst, _∙_}
-use mathlib.Core.Bool.{Bool, true, false, _||_}
 use mathlib.Core.List.{List, [], _∷_}
 use mathlib.Core.Logic.{inl, inr}
-use Prim.Native.Nat.{ℕ, _+_, _-_}
+use Prim.Native.Nat.{ℕ}
 use native.Mathlib.Omega.{arith}
 use types.Run.{OneOf}
 use denote.Enum.Declared.{tagOf}
 use lib.ListN.{length, getD}
-use Rattle.letters.specs.Choice.{pick}
-use Rattle.letters.specs.Letters.{isConsonant, isIndependentVowel, isDigit, isStop, isSign}
-use Rattle.letters.specs.Weights.{headWeight, headWeighed}
-use Rattle.letters.specs.declared.weight.Weighed.{Weighed}
-use Rattle.letters.specs.declared.weight.Weighed.the-variants.{Weight, Nothing}
+use Rattle.letters.specs.Weights.{headWeight}
 use Rattle.formula.specs.Syllable.{syllable}
 use Rattle.formula.specs.Row.{Row, Gives, join}
 use Rattle.formula.specs.Weighing.{weightsOf}
@@ -37,30 +32,9 @@ pub no-head : (word : List ℕ) → length word ≡ 0 → firstHead word ≡ 0
 no-head [] e = refl
 no-head (x ∷ word) e = let z : ⊥ = omega arith in absurd z
 
--- the weight that an answer tells, 0 where it tells none
-abbrev pub told : Weighed → ℕ
-told (Weight n) = n
-told Nothing = 0
-
--- what is no head has the head's weight 0
-told-head : (x : ℕ) → told (headWeighed x) ≡ headWeight x
-unfolding pick
-told-head x =
-    go (isConsonant x) (isIndependentVowel x) (isDigit x) (isStop x) (isSign x) (x - 0x1000 + 13) (x - 0x1040 + 3) (x - 0x104A + 1) (x - 0x104C + 47)
-  where
-    go : (a b c d e : Bool) (k l m n : ℕ)
-        → told (pick (a || (b || (c || (d || e)))) (Weight (pick a k (pick b 46 (pick c l (pick d m (pick e n 0)))))) Nothing)
-        ≡ pick a k (pick b 46 (pick c l (pick d m (pick e n 0))))
-    go true b c d e k l m n = refl
-    go false true c d e k l m n = refl
-    go false false true d e k l m n = refl
-    go false false false true e k l m n = refl
-    go false false false false true k l m n = refl
-    go false false false false false k l m n = refl
-
-pub some-head : (word : List ℕ) (d : ℕ) → (length word ≡ 0 → ⊥) → firstHead word ≡ told (headWeighed (getD word 0 d))
+pub some-head : (word : List ℕ) (d : ℕ) → (length word ≡ 0 → ⊥) → headWeight (getD word 0 d) ≡ firstHead word
 some-head [] d n = absurd (n refl)
-some-head (x ∷ word) d n = sym (told-head x)
+some-head (x ∷ word) d n = refl
 
 -- an order that is told by its tag not to be equal is not
 apart : {A : Type 0} (o : Order) → OneOf (0 ∷ 2 ∷ []) (tagOf the-type o) → o ≡ Equal → A

@@ -1,5 +1,4 @@
 // Words whose first heads weigh differently: their order is told before a syllable is weighed.
-use letters::weight::Weighed;
 use letters::weight::head_weight;
 use recogniser::walk::is_row;
 use weighing::order::Order;
@@ -14,11 +13,7 @@ fn first_head(word: &[u16]) -> usize
     if word.len() == 0 {
         return 0;
     }
-    let weighed = head_weight(word[0]);
-    let Weighed::Weight(weight) = weighed else {
-        return 0;
-    };
-    weight as usize
+    head_weight(word[0]) as usize
 }
 
 // The order of two rows of syllables whose first heads weigh differently; that they are equal tells nothing.

@@ -3,15 +3,15 @@
 use mathlib.Core.List.{List, [], _∷_}
 use Prim.Native.Nat.{ℕ, _+_}
 use lib.ListN.{getD}
-use Rattle.letters.specs.Weights.{headWeighed, independentVowelWeighed, medialTable, weightOr}
+use Rattle.letters.specs.Weights.{headWeight, independentVowelWeight, medialTable}
 use Rattle.syllables.specs.Parts.{headPart, medialPart, finalPart, vowelPart, tonePart}
 
--- head, medial, final, vowel, tone; a head that is an I has a vowel weight in the place of the vowel that it can't carry
+-- head, medial, final, vowel, tone; a head that is an I has a vowel weight of its own, and carries no vowel
 unfoldable pub weightsBy : ℕ → List ℕ
 weightsBy packed =
-    weightOr (headWeighed (0x1000 + headPart packed)) 0
+    headWeight (0x1000 + headPart packed)
     ∷ getD medialTable (medialPart packed) 0
     ∷ finalPart packed
-    ∷ weightOr (independentVowelWeighed (0x1000 + headPart packed)) (vowelPart packed)
+    ∷ (independentVowelWeight (0x1000 + headPart packed) + vowelPart packed)
     ∷ tonePart packed
     ∷ []

@@ -2,7 +2,6 @@
 use formula::Word;
 use letters::weight::head_weight;
 use letters::weight::independent_vowel_weight;
-use letters::weight::weight_or;
 use syllables::parts;
 ghost use mathlib.Core.Path.{_≡_};
 ghost use Prim.Native.Nat.{_+_, _≤_};
@@ -12,17 +11,18 @@ ghost use Rattle.formula.specs.Limits.{weightCount};
 ghost use Rattle.weighing.specs.Keys.{keyLimit};
 ghost use Rattle.keying.specs.Weights.{weightsBy};
 
-// Puts the five weights of a packed syllable at a place of a key, in the order in which they are compared. A head that is an I has a vowel weight,
-// and a final weighs its number, whichever form it has. The table of medials is lent, so that it is stored once a word.
+// Puts the five weights of a packed syllable at a place of a key, in the order in which they are compared. A head weighs by its value; one that is an I
+// has a vowel weight of its own and carries no vowel. A final weighs its number, whichever form it has. The table of medials is lent, so that it is
+// stored once a word.
 pub(crate) fn put_weights(bytes: &mut [u8; Word::KEY], at: usize, packed: u64, medials: &[u8; 16])
     requires { ⌜ (at + weightCount ≤ keyLimit) × (now medials ≡ medialTable) ⌝ }
     ensures { λ _. ⌜ now (bytes .exit) ≡ sets (now (bytes .entry)) at (weightsBy packed) ⌝ }
 {
     let value = 0x1000 + parts::head(packed) as u16;
-    let head = weight_or(head_weight(value), 0);
+    let head = head_weight(value);
     let medial = medials[parts::medials(packed) as usize];
     let letter = parts::letter(packed);
-    let vowel = weight_or(independent_vowel_weight(value), parts::vowel(packed));
+    let vowel = independent_vowel_weight(value) + parts::vowel(packed);
     let tone = parts::tone(packed);
     bytes[at] = head;
     bytes[at + 1] = medial;

@@ -1,18 +1,18 @@
 -- Document 01, "The letters": so many values are admitted of each class, 75 in all, which antt counts over 1000 to 104F; a value outside is foreign.
 -- Assumes nothing.
 use mathlib.Core.Path.{_≡_, refl, ap, sym, subst, _∙_}
-use mathlib.Core.Bool.{Bool, true, false, not, _&&_, _||_}
+use mathlib.Core.Bool.{Bool, true, false, not, _||_}
 use mathlib.Core.List.{List, [], _∷_, map}
 use Prim.Native.Nat.{ℕ, _+_, _-_, _≤_, _<_}
 use native.Mathlib.Decide.{decLt}
 use native.Mathlib.Omega.{arith}
 use lib.Dec.{T, eqb, leb, ltb, leb→le}
-use borrow.Author.Tests.{le-leb, lt-leb, ne-eqb}
+use borrow.Author.Tests.{le-leb, ne-eqb}
 use Rattle.letters.specs.Choice.{pick}
 use Rattle.letters.specs.Letters.{within, kindOf, isAdmitted}
 use Rattle.letters.specs.declared.kind.Kind.{Kind}
 use Rattle.letters.specs.declared.kind.Kind.the-variants.{Consonant, IndependentVowel, Medial, VowelMark, Tone, Killer, Stacker, GreatSa, Digit, Stop, Sign, Foreign}
-use Rattle.letters.proofs.Picks.{and-yes, and-no-left, and-no-right, or-no}
+use Rattle.letters.proofs.Picks.{and-yes, or-no, above-range, below-range}
 use Rattle.letters.proofs.Table.{upTo, below}
 pub use Rattle.letters.specs.Counting.{upFrom, count}
 
@@ -91,13 +91,7 @@ pub foreign-unadmitted : (x : ℕ) → kindOf x ≡ Foreign → isAdmitted x ≡
 unfolding named
 foreign-unadmitted x e = admitted-named x ∙ ap named e
 
--- a range and a value of the chart have nothing below 1000 or above 104F
-below-range : (a b x : ℕ) → x < 0x1000 → T (leb 0x1000 a) → (leb a x && leb x b) ≡ false
-below-range a b x l t = let h : 0x1000 ≤ a = leb→le 0x1000 a t in and-no-left (leb a x) (leb x b) (lt-leb a x (omega arith))
-
-above-range : (a b x : ℕ) → 0x104F < x → T (leb b 0x104F) → (leb a x && leb x b) ≡ false
-above-range a b x l t = let h : b ≤ 0x104F = leb→le b 0x104F t in and-no-right (leb a x) (leb x b) (lt-leb x b (omega arith))
-
+-- no value of the chart is below 1000 or above 104F
 below-value : (a x : ℕ) → x < 0x1000 → T (leb 0x1000 a) → eqb x a ≡ false
 below-value a x l t = let h : 0x1000 ≤ a = leb→le 0x1000 a t in ne-eqb x a (λ (e : x ≡ a). let z : ⊥ = omega arith in z)
 
@@ -110,15 +104,24 @@ below-foreign x l = unadmitted-foreign x (search (or-no, below-range, below-valu
 pub above-foreign : (x : ℕ) → 0x104F < x → kindOf x ≡ Foreign
 above-foreign x l = unadmitted-foreign x (search (or-no, above-range, above-value, tt) depth 14)
 
+-- a value is below the chart, above it or on it
+pub by-chart : {A : Type 0} (x : ℕ) → (x < 0x1000 → A) → (0x104F < x → A) → (0x1000 ≤ x → x ≤ 0x104F → A) → A
+by-chart {A} x low high on = go (decLt x 0x1000) (decLt 0x104F x)
+  where
+    go : Dec (x < 0x1000) → Dec (0x104F < x) → A
+    go (yes l) d = low l
+    go (no l) (yes h) = high h
+    go (no l) (no h) = on (omega arith) (omega arith)
+
+pub off-chart : {A : Type 0} (x : ℕ) → (x < 0x1000 → A) → (0x104F < x → A) → within 0x1000 0x104F x ≡ false → A
+off-chart x low high e =
+    by-chart x low high
+    (λ l h.
+    let t : within 0x1000 0x104F x ≡ true = and-yes (leb 0x1000 x) (leb x 0x104F) (le-leb 0x1000 x l) (le-leb x 0x104F h) in
+    let z : _≡_ {A = ℕ} 0 1 = cc in
+    let n : ⊥ = omega arith in
+    absurd n)
+
 -- "all outside 1000 to 104F"
 pub outside-foreign : (x : ℕ) → within 0x1000 0x104F x ≡ false → kindOf x ≡ Foreign
-outside-foreign x e = go (decLt x 0x1000) (decLt 0x104F x)
-  where
-    go : Dec (x < 0x1000) → Dec (0x104F < x) → kindOf x ≡ Foreign
-    go (yes l) d = below-foreign x l
-    go (no l) (yes h) = above-foreign x h
-    go (no l) (no h) =
-        let t : within 0x1000 0x104F x ≡ true = and-yes (leb 0x1000 x) (leb x 0x104F) (le-leb 0x1000 x (omega arith)) (le-leb x 0x104F (omega arith)) in
-        let z : _≡_ {A = ℕ} 0 1 = cc in
-        let n : ⊥ = omega arith in
-        absurd n
+outside-foreign x = off-chart x (below-foreign x) (above-foreign x)

@@ -1,5 +1,6 @@
 pub mod Arms
 pub mod Counted
+pub mod Heads
 pub mod Picks
 pub mod Table
 pub mod Tests

@@ -124,13 +124,7 @@ vowelWith v x =
     (pick (eqb v 8 && eqb x 0x103A) (Weight 9)
     (pick (eqb v 2 && eqb x 0x102F) (Weight 11) (pick (eqb v 4 && eqb x 0x1036) (Weight 12) Nothing))))
 
--- what a value weighs where it is of the class, and that it is not where it isn't
-abbrev pub headWeighed : ℕ → Weighed
-headWeighed x = pick (isHead x) (Weight (headWeight x)) Nothing
-
-abbrev pub independentVowelWeighed : ℕ → Weighed
-independentVowelWeighed x = pick (isIndependentVowel x) (Weight (independentVowelWeight x)) Nothing
-
+-- what a value weighs where it is a tone, and that it does not where it is none
 abbrev pub toneWeighed : ℕ → Weighed
 toneWeighed x = pick (eqb x 0x1037) (Weight 1) (pick (eqb x 0x1038) (Weight 2) Nothing)
 

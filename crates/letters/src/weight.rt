@@ -1,27 +1,7 @@
 // The weights of document 01, "Weights": of heads, independent vowels and medial groups.
 ghost use mathlib.Core.Path.{_≡_};
 ghost use Rattle.letters.specs.Choice.{pick};
-ghost use Rattle.letters.specs.Letters.{within};
-ghost use Rattle.letters.specs.Weights.{headWeighed, independentVowelWeighed, medialSetWeight, weightOr, medialTable};
-
-const FIRST_CONSONANT: u16 = 0x1000;
-
-const LAST_CONSONANT: u16 = 0x1021;
-
-// The independent vowels stand in two ranges, with 1028 between them.
-const FIRST_VOWEL: u16 = 0x1023;
-
-const LAST_VOWEL: u16 = 0x1027;
-
-const FIRST_LATE_VOWEL: u16 = 0x1029;
-
-const LAST_LATE_VOWEL: u16 = 0x102A;
-
-const FIRST_DIGIT: u16 = 0x1040;
-
-const FIRST_STOP: u16 = 0x104A;
-
-const FIRST_SIGN: u16 = 0x104C;
+ghost use Rattle.letters.specs.Weights.{headWeight, independentVowelWeight, medialSetWeight, weightOr, medialTable};
 
 // What stands in the table for a set of medials that is no group: Y and R together.
 const FORBIDDEN: u8 = 255;
@@ -62,49 +42,30 @@ pub fn weight_or(weighed: Weighed, other: u8) -> u8
     weight
 }
 
-// Whether x is one of the values from first to last.
-fn within(first: u16, last: u16, x: u16) -> bool
-    ensures { λ r. ⌜ r ≡ within first last x ⌝ }
+// The weight of a head, worked out from the unbroken ranges of heads; an independent vowel weighs as the last consonant does, and what is no head
+// weighs 0. The compiler makes comparisons of the ranges, and no list: `differential/tests/stored_lists.rs` takes apart what it made.
+pub fn head_weight(x: u16) -> u8
+    ensures { λ r. ⌜ r ≡ headWeight x ⌝ }
 {
-    first <= x && x <= last
+    match x {
+        0x1000..=0x1021 => (x - 0x1000) as u8 + 13,
+        0x1023..=0x1027 | 0x1029..=0x102A => 46,
+        0x1040..=0x1049 => (x - 0x1040) as u8 + 3,
+        0x104A..=0x104B => (x - 0x104A) as u8 + 1,
+        0x104C..=0x104F => (x - 0x104C) as u8 + 47,
+        _ => 0,
+    }
 }
 
-// The weight of a head; an independent vowel weighs as the last consonant does.
-pub fn head_weight(x: u16) -> Weighed
-    ensures { λ r. ⌜ r ≡ headWeighed x ⌝ }
+// The vowel weight of an independent vowel; any other value has none, and 0 stands for it.
+pub fn independent_vowel_weight(x: u16) -> u8
+    ensures { λ r. ⌜ r ≡ independentVowelWeight x ⌝ }
 {
-    if within(FIRST_CONSONANT, LAST_CONSONANT, x) {
-        return Weighed::Weight((x - FIRST_CONSONANT) as u8 + 13);
+    match x {
+        0x1023..=0x1027 => (x - 0x1023) as u8 + 2,
+        0x1029..=0x102A => (x - 0x1029) as u8 + 8,
+        _ => 0,
     }
-    if within(FIRST_VOWEL, LAST_VOWEL, x) {
-        return Weighed::Weight(46);
-    }
-    if within(FIRST_LATE_VOWEL, LAST_LATE_VOWEL, x) {
-        return Weighed::Weight(46);
-    }
-    if within(FIRST_DIGIT, 0x1049, x) {
-        return Weighed::Weight((x - FIRST_DIGIT) as u8 + 3);
-    }
-    if within(FIRST_STOP, 0x104B, x) {
-        return Weighed::Weight((x - FIRST_STOP) as u8 + 1);
-    }
-    if within(FIRST_SIGN, 0x104F, x) {
-        return Weighed::Weight((x - FIRST_SIGN) as u8 + 47);
-    }
-    Weighed::Nothing
-}
-
-// The vowel weight of an independent vowel.
-pub fn independent_vowel_weight(x: u16) -> Weighed
-    ensures { λ r. ⌜ r ≡ independentVowelWeighed x ⌝ }
-{
-    if within(FIRST_VOWEL, LAST_VOWEL, x) {
-        return Weighed::Weight((x - FIRST_VOWEL) as u8 + 2);
-    }
-    if within(FIRST_LATE_VOWEL, LAST_LATE_VOWEL, x) {
-        return Weighed::Weight((x - FIRST_LATE_VOWEL) as u8 + 8);
-    }
-    Weighed::Nothing
 }
 
 // The table of the sets of medials, for callers that look many up: a constant array is stored wherever it is named.

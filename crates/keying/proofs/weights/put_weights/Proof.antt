@@ -2,9 +2,11 @@
 -- Assumes nothing.
 use mathlib.Core.Path.{ap}
 use mathlib.Core.List.{List}
-use Prim.Native.Nat.{ℕ}
+use Prim.Native.Nat.{ℕ, _+_}
+use native.Mathlib.Omega.{arith}
 use lib.ListN.{getD}
 use borrow.Author.Needs.{needs}
+use Rattle.letters.proofs.Heads.{independent-vowel-limit}
 use Rattle.keying.proofs.Weighted.{looked-up, stores-five}
 use Rattle.keying.proofs.weights.put_weights.Statement.{statement}
 use Rattle.keying.proofs.weights.put_weights.Tie as tie
@@ -20,9 +22,6 @@ add-value c = search needs
 
 head-weight-requires : tie.Need-head-weight-requires
 head-weight-requires c κs = search needs
-
-weight-or-requires : tie.Need-weight-or-requires
-weight-or-requires c κs = search needs
 
 medials-requires : tie.Need-medials-requires
 medials-requires c κs = search needs
@@ -42,8 +41,12 @@ independent-vowel-weight-requires c κs = search needs
 vowel-requires : tie.Need-vowel-requires
 vowel-requires c κs = search needs
 
-weight-or-requires-2 : tie.Need-weight-or-requires-2
-weight-or-requires-2 c κs = search needs
+-- an independent vowel weighs 9 at most, and the part has four bits
+add-vowel : tie.Need-add-vowel
+add-vowel c =
+    let own = c .before .independent-vowel-weight in
+    let l = independent-vowel-limit (0x1000 + c .before .before .before .before .before .before .head .result) in
+    omega (arith, own .ensures, c .vowel .ensures)
 
 tone-requires : tie.Need-tone-requires
 tone-requires c κs = search needs
@@ -78,33 +81,30 @@ element-write-bytes-5 c = search needs
 returns : tie.Need-returns
 returns c =
     let vowel = c .before in
-    let letter = vowel .before .before .before in
-    let medial = letter .before in
-    let medials = medial .before in
-    let head = medials .before in
-    let s = head .before .before .before in
+    let own = vowel .before in
+    let letter = own .before in
+    let medials = letter .before .before in
+    let weight = medials .before in
+    let head = weight .before in
+    let s = head .before in
     stores-five (s .args .bytes .now) (s .args .at) _ _ _ _ _ (s .args .packed)
     (looked-up
     (s .args .packed)
     _
     _
     _
-    _
-    _
-    (head .weight-or .result)
+    (weight .head-weight .result)
     _
     (letter .letter .result)
-    (vowel .weight-or2 .result)
+    _
     (c .tone .result)
-    (head .before .before .head .ensures)
-    (head .before .head-weight .ensures)
-    (head .weight-or .ensures)
+    (head .head .ensures)
+    (weight .head-weight .ensures)
     (medials .medials .ensures)
     (ap (λ (l : List ℕ). getD l (medials .medials .result) 0) (s .pre .1))
     (letter .letter .ensures)
-    (vowel .before .before .independent-vowel-weight .ensures)
-    (vowel .before .vowel .ensures)
-    (vowel .weight-or2 .ensures)
+    (own .independent-vowel-weight .ensures)
+    (vowel .vowel .ensures)
     (c .tone .ensures))
 
 pub put-weights-spec : {M : Type 1} → statement M
@@ -115,14 +115,13 @@ put-weights-spec =
     cast-value
     add-value
     head-weight-requires
-    weight-or-requires
     medials-requires
     cast-medial
     element-copy-out-medial
     letter-requires
     independent-vowel-weight-requires
     vowel-requires
-    weight-or-requires-2
+    add-vowel
     tone-requires
     element-write-bytes
     add-bytes
