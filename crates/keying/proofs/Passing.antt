@@ -66,7 +66,7 @@ module _ {word : List ℕ} {at state : ℕ} {window : Window} {bytes : List ℕ}
     room = let b = within in omega (arith, r .walked .count-is)
 
     pub fits : Fit (entry / 32) gain (getD word at 0) window
-    fits = window-fits window (moves .makes) gain gained kept-ok after-ok (let h = room in omega arith) (r .window-of)
+    fits = window-fits window (moves .makes) gain gained (moves .begins-is) kept-ok after-ok (let h = room in omega arith) (r .window-of)
 
     pub next : (after : Window) (new : List ℕ) → Advanced (entry / 32) gain (getD word at 0) window bytes after new
         → Filled word (at + 1) (entry % 32) after new

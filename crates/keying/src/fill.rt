@@ -7,6 +7,7 @@ use recogniser::walk::answer_at;
 use refusals::Counted;
 use refusals::Refusal;
 use syllables::window::window_after;
+use transitions::classes::begins;
 use transitions::tables::Rules;
 use transitions::tables::gain;
 use transitions::tables::next;
@@ -44,7 +45,7 @@ fn advance(
     ensures { λ r. ⌜ Advanced change gain x window (now (bytes .entry)) r (now (bytes .exit)) ⌝ }
 {
     let after = window_after(window, change, gain, x);
-    if change == 2 {
+    if begins(x) {
         put_last(bytes, window.count, after.before, medials);
         return after;
     }

@@ -186,7 +186,7 @@ module _ (word : List ℕ) (at state : ℕ) (w : Window) (l k : List ℕ) (r : R
   -- the numbers of the window fit
   pub turn-fits : Fit (entry / 32) gain (getD word at 0) w
   turn-fits =
-      window-fits w (move .makes) gain (g ∙ move .gain-is) (kept-right word at (r .walked .kept) (r .walked .came) .0)
+      window-fits w (move .makes) gain (g ∙ move .gain-is) (move .begins-is) (kept-right word at (r .walked .kept) (r .walked .came) .0)
       (kept-right word (at + 1) (move .after) came .0) (let b = count-fits word at state w l k r in omega (arith, r .window-of .count)) (r .window-of)
 
   module _ (v : Window) (f : v ≡ windowAfter (entry / 32) gain (getD word at 0) w) where

@@ -1,6 +1,7 @@
 // One pass over a word: how far it is read, its syllables, and where each begins.
 use formula::Word;
 use syllables::window::window_after;
+use transitions::classes::begins;
 use transitions::tables::Rules;
 use transitions::tables::gain;
 use transitions::tables::next;
@@ -54,7 +55,7 @@ pub(crate) fn scan_word(word: &[u16]) -> Scan
         }
         let change = entry / 32;
         window = window_after(window, change, gain(state, rules), x);
-        if change == 2 {
+        if begins(x) {
             let count = window.count;
             let finished = less(count, 2);
             let before = window.before;

@@ -6,12 +6,14 @@ use mathlib.Core.List.{[], _∷_}
 use Prim.Native.Nat.{ℕ, _+_, _-_, _*_, _^_, _≤_, _<_}
 use native.Mathlib.Nat.{zero-mul}
 use native.Mathlib.Omega.{arith}
-use lib.Dec.{T, eqb}
+use lib.Dec.{T, eqb, eqb→eq}
 use lib.ListN.{length}
+use borrow.Author.Tests.{eq-eqb}
 use Rattle.letters.specs.Choice.{pick}
 use Rattle.letters.specs.Marks.{MedialGroup, Vowel, ToneMark}
 use Rattle.letters.specs.Weights.{isHead, isFinalLetter}
 use Rattle.letters.proofs.Branches.{when-equal, when-unequal}
+use Rattle.letters.proofs.Tests.{of-true}
 use Rattle.formula.proofs.Classes.{within-bounds, head-bounds}
 use Rattle.formula.specs.Limits.{limit}
 use Rattle.formula.specs.Syllable.{no-final, plain, stacked, syllable, bare, isNoFinal}
@@ -19,7 +21,7 @@ use Rattle.formula.specs.Row.{Row}
 use Rattle.formula.specs.Packed.{packed, packedTop}
 use Rattle.formula.specs.declared.Window.{Window}
 use Rattle.rows.specs.Machine.{KeptOk}
-use Rattle.transitions.specs.Transition.{finalBy, Makes, begins, begins-great-sa, adds-medial, adds-vowel, adds-tone, makes-kinzi, closes}
+use Rattle.transitions.specs.Transition.{finalBy, beginsBy, Makes, begins, begins-great-sa, adds-medial, adds-vowel, adds-tone, makes-kinzi, closes}
 use Rattle.transitions.proofs.Entered.{makes-length}
 use Rattle.syllables.specs.Window.{begunBy, closedBy, linkBy, lastKept, windowAfter, Closable, Fit, WindowOf}
 use Rattle.syllables.proofs.Parted.{packed-small}
@@ -43,6 +45,14 @@ module _ (w : Window) (d g x : ℕ) where
       → record { count = n; last = k + g; before = w .before } ≡ windowAfter d g x w
   unfolding windowAfter
   after-gain k n e f c = when-unequal d 2 _ _ _ e (rw (f, c) refl)
+
+-- what the value says by itself is what becomes of the count
+module _ {d g x : ℕ} {w : Window} (f : Fit d g x w) (r : Bool) (e : r ≡ beginsBy x) where
+  pub one-more : r ≡ true → d ≡ 2
+  one-more t = eqb→eq d 2 (of-true (eqb d 2) (sym (f .tells) ∙ sym e ∙ t))
+
+  pub none-more : r ≡ false → d ≡ 2 → ⊥
+  none-more n z = subst T (sym (eq-eqb d 2 z) ∙ sym (f .tells) ∙ sym e ∙ n) tt
 
 no-great-sa : (x : ℕ) → T (isHead x) → x ≡ 0x103F → ⊥
 no-great-sa x h e = subst (λ (y : ℕ). T (isHead y)) e h
@@ -127,13 +137,14 @@ module _ (w : Window) where
       (record { count = refl; last = omega (arith, p, z); before = λ n. absurd (closed-final x c n) })
 
   -- and the numbers fit
-  pub window-fits : {x byte d a : ℕ} {kept b : Row} → Makes x byte d a kept b → (g : ℕ) → g ≡ a * 2 ^ (8 * byte) → KeptOk kept → KeptOk b
-      → length kept ≤ limit → WindowOf kept w → Fit d g x w
-  window-fits {x} {byte} {d} {a} {kept} {b} m g q k j r o =
+  pub window-fits : {x byte d a : ℕ} {kept b : Row} → Makes x byte d a kept b → (g : ℕ) → g ≡ a * 2 ^ (8 * byte) → beginsBy x ≡ eqb d 2
+      → KeptOk kept → KeptOk b → length kept ≤ limit → WindowOf kept w → Fit d g x w
+  window-fits {x} {byte} {d} {a} {kept} {b} m g q s k j r o =
       record {
         room = omega (arith, o .count);
         some-left = let l = makes-length m in omega (arith, o .count);
         last = top-small kept k (w .last) (o .last);
+        tells = s;
         begins = λ e. begun m e;
         closing = λ e f. closing m k o e f;
         gains = λ e.

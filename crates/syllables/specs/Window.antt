@@ -12,6 +12,7 @@ use Rattle.formula.specs.Row.{Row}
 use Rattle.formula.specs.Packed.{packedTop, packedBelow}
 use Rattle.formula.specs.declared.Window.{Window}
 use Rattle.rows.specs.Machine.{endOf}
+use Rattle.transitions.specs.Transition.{beginsBy}
 
 -- what the value x begins a syllable with, what it makes of the syllable that it ends, and the link of a final that it makes
 unfoldable pub begunBy : ℕ → ℕ
@@ -43,6 +44,7 @@ pub record Fit (d g x : ℕ) (w : Window) : Type 0 where
   pub room : w .count ≤ limit
   pub some-left : 1 ≤ w .count + d
   pub last : w .last < 0x300000000
+  pub tells : beginsBy x ≡ eqb d 2
   pub begins : d ≡ 2 → 0x1000 ≤ x
   pub closing : (d ≡ 2 → ⊥) → Closable d w
   pub gains : (d ≡ 2 → ⊥) → lastKept d (linkBy x) w + g < 0x300000000

@@ -1,5 +1,6 @@
 // The last two syllables of a reading after one value more.
 use formula::Window;
+use transitions::classes::begins;
 ghost use mathlib.Core.Path.{_≡_};
 ghost use Prim.Native.Nat.{_≤_, _<_};
 ghost use Rattle.syllables.specs.Window.{begunBy, closedBy, linkBy, lastKept, windowAfter, Closable, Fit};
@@ -61,7 +62,7 @@ pub fn window_after(window: Window, change: u8, gain: u64, x: u16) -> Window
     let count = window.count;
     let last = window.last;
     let before = window.before;
-    if change == 2 {
+    if begins(x) {
         return Window {
             count: count + 1,
             last: begun(x),

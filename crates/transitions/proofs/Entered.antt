@@ -16,27 +16,22 @@ use Rattle.letters.specs.Letters.{kindOf, isAdmitted}
 use Rattle.letters.specs.declared.kind.Kind.{Kind}
 use Rattle.letters.specs.declared.kind.Kind.the-variants.{Foreign}
 use Rattle.letters.proofs.Arms.{inArms, InNone, in-none}
-use Rattle.letters.proofs.Counted.{on-chart, unadmitted-foreign, below-foreign, above-foreign}
+use Rattle.letters.proofs.Counted.{on-chart, by-chart, unadmitted-foreign, below-foreign, above-foreign}
 use Rattle.letters.proofs.Table.{upTo, below}
-use Rattle.letters.proofs.Tests.{or-second, or-not}
+use Rattle.letters.proofs.Tests.{or-second, or-not, same, same-equal}
 use Rattle.formula.proofs.Lists.{both-left, both-right}
 use Rattle.formula.specs.Syllable.{carriesMarks, carriesFinal}
 use Rattle.formula.specs.Row.{Row}
 use Rattle.rows.specs.Machine.{endOf, KeptOk, isNotGreatSa, step}
 use Rattle.transitions.specs.State.{State, done, plain-final, nga-final, waiting, head-stays, head-closes, head-nga, after-ya-ra, after-wa, after-ha, with-e, with-e-aa, with-i, with-u, with-vowel, stateOf, stateNumber}
-use Rattle.transitions.specs.Transition.{Transition, refuse, to, transition, byteOf, Makes, begins, begins-great-sa, adds-medial, adds-vowel, adds-tone, makes-kinzi, closes, Agrees}
+use Rattle.transitions.specs.Transition.{Transition, refuse, to, transition, byteOf, beginsBy, Makes, begins, begins-great-sa, adds-medial, adds-vowel, adds-tone, makes-kinzi, closes, Agrees}
 use Rattle.transitions.specs.Tables.{stateAt, entry, amountOf, entryOf, gainOf, classIn, classOf, examples, rulesAt, rulesIn, rulesOf, nextBy, gainBy}
 use Rattle.transitions.proofs.Tested.{numbered}
 use Rattle.transitions.proofs.Followed.{followed}
 
 -- what is so of every value of the chart and of all foreign values
 chart-or-foreign : (P : ℕ → Type 0) → ((x : ℕ) → 0x1000 ≤ x → x ≤ 0x104F → P x) → ((x : ℕ) → kindOf x ≡ Foreign → P x) → (x : ℕ) → P x
-chart-or-foreign P f g x = go (decLt x 0x1000) (decLt 0x104F x)
-  where
-    go : Dec (x < 0x1000) → Dec (0x104F < x) → P x
-    go (yes l) d = g x (below-foreign x l)
-    go (no l) (yes h) = g x (above-foreign x h)
-    go (no l) (no h) = f x (omega arith) (omega arith)
+chart-or-foreign P f g x = by-chart x (λ l. g x (below-foreign x l)) (λ h. g x (above-foreign x h)) (f x)
 
 foreign-class : (x : ℕ) → kindOf x ≡ Foreign → classOf x ≡ 3
 unfolding classOf
@@ -118,6 +113,25 @@ next-gain q x h n =
     (or-second (eqb (entryOf q y) 96) _ (ne-eqb (entryOf q y) 96 m) (both-right (eqb (entryIn (classOf y) q) (entryOf q y)) _ (tested-at q y h l u))))
     (λ y e m. absurd (m (foreign-entry q y e))) x n
 
+-- what a value that is read says by itself: whether it begins a syllable
+tells : ℕ → Bool
+tells x = upTo (λ (q : ℕ). eqb (entryOf q x) 96 || same (beginsBy x) (eqb (entryOf q x / 32) 2)) 15
+
+tells-tested : (x : ℕ) → 0x1000 ≤ x → x ≤ 0x104F → T (tells x)
+unfolding tells entryOf beginsBy pick carriesMarks carriesFinal
+tells-tested x l h = on-chart tells tt x l h
+
+pub begins-told : (q x : ℕ) → q < 15 → (entryOf q x ≡ 96 → ⊥) → beginsBy x ≡ eqb (entryOf q x / 32) 2
+unfolding tells
+begins-told q x h n =
+    chart-or-foreign (λ (y : ℕ). (entryOf q y ≡ 96 → ⊥) → beginsBy y ≡ eqb (entryOf q y / 32) 2)
+    (λ y l u m. same-equal (beginsBy y) (eqb (entryOf q y / 32) 2)
+    (or-second (eqb (entryOf q y) 96) _ (ne-eqb (entryOf q y) 96 m) (told-at y l u)))
+    (λ y e m. absurd (m (foreign-entry q y e))) x n
+  where
+    told-at : (y : ℕ) → 0x1000 ≤ y → y ≤ 0x104F → T (eqb (entryOf q y) 96 || same (beginsBy y) (eqb (entryOf q y / 32) 2))
+    told-at y l u = below (λ (k : ℕ). eqb (entryOf k y) 96 || same (beginsBy y) (eqb (entryOf k y / 32) 2)) 15 (tells-tested y l u) q h
+
 pub makes-length : {x byte d a : ℕ} {kept b : Row} → Makes x byte d a kept b → length b + 1 ≡ length kept + d
 makes-length (begins h) = omega arith
 makes-length (begins-great-sa y) = omega arith
@@ -135,6 +149,7 @@ pub record Moves (x e gain : ℕ) (kept : Row) (o : Option Row) : Type 0 where
   pub amount : ℕ
   pub makes : Makes x (byteOf (kindOf x)) (e / 32) amount kept after
   pub gain-is : gain ≡ amount * 2 ^ (8 * byteOf (kindOf x))
+  pub begins-is : beginsBy x ≡ eqb (e / 32) 2
 
 pub record Enters (x e gain : ℕ) (kept : Row) (o : Option Row) : Type 0 where
   pub refuses : e ≡ 96 → o ≡ none
@@ -167,16 +182,16 @@ small-change makes-kinzi = omega arith
 small-change (closes l) = omega arith
 
 enters-by : (x : ℕ) (t : Transition) (e gain : ℕ) (kept : Row) (o : Option Row) → e ≡ entry t → gain ≡ amountOf t * 2 ^ (8 * byteOf (kindOf x))
-    → Agrees x (byteOf (kindOf x)) t kept o → Enters x e gain kept o
-enters-by x refuse e gain kept o q g a = record { refuses = λ _. a; moves = λ n. absurd (n q) }
-enters-by x (to d m s) e gain kept o q g a =
+    → ((e ≡ 96 → ⊥) → beginsBy x ≡ eqb (e / 32) 2) → Agrees x (byteOf (kindOf x)) t kept o → Enters x e gain kept o
+enters-by x refuse e gain kept o q g b a = record { refuses = λ _. a; moves = λ n. absurd (n q) }
+enters-by x (to d m s) e gain kept o q g b a =
     let l : d ≤ 2 = small-change (a .3) in
-    let n : stateNumber s ≤ 14 = leb→le _ 14 (state-small s) in
+    let k : stateNumber s ≤ 14 = leb→le _ 14 (state-small s) in
     let r : e % 32 ≡ stateNumber s = omega arith in
     let p : e / 32 ≡ d = omega arith in
     record {
       refuses = λ z. let y : ⊥ = omega arith in absurd y;
-      moves = λ _.
+      moves = λ n.
           record {
             after = a .0;
             stepped = a .1;
@@ -184,6 +199,7 @@ enters-by x (to d m s) e gain kept o q g a =
             amount = m;
             makes = subst (λ (k : ℕ). Makes x (byteOf (kindOf x)) k m kept (a .0)) (sym p) (a .3);
             gain-is = g;
+            begins-is = b n;
           };
     }
 
@@ -194,4 +210,5 @@ enters x kept k n state e =
     let s : stateAt state ≡ stateOf kept = ap stateAt e ∙ numbered (stateOf kept) in
     enters-by x (transition (kindOf x) x (stateOf kept)) (entryOf state x) (gainOf state x) kept (step kept x)
     (ap (λ (t : State). entry (transition (kindOf x) x t)) s)
-    (ap (λ (t : State). amountOf (transition (kindOf x) x t) * 2 ^ (8 * byteOf (kindOf x))) s) (followed x kept k n)
+    (ap (λ (t : State). amountOf (transition (kindOf x) x t) * 2 ^ (8 * byteOf (kindOf x))) s)
+    (begins-told state x (let h : stateNumber (stateOf kept) ≤ 14 = leb→le _ 14 (state-small (stateOf kept)) in omega arith)) (followed x kept k n)

@@ -5,7 +5,7 @@ use mathlib.Core.Bool.{Bool, not, _&&_, _||_}
 use mathlib.Core.List.{_∷_}
 use mathlib.Core.Option.{Option, none, some}
 use Prim.Native.Nat.{ℕ, _+_, _-_, _*_}
-use lib.Dec.{T, eqb, leb}
+use lib.Dec.{T, eqb, leb, ltb}
 use Rattle.letters.specs.Choice.{pick}
 use Rattle.letters.specs.Letters.{within}
 use Rattle.letters.specs.Kinds.{byKind}
@@ -122,6 +122,10 @@ vowelByte v = vowelWeight v + 16 * vowelTall v
 -- 103A makes a letter a plain final, and 1039 a stacked one
 abbrev pub finalBy : ℕ → ℕ → Final
 finalBy x c = pick (eqb x 0x1039) (stacked c) (plain c)
+
+-- a value that is read begins a syllable unless it is one of the marks from 102B to 103E, whatever is read before it
+unfoldable pub beginsBy : ℕ → Bool
+beginsBy x = ltb x 0x102B || ltb 0x103E x
 
 -- the value x makes of the row on the left the one on the right, last syllable first, by a transition with d for the count and the amount a,
 -- which is added to this byte

@@ -1,5 +1,6 @@
-// The class of a value: values of one class do the same to every state.
+// What a value says by itself: its class, of which all do the same to every state, and whether it begins a syllable.
 ghost use mathlib.Core.Path.{_≡_};
+ghost use Rattle.transitions.specs.Transition.{beginsBy};
 ghost use Rattle.transitions.specs.Tables.{classOf};
 
 // Neighbours stand in different arms, so that the compiler makes one table of bytes; 3 is the class of the foreign values,
@@ -40,4 +41,12 @@ pub fn class_of(x: u16) -> u8
         0x104E => 4,
         _ => 3,
     }
+}
+
+// Whether a value that is read begins a syllable: all but the marks do, whatever is read before them. It is asked of the value and not of the state, so
+// that the machine finds out early where it foretold wrongly.
+pub fn begins(x: u16) -> bool
+    ensures { λ r. ⌜ r ≡ beginsBy x ⌝ }
+{
+    x < 0x102B || 0x103E < x
 }

@@ -2,6 +2,7 @@
 -- Assumes nothing.
 use mathlib.Core.Path.{_∙_}
 use borrow.Author.Needs.{needs}
+use Rattle.syllables.proofs.Moved.{one-more, none-more}
 use Rattle.keying.proofs.Placed.{not-begun, is-begun}
 use Rattle.keying.proofs.fill.advance.Statement.{statement}
 use Rattle.keying.proofs.fill.advance.Tie as tie
@@ -9,27 +10,39 @@ use Rattle.keying.proofs.fill.advance.Tie as tie
 window-after-requires : tie.Need-window-after-requires
 window-after-requires c κs = search needs
 
+begins-requires : tie.Need-begins-requires
+begins-requires c κs = search needs
+
 put-last-requires : tie.Need-put-last-requires
-put-last-requires c κs = let s = c .before .before .before in (s .pre .0 .room, s .pre .1)
+put-last-requires c κs = let s = c .before .before .before .before in (s .pre .0 .room, s .pre .1)
 
 returns : tie.Need-returns
 returns c =
     let i = c .before .before in
-    let w = i .before in
-    let a = w .before .args in
+    let b = i .before in
+    let w = b .before in
+    let s = w .before in
+    let a = s .args in
     record {
       moved = w .window-after .ensures;
-      put = c .put-last .ensures ∙ is-begun (a .change) (a .window .count) (w .window-after .result .before) (a .bytes .now) (i .if1 .taken);
+      put =
+          c .put-last .ensures
+          ∙ is-begun (a .change) (a .window .count) (w .window-after .result .before) (a .bytes .now)
+          (one-more (s .pre .0) _ (b .begins .ensures) (i .if1 .taken));
     }
 
 returns-2 : tie.Need-returns-2
 returns-2 c =
-    let w = c .before in
-    let a = w .before .args in
+    let b = c .before in
+    let w = b .before in
+    let s = w .before in
+    let a = s .args in
     record {
       moved = w .window-after .ensures;
-      put = not-begun (a .change) (a .window .count) (w .window-after .result .before) (a .bytes .now) (c .if1 .left);
+      put =
+          not-begun (a .change) (a .window .count) (w .window-after .result .before) (a .bytes .now)
+          (none-more (s .pre .0) _ (b .begins .ensures) (c .if1 .left));
     }
 
 pub advance-spec : {M : Type 1} → statement M
-advance-spec = tie.close (tie.spec window-after-requires put-last-requires returns returns-2)
+advance-spec = tie.close (tie.spec window-after-requires begins-requires put-last-requires returns returns-2)

@@ -2,12 +2,14 @@
 -- values read. The measure is what is left of the word. Assumes nothing.
 use mathlib.Core.Path.{_≡_, ap, _∙_}
 use mathlib.Core.Logic.{⊎-elim}
-use Prim.Native.Nat.{_-_, _≤_}
+use Prim.Native.Nat.{_-_, _/_, _≤_}
 use native.Mathlib.Omega.{arith}
 use borrow.Author.Needs.{needs}
 use lib.ListN.{length, getD}
 use Rattle.transitions.specs.Tables.{entryOf, gainOf, nextBy, gainBy}
 use Rattle.transitions.proofs.Entered.{next-entry, next-gain}
+use Rattle.syllables.specs.Window.{Fit}
+use Rattle.syllables.proofs.Moved.{one-more, none-more}
 use Rattle.recogniser.proofs.Walking.{state-bound, walk-refused}
 use Rattle.reading.specs.Scanned.{Reached}
 use Rattle.reading.proofs.Reach.{completed, at-start, count-fits, Turned, turn-fits, turned}
@@ -83,13 +85,18 @@ gained c =
     c .gain .ensures ∙ ap (gainBy (l .loop .state)) (n .before .rules-of .ensures)
     ∙ next-gain (l .loop .state) _ (omega arith) (λ e. c .before .if1 .left (entered n ∙ e))
 
-window-after-requires : tie.Need-window-after-requires Inv-loop μ-loop
-window-after-requires c κs =
+-- the numbers of the window fit
+fits : (c : tie.After-gain Inv-loop μ-loop) → let n = c .before .before in let l = n .before .before .before .before in
+    Fit (n .next .result / 32) (c .gain .result) (getD (l .before .before .before .args .word .now) (l .loop .at) 0) (l .loop .window)
+fits c =
     let n = c .before .before in
     let l = n .before .before .before .before in
     let s = l .before .before .before in
     turn-fits (s .args .word .now) (l .loop .at) (l .loop .state) (l .loop .window) (l .loop .syllables) (l .loop .starts) (l .loop .inv .1)
     (n .next .result) (entered n) (n .before .before .before .loop-test .taken) (c .before .if1 .left) (s .pre) (c .gain .result) (gained c)
+
+window-after-requires : tie.Need-window-after-requires Inv-loop μ-loop
+window-after-requires c κs = fits c
 
 turns : (c : tie.After-window-after Inv-loop μ-loop) → let n = c .before .before .before in let l = n .before .before .before .before in
     Turned (l .before .before .before .args .word .now) (l .loop .at) (n .next .result) (l .loop .syllables) (l .loop .starts) (c .window-after .result)
@@ -102,23 +109,29 @@ turns c =
     (n .next .result) (entered n) (n .before .before .before .loop-test .taken) (g .before .if1 .left) (s .pre) (g .gain .result) (gained g)
     (c .window-after .result) (c .window-after .ensures)
 
+begins-requires : tie.Need-begins-requires Inv-loop μ-loop
+begins-requires c κs = search needs
+
 less-requires : tie.Need-less-requires Inv-loop μ-loop
 less-requires c κs = search needs
 
 mul-syllables : tie.Need-mul-syllables Inv-loop μ-loop
-mul-syllables c = omega (arith, c .less .ensures, turns (c .before .before) .few)
+mul-syllables c = omega (arith, c .less .ensures, turns (c .before .before .before) .few)
 
 array-write-syllables : tie.Need-array-write-syllables Inv-loop μ-loop
-array-write-syllables c = omega (arith, c .less .ensures, turns (c .before .before) .few)
+array-write-syllables c = omega (arith, c .less .ensures, turns (c .before .before .before) .few)
 
 cast-starts : tie.Need-cast-starts Inv-loop μ-loop
 cast-starts c = omega arith
 
 sub-starts : tie.Need-sub-starts Inv-loop μ-loop
-sub-starts c = turns (c .before .before) .starts-one (c .before .if2 .taken)
+sub-starts c =
+    let t = c .before in
+    let b = t .before in
+    turns (b .before) .starts-one (one-more (fits (b .before .before)) _ (b .begins .ensures) (t .if2 .taken))
 
 array-write-starts : tie.Need-array-write-starts Inv-loop μ-loop
-array-write-starts c = omega (arith, turns (c .before .before) .few)
+array-write-starts c = omega (arith, turns (c .before .before .before) .few)
 
 cast-state : tie.Need-cast-state Inv-loop μ-loop
 cast-state c = omega arith
@@ -131,11 +144,13 @@ loop-less c = omega arith
 
 loop-again : tie.Need-loop-again Inv-loop μ-loop
 loop-again c =
-    let t = turns (c .before) in (
+    let b = c .before in
+    let t = turns (b .before) in
+    let f = fits (b .before .before) in (
       omega arith,
       ⊎-elim
-          (λ w. t .begun (w .0 .taken) (w .1 .result) (w .1 .ensures) (c .if2 .syllables) (w .2) (c .if2 .starts) (w .3))
-          (λ w. t .stays (w .0 .left) (c .if2 .syllables) (w .1) (c .if2 .starts) (w .2))
+          (λ w. t .begun (one-more f _ (b .begins .ensures) (w .0 .taken)) (w .1 .result) (w .1 .ensures) (c .if2 .syllables) (w .2) (c .if2 .starts) (w .3))
+          (λ w. t .stays (none-more f _ (b .begins .ensures) (w .0 .left)) (c .if2 .syllables) (w .1) (c .if2 .starts) (w .2))
           (c .if2 .came),
     )
 
@@ -185,6 +200,7 @@ scan-word-spec =
     returns
     gain-requires
     window-after-requires
+    begins-requires
     less-requires
     mul-syllables
     array-write-syllables
