@@ -165,6 +165,33 @@ toned-uu =
       spell = (0x1026 ∷ 0x1038 ∷ []) ∷ [];
     }
 
+-- the first and the last head of each unbroken range
+abbrev range-heads : List ℕ
+range-heads = 0x1000 ∷ 0x1021 ∷ 0x1023 ∷ 0x1027 ∷ 0x1029 ∷ 0x102A ∷ 0x1040 ∷ 0x1049 ∷ 0x104A ∷ 0x104B ∷ 0x104C ∷ 0x104F ∷ []
+
+abbrev range-ends : Example
+range-ends =
+    record {
+      word = range-heads;
+      row = map bare range-heads;
+      records = map (λ (h : ℕ). (h - 0x1000) ∷ replicate 6 0) range-heads;
+      weigh =
+          (13 ∷ 0 ∷ 0 ∷ 0 ∷ 0 ∷ [])
+          ∷ (46 ∷ 0 ∷ 0 ∷ 0 ∷ 0 ∷ [])
+          ∷ (46 ∷ 0 ∷ 0 ∷ 2 ∷ 0 ∷ [])
+          ∷ (46 ∷ 0 ∷ 0 ∷ 6 ∷ 0 ∷ [])
+          ∷ (46 ∷ 0 ∷ 0 ∷ 8 ∷ 0 ∷ [])
+          ∷ (46 ∷ 0 ∷ 0 ∷ 9 ∷ 0 ∷ [])
+          ∷ (3 ∷ 0 ∷ 0 ∷ 0 ∷ 0 ∷ [])
+          ∷ (12 ∷ 0 ∷ 0 ∷ 0 ∷ 0 ∷ [])
+          ∷ (1 ∷ 0 ∷ 0 ∷ 0 ∷ 0 ∷ [])
+          ∷ (2 ∷ 0 ∷ 0 ∷ 0 ∷ 0 ∷ [])
+          ∷ (47 ∷ 0 ∷ 0 ∷ 0 ∷ 0 ∷ [])
+          ∷ (50 ∷ 0 ∷ 0 ∷ 0 ∷ 0 ∷ [])
+          ∷ [];
+      spell = map (λ (h : ℕ). h ∷ []) range-heads;
+    }
+
 -- one syllable of a head and a plain final, with the weights of both and the vowel weight of the head
 abbrev with-plain : ℕ → ℕ → ℕ → ℕ → ℕ → Example
 with-plain head final head-weight final-weight vowel-weight =
@@ -234,6 +261,7 @@ baseExamples =
       spell = replicate limit (0x1000 ∷ []);
     }
     ∷ great-sa-alone
+    ∷ range-ends
     ∷ plain-ka
     ∷ plain-nga
     ∷ plain-sa
