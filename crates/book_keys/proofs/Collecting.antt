@@ -14,12 +14,13 @@ use Rattle.letters.specs.Choice.{pick}
 use Rattle.formula.specs.Lists.{filtered}
 use Rattle.recogniser.specs.Answer.{Readable}
 use Rattle.entries.specs.Entries.{Entry, wordAt}
-use Rattle.entries.specs.Map.{counted, liveCount}
+use Rattle.entries.specs.Map.{counted, liveCount, liveOnes}
 use Rattle.entries.specs.Book.{IsBook, Opened}
 use Rattle.entries.proofs.Agree.{only}
 use Rattle.entries.proofs.Walk.{Walk, walk-start, Turn, turn, walk-seen}
-use Rattle.book_keys.specs.Filing.{rowOf, filedKey, keyRoom, AllKeyed, liveOnes, startOf, mostLive, withKeys, FiledRight}
-use Rattle.book_keys.proofs.Live.{liveStarts, live-count, live-append, live-few, here-readable, Spaced, spaced-of-book, keys-length, all-keyed}
+use Rattle.entries.proofs.Live.{live-count, live-append}
+use Rattle.book_keys.specs.Filing.{rowOf, filedKey, keyRoom, AllKeyed, startOf, mostLive, withKeys, FiledRight}
+use Rattle.book_keys.proofs.Live.{liveStarts, live-few, here-readable, Spaced, spaced-of-book, keys-length, all-keyed}
 
 -- at a place: the live records among those that are passed are filed
 pub record Collected (b : List ℕ) (free : ℕ) (keys-before starts-before keys starts : List ℕ) (live at : ℕ) : Type 0 where

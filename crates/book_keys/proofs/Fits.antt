@@ -21,7 +21,8 @@ use Rattle.weighing.proofs.Prefix.{key-prefix, isEqual, prefix-compared, prefix
 use Rattle.entries.specs.Limits.{bookLimit}
 use Rattle.entries.specs.Entries.{Entry, wordAt, entryAt}
 use Rattle.entries.specs.Book.{IsBook}
-use Rattle.book_keys.specs.Filing.{rowOf, keyRoom, HasKey, AllKeyed, liveOnes, startOf}
+use Rattle.entries.specs.Map.{liveOnes}
+use Rattle.book_keys.specs.Filing.{rowOf, keyRoom, HasKey, AllKeyed, startOf}
 use Rattle.book_keys.specs.Fitting.{fits, fitsKey, weightsAt, hasPrefix, KeyWithin, AllWithin, KeptRight}
 use Rattle.book_keys.proofs.Rows.{key-count, key-weights, key-ends}
 use Rattle.book_keys.proofs.Live.{entries-back, keyed-at}

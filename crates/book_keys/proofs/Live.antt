@@ -12,39 +12,18 @@ use lib.Seq.{sets, length-sets, take-take}
 use Rattle.memory.proofs.Stores.{sets-before, sets-there}
 use Rattle.letters.specs.Choice.{pick}
 use Rattle.formula.specs.Lists.{filtered}
-use Rattle.letters.proofs.Tests.{of-true}
 use Rattle.recogniser.specs.Answer.{Readable}
 use Rattle.entries.specs.Limits.{bookLimit}
 use Rattle.entries.specs.Entries.{Entry, wordAt, entryAt, isFramed}
 use Rattle.entries.specs.Book.{size, endOf, GoodAfter, IsBook}
-use Rattle.entries.specs.Map.{counted, liveCount}
-use Rattle.entries.specs.Rank.{insert, sortedOnto}
-use Rattle.entries.proofs.Ranked.{AllLive}
+use Rattle.entries.specs.Map.{counted, liveCount, liveOnes}
 use Rattle.entries.proofs.Records.{framed-true, framed-is}
 use Rattle.entries.proofs.Walk.{Walk, walk-start, Here, here, free-within}
-use Rattle.book_keys.specs.Filing.{rowOf, filedKey, keyRoom, mostLive, HasKey, AllKeyed, liveOnes, startOf, withKeys}
+use Rattle.book_keys.specs.Filing.{rowOf, filedKey, keyRoom, mostLive, HasKey, AllKeyed, startOf, withKeys}
 use Rattle.book_keys.proofs.Rows.{key-within}
 
 abbrev pub liveStarts : List Entry → List ℕ
 liveStarts list = map startOf (liveOnes list)
-
-pub live-count : (list : List Entry) → length (liveOnes list) ≡ liveCount list
-unfolding filtered pick
-live-count [] = refl
-live-count (x ∷ list) = go (x .live) (live-count list)
-  where
-    go : (t : Bool) → length (liveOnes list) ≡ liveCount list → length (pick t (x ∷ liveOnes list) (liveOnes list)) ≡ counted t (liveCount list)
-    go true h = ap suc h
-    go false h = h
-
-pub live-append : (seen rest : List Entry) → liveCount (seen ++ rest) ≡ liveCount seen + liveCount rest
-live-append [] rest = omega arith
-live-append (x ∷ seen) rest = go (x .live) (live-append seen rest)
-  where
-    go : (t : Bool) → liveCount (seen ++ rest) ≡ liveCount seen + liveCount rest
-        → counted t (liveCount (seen ++ rest)) ≡ counted t (liveCount seen) + liveCount rest
-    go true h = omega arith
-    go false h = h
 
 -- each live record takes at least eight bytes
 live-ends : (at : ℕ) (seen list : List Entry) → GoodAfter at seen list → at + 8 * liveCount list ≤ endOf at list
@@ -60,28 +39,6 @@ live-ends at seen (x ∷ list) g = go (x .live) (live-ends (at + size x) (seen +
 pub live-few : (b : List ℕ) (list : List Entry) → IsBook b list → liveCount list ≤ mostLive
 live-few b list k =
     omega (arith, live-ends 0 [] list (k .good), free-within b (endOf 0 list) (record { list = list; is-book = k; end = refl }), k .short)
-
-pub live-all : (list : List Entry) → AllLive (liveOnes list)
-unfolding filtered pick
-live-all [] = tt
-live-all (x ∷ list) = go (x .live) refl (live-all list)
-  where
-    go : (t : Bool) → x .live ≡ t → AllLive (liveOnes list) → AllLive (pick t (x ∷ liveOnes list) (liveOnes list))
-    go true e h = (of-true (x .live) e, h)
-    go false e h = h
-
--- removed entries have no part in the order
-pub sorted-live : (test : Entry → Entry → Bool) (done list : List Entry) → sortedOnto test done (liveOnes list) ≡ sortedOnto test done list
-unfolding sortedOnto filtered pick
-sorted-live test done [] = refl
-sorted-live test done (x ∷ list) =
-    go (x .live) refl (sorted-live test (pick (x .live) (insert test x done) done) list)
-  where
-    go : (t : Bool) → x .live ≡ t
-        → sortedOnto test (pick (x .live) (insert test x done) done) (liveOnes list) ≡ sortedOnto test (pick (x .live) (insert test x done) done) list
-        → sortedOnto test done (pick t (x ∷ liveOnes list) (liveOnes list)) ≡ sortedOnto test (pick (x .live) (insert test x done) done) list
-    go true e h = h
-    go false e h = ap (λ (u : Bool). sortedOnto test (pick u (insert test x done) done) (liveOnes list)) (sym e) ∙ h
 
 -- a walk over all of a book
 whole : (b : List ℕ) (list : List Entry) → IsBook b list → Walk b 0 (endOf 0 list) list [] list

@@ -7,7 +7,6 @@ use Prim.Native.Nat.{ℕ, _≤_}
 use lib.Dec.{T}
 use lib.ListN.{length, take, drop}
 use lib.Seq.{sets}
-use Rattle.formula.specs.Lists.{filtered}
 use Rattle.formula.specs.Row.{Row}
 use Rattle.recogniser.specs.Answer.{Readable}
 use Rattle.weighing.specs.Keys.{keyOf, usedBytes}
@@ -17,7 +16,7 @@ use Rattle.weighing.specs.declared.order.Order.the-variants.{Less, Equal, Great
 use Rattle.recogniser.proofs.Decided.{decide}
 use Rattle.entries.specs.Entries.{Entry, wordAt, isFramed}
 use Rattle.entries.specs.Book.{IsBook}
-use Rattle.entries.specs.Map.{liveCount}
+use Rattle.entries.specs.Map.{liveCount, liveOnes}
 
 abbrev pub decidedRow : {word : List ℕ} → Dec (Readable word) → Row
 decidedRow (yes readable) = readable .row
@@ -54,10 +53,6 @@ pub record HasKey (bytes keys : List ℕ) (at : ℕ) : Type 0 where
 abbrev pub AllKeyed : List ℕ → List ℕ → List ℕ → Type 0
 AllKeyed bytes keys [] = Unit {0}
 AllKeyed bytes keys (start ∷ starts) = HasKey bytes keys start × AllKeyed bytes keys starts
-
--- the live entries of a list, in the list's order
-abbrev pub liveOnes : List Entry → List Entry
-liveOnes = filtered (λ (entry : Entry). entry .live)
 
 abbrev pub startOf : Entry → ℕ
 startOf entry = entry .start

@@ -9,3 +9,4 @@ pub mod Added
 pub mod Removed
 pub mod Ranked
 pub mod Passing
+pub mod Live

@@ -4,7 +4,7 @@ use mathlib.Core.List.{List, [], _∷_}
 use mathlib.Core.Option.{Option, none, some}
 use Prim.Native.Nat.{ℕ, suc}
 use Rattle.letters.specs.Choice.{pick}
-use Rattle.formula.specs.Lists.{sameList}
+use Rattle.formula.specs.Lists.{filtered, sameList}
 use Rattle.entries.specs.Entries.{Entry}
 
 -- the live entry with the word
@@ -20,6 +20,10 @@ counted false n = n
 abbrev pub liveCount : List Entry → ℕ
 liveCount [] = 0
 liveCount (entry ∷ entries) = counted (entry .live) (liveCount entries)
+
+-- the live entries of a list, in the list's order
+abbrev pub liveOnes : List Entry → List Entry
+liveOnes = filtered (λ (entry : Entry). entry .live)
 
 -- the entry of a record that is removed
 abbrev pub removed : Entry → Entry

@@ -12,11 +12,11 @@ use Rattle.formula.specs.Lists.{filtered}
 use Rattle.formula.proofs.Filtered.{filtered-all}
 use Rattle.entries.specs.Entries.{Entry, entryAt}
 use Rattle.entries.specs.Book.{IsBook}
-use Rattle.entries.specs.Map.{liveCount}
+use Rattle.entries.specs.Map.{liveCount, liveOnes}
 use Rattle.entries.specs.Rank.{sorted}
-use Rattle.book_keys.specs.Filing.{before, liveOnes, startOf}
+use Rattle.entries.proofs.Live.{live-count}
+use Rattle.book_keys.specs.Filing.{before, startOf}
 use Rattle.book_keys.specs.Fitting.{fitsKey}
-use Rattle.book_keys.proofs.Live.{live-count}
 use Rattle.sorting.specs.Passing.{startsPassing}
 use Rattle.sorting.proofs.InOrder.{passing-there, passing-count}
 use Rattle.ranking.specs.Rank.{startsInOrder}

@@ -13,13 +13,14 @@ use Rattle.formula.proofs.Lists.{All}
 use Rattle.formula.proofs.Filtered.{filtered-each, filtered-few, filtered-swap}
 use Rattle.entries.specs.Entries.{Entry, entryAt}
 use Rattle.entries.specs.Book.{IsBook}
-use Rattle.entries.specs.Map.{liveCount}
+use Rattle.entries.specs.Map.{liveCount, liveOnes}
 use Rattle.entries.specs.Rank.{insert, sortedOnto, sorted}
 use Rattle.entries.proofs.Ranked.{AllLive}
 use Rattle.entries.proofs.Passing.{filtered-of-book}
-use Rattle.book_keys.specs.Filing.{before, liveOnes, startOf}
+use Rattle.entries.proofs.Live.{live-count, live-all, sorted-live}
+use Rattle.book_keys.specs.Filing.{before, startOf}
 use Rattle.book_keys.proofs.Laws.{before-irreflexive, before-transitive, before-total}
-use Rattle.book_keys.proofs.Live.{live-count, entries-back, live-all, sorted-live}
+use Rattle.book_keys.proofs.Live.{entries-back}
 use Rattle.sorting.specs.Sorting.{inOrderOnto, inOrder, goesBefore}
 use Rattle.sorting.proofs.Merges.{length-in-order}
 use Rattle.sorting.specs.Passing.{startsPassing}

@@ -15,7 +15,8 @@ use Rattle.refusals.specs.Outcome.{accepts, refuses}
 use Rattle.refusals.specs.Output.{Puts, whole, no-room}
 use Rattle.entries.specs.Entries.{Entry}
 use Rattle.entries.specs.Book.{IsBook}
-use Rattle.book_keys.specs.Filing.{AllKeyed, liveOnes, startOf, FiledRight}
+use Rattle.entries.specs.Map.{liveOnes}
+use Rattle.book_keys.specs.Filing.{AllKeyed, startOf, FiledRight}
 use Rattle.book_keys.specs.Fitting.{fitsKey, hasPrefix, KeptRight}
 use Rattle.book_keys.proofs.Fits.{kept-entries}
 use Rattle.sorting.specs.Sorting.{inOrder, goesBefore, frontInOrder}

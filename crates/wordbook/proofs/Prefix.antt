@@ -22,8 +22,9 @@ use Rattle.weighing.proofs.Prefix.{begins-with-first, begins-with-itself, begin
 use Rattle.storage.specs.Stored.{storedForm}
 use Rattle.entries.specs.Entries.{Entry, entryAt}
 use Rattle.entries.specs.Book.{size, GoodEntry, GoodAfter, IsBook}
+use Rattle.entries.specs.Map.{liveOnes}
 use Rattle.entries.proofs.Agree.{complete}
-use Rattle.book_keys.specs.Filing.{rowOf, before, liveOnes, startOf}
+use Rattle.book_keys.specs.Filing.{rowOf, before, startOf}
 use Rattle.book_keys.specs.Fitting.{fits}
 use Rattle.book_keys.proofs.Rows.{row-is}
 use Rattle.sorting.proofs.InOrder.{passing-count}
