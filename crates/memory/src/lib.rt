@@ -1,3 +1,3 @@
-// Copies from slice to slice, and numbers at another width.
+// Copies from slice to slice, moves within one, and numbers at another width.
 pub mod casts;
 pub mod copies;
