@@ -18,7 +18,7 @@ use Rattle.entries.specs.Readable.{isReadable}
 use Rattle.entries.specs.Entries.{Entry, wordAt, entryAt, isFramed, isFresh, mayFollow, Entries, book, wrong, zeroTail, entriesFrom, entries}
 use Rattle.entries.specs.Book.{zeros, recordBytes, records, size, endOf, GoodEntry, GoodAfter, IsBook, Opened}
 use Rattle.entries.proofs.Tests.{of-readable, to-readable}
-use Rattle.entries.proofs.Bytes.{readable-within}
+use Rattle.entries.proofs.Bytes.{Bytes, readable-within}
 use Rattle.entries.proofs.Records.{Framed, framed-true, framed-is, length-word, cut, Read, read-back, records-append, end-append, length-record}
 
 pub good-snoc : (at : ℕ) (seen es : List Entry) (e : Entry) → GoodAfter at seen es → e .start ≡ endOf at es → GoodEntry e → T (isFresh (seen ++ es) e)
@@ -37,7 +37,7 @@ pub upto-start : (b : List ℕ) → Upto b 0 []
 upto-start b = record { bytes = refl; good = tt; end = refl }
 
 -- what stands in a frame, with a readable word, can be held
-entry-good : (b : List ℕ) (at : ℕ) → ((k : ℕ) → getD b k 0 < 256) → Framed b at → T (isReadable (wordAt b at)) → GoodEntry (entryAt b at)
+entry-good : (b : List ℕ) (at : ℕ) → Bytes b → Framed b at → T (isReadable (wordAt b at)) → GoodEntry (entryAt b at)
 entry-good b at small f t =
     record {
       some = subst (λ (m : ℕ). 1 ≤ m) (sym (length-word b at (f .room))) (f .some);
@@ -57,7 +57,7 @@ may-follow : (es : List Entry) (e : Entry) → GoodEntry e → T (isFresh es e) 
 unfolding mayFollow
 may-follow es e g t = both (isReadable (e .word)) _ (to-readable (e .word) (g .readable)) t
 
-pub upto-next : (b : List ℕ) (at : ℕ) (es : List Entry) → ((k : ℕ) → getD b k 0 < 256) → Upto b at es → T (isFramed b at) → T (mayFollow es (entryAt b at))
+pub upto-next : (b : List ℕ) (at : ℕ) (es : List Entry) → Bytes b → Upto b at es → T (isFramed b at) → T (mayFollow es (entryAt b at))
     → Upto b (at + 7 + getD b (at + 2) 0) (es ++ (entryAt b at ∷ []))
 upto-next b at es small u t m =
     let f = framed-true b at t in
@@ -99,7 +99,7 @@ sound-tail b es (x ∷ l) p n at s g e q =
     ∙ ap (λ (m : List ℕ). m ++ l) (append-assoc (records es) (zeros n) (0 ∷ []) ∙ ap (λ (m : List ℕ). records es ++ m) (replicate-snoc n))))
     tt
 
-sound-from : (k : ℕ) (b : List ℕ) (at : ℕ) (es : List Entry) → ((i : ℕ) → getD b i 0 < 256) → length b ≤ bookLimit → Upto b at es → Sound b (entriesFrom k b at es)
+sound-from : (k : ℕ) (b : List ℕ) (at : ℕ) (es : List Entry) → Bytes b → length b ≤ bookLimit → Upto b at es → Sound b (entriesFrom k b at es)
 unfolding entriesFrom
 sound-from zero b at es small s u = tt
 sound-from (suc k) b at es small s u =
@@ -111,7 +111,7 @@ sound-from (suc k) b at es small s u =
     tt)
 
 -- what `entries` finds is a book, and the place is its end
-pub sound : (b : List ℕ) → ((i : ℕ) → getD b i 0 < 256) → Sound b (entries b)
+pub sound : (b : List ℕ) → Bytes b → Sound b (entries b)
 unfolding entries
 sound b small =
     sound-pick b (leb (length b) bookLimit) _ _ (λ t. sound-from (suc (length b)) b 0 [] small (leb-true (length b) bookLimit (is-true (leb (length b) bookLimit) t)) (upto-start b)) tt
@@ -177,7 +177,7 @@ pub opened-is : (b : List ℕ) (free : ℕ) (o : Opened b free) → entries b �
 opened-is b free o = complete b (o .list) (o .is-book) ∙ ap (book (o .list)) (sym (o .end))
 
 -- and a buffer that is read as a book is one
-pub is-opened : (b : List ℕ) (es : List Entry) (free : ℕ) → ((i : ℕ) → getD b i 0 < 256) → entries b ≡ book es free → Opened b free
+pub is-opened : (b : List ℕ) (es : List Entry) (free : ℕ) → Bytes b → entries b ≡ book es free → Opened b free
 is-opened b es free small e =
     let s : Sound b (book es free) = subst (Sound b) e (sound b small) in
     record { list = es; is-book = s .0; end = s .1 }

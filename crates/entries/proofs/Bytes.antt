@@ -13,6 +13,10 @@ use Rattle.recogniser.specs.Answer.{Readable}
 use Rattle.entries.specs.Entries.{valueOf}
 use Rattle.entries.specs.Book.{byteOf}
 
+-- a list of bytes
+abbrev pub Bytes : List ℕ → Type 0
+Bytes list = (place : ℕ) → getD list place 0 < 256
+
 -- the byte of a byte's value
 pub byte-value : (l : List ℕ) → map byteOf (map valueOf l) ≡ l
 byte-value [] = refl

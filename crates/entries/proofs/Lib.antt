@@ -10,3 +10,6 @@ pub mod Removed
 pub mod Ranked
 pub mod Passing
 pub mod Live
+pub mod Tidied
+pub mod Moved
+pub mod Freed

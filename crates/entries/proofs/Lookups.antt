@@ -1,13 +1,14 @@
 -- The book as a map: what a word looks up after one entry more, and after a word's entry is removed.
 -- Assumes nothing.
-use mathlib.Core.Path.{_≡_, refl, sym, ap, _∙_}
+use mathlib.Core.Path.{_≡_, refl, sym, ap, subst, _∙_}
 use mathlib.Core.Bool.{Bool, true, false, _&&_, _||_}
 use mathlib.Core.List.{List, [], _∷_, _++_}
 use mathlib.Core.Option.{Option, none, some, Option·none-ne-some}
 use Prim.Native.Nat.{ℕ}
+use lib.Dec.{T}
 use Rattle.letters.specs.Choice.{pick}
 use Rattle.letters.proofs.Tests.{is-true, is-false, of-true, pick-true, pick-false}
-use Rattle.formula.proofs.Lists.{both-right, sameList, sameList-equal, sameList-refl}
+use Rattle.formula.proofs.Lists.{both-left, both-right, sameList, sameList-equal, sameList-refl}
 use Rattle.entries.specs.Entries.{Entry, holds}
 use Rattle.entries.specs.Map.{lookup, removed, without, newEntry}
 
@@ -43,6 +44,20 @@ lookup-others es w v p s n =
     lookup-append es (newEntry p w s ∷ []) v
     ∙ ap (orElse (lookup es v)) (pick-false (sameList w v) (some (newEntry p w s)) none (is-false (sameList w v) (λ t. n (sym (sameList-equal w v t)))))
     ∙ orElse-none (lookup es v)
+
+-- what a word looks up is live and has the word
+pub lookup-word : (es : List Entry) (w : List ℕ) (e : Entry) → lookup es w ≡ some e → T (e .live) × (e .word ≡ w)
+unfolding lookup pick
+lookup-word [] w e = λ q. absurd (Option·none-ne-some e q)
+lookup-word (x ∷ es) w e = go (x .live && sameList (x .word) w) refl (lookup-word es w e)
+  where
+    go : (t : Bool) → x .live && sameList (x .word) w ≡ t → (lookup es w ≡ some e → T (e .live) × (e .word ≡ w))
+        → pick t (some x) (lookup es w) ≡ some e → T (e .live) × (e .word ≡ w)
+    go true q f r =
+        let same : x ≡ e = cc in
+        let t : T (x .live && sameList (x .word) w) = of-true (x .live && sameList (x .word) w) q in
+        subst (λ (y : Entry). T (y .live) × (y .word ≡ w)) same (both-left (x .live) _ t, sameList-equal (x .word) w (both-right (x .live) _ t))
+    go false q f r = f r
 
 -- what is removed is not found
 pub lookup-removed : (es : List Entry) (w : List ℕ) → lookup (without es w) w ≡ none

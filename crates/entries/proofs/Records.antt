@@ -15,7 +15,7 @@ use Rattle.formula.specs.Limits.{limit}
 use Rattle.formula.proofs.Lists.{both, both-left, both-right}
 use Rattle.entries.specs.Entries.{Entry, valueOf, number, wordAt, entryAt, isFramed}
 use Rattle.entries.specs.Book.{byteOf, markOf, numberBytes, recordBytes, records, size, endOf}
-use Rattle.entries.proofs.Bytes.{byte-value, value-byte}
+use Rattle.entries.proofs.Bytes.{Bytes, byte-value, value-byte}
 
 -- what a frame says
 pub record Framed (b : List ℕ) (at : ℕ) : Type 0 where
@@ -97,7 +97,7 @@ length-word b at h =
     length-map (take (getD b (at + 2) 0) (drop (at + 7) b)) valueOf ∙ length-take-le (getD b (at + 2) 0) (drop (at + 7) b) d
 
 -- a record, cut off the buffer
-pub cut : (b : List ℕ) (at : ℕ) → ((k : ℕ) → getD b k 0 < 256) → Framed b at
+pub cut : (b : List ℕ) (at : ℕ) → Bytes b → Framed b at
     → drop at b ≡ recordBytes (entryAt b at) ++ drop (at + 7 + getD b (at + 2) 0) b
 unfolding recordBytes
 cut b at small f =

@@ -70,7 +70,7 @@ good-without at seen (e ∷ es) w g =
             (g .0, record { some = g .1 .some; readable = g .1 .readable; stock = g .1 .stock }, fresh-removed (without seen w) e, h)
         two false h = (g .0, g .1, still-fresh seen w e (g .2), h)
 
-held-last : (seen : List Entry) (e : Entry) (w : List ℕ) → T (e .live && sameList (e .word) w) → T (holds (seen ++ (e ∷ [])) w)
+pub held-last : (seen : List Entry) (e : Entry) (w : List ℕ) → T (e .live && sameList (e .word) w) → T (holds (seen ++ (e ∷ [])) w)
 unfolding holds
 held-last [] e w t = or-left (e .live && sameList (e .word) w) false t
 held-last (x ∷ seen) e w t = or-right (x .live && sameList (x .word) w) (holds (seen ++ (e ∷ [])) w) (held-last seen e w t)
@@ -85,7 +85,7 @@ held-more (x ∷ seen) e w = go (x .live && sameList (x .word) w) (held-more see
     go false f t = f t
 
 -- a word that is held already is in no later live entry
-only-once : (at : ℕ) (seen es : List Entry) (w : List ℕ) → T (holds seen w) → GoodAfter at seen es → without es w ≡ es
+pub only-once : (at : ℕ) (seen es : List Entry) (w : List ℕ) → T (holds seen w) → GoodAfter at seen es → without es w ≡ es
 unfolding without pick isFresh
 only-once at seen [] w h g = refl
 only-once at seen (e ∷ es) w h g =

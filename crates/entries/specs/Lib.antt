@@ -5,3 +5,4 @@ pub mod Book
 pub mod Map
 pub mod Change
 pub mod Rank
+pub mod Tidy
