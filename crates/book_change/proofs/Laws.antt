@@ -4,66 +4,111 @@
 use mathlib.Core.Path.{_≡_, refl, sym, ap, subst, _∙_}
 use mathlib.Core.List.{List, [], _∷_, _++_}
 use mathlib.Core.Option.{Option, none, some}
-use Prim.Native.Nat.{ℕ, _+_, _<_}
+use Prim.Native.Nat.{ℕ, zero, suc, _+_, _≤_, _<_}
 use native.Mathlib.Omega.{arith}
-use lib.ListN.{length, getD}
-use Rattle.refusals.specs.Outcome.{accepts, refuses}
+use lib.ListN.{length}
+use Rattle.refusals.specs.Outcome.{accepts, accepts-both, refuses}
 use Rattle.entries.specs.Entries.{Entry, Entries, book, wrong, entries}
 use Rattle.entries.specs.Book.{endOf, IsBook, Opened}
 use Rattle.entries.specs.Map.{lookup, without, newEntry}
-use Rattle.entries.specs.Change.{Storable, withRemoved}
+use Rattle.entries.specs.Change.{Storable, withRecord, withRemoved}
+use Rattle.entries.specs.Tidy.{liveLength, bytesTidied, tidied}
+use Rattle.entries.proofs.Bytes.{Bytes}
 use Rattle.entries.proofs.Agree.{Sound, sound}
 use Rattle.entries.proofs.Lookups.{lookup-added, lookup-others, lookup-removed, lookup-kept}
 use Rattle.entries.proofs.Added.{added-book, added-entries}
 use Rattle.entries.proofs.Removed.{removed-book, removed-entries}
-use Rattle.lookup.specs.Outcome.{finds, findOfEntry, findOf, removeOfEntry, removeOf, addOf}
-use Rattle.book_change.specs.Written.{AddRight, RemoveRight}
-use Rattle.book_change.proofs.Fitting.{Fitting, added-fitting}
-
--- a list of bytes
-abbrev pub Bytes : List ℕ → Type 0
-Bytes b = (i : ℕ) → getD b i 0 < 256
+use Rattle.entries.proofs.Tidied.{length-tidied, end-tidied, tidied-is, bytes-tidied-book}
+use Rattle.entries.proofs.Moved.{placedOne, lookup-tidied}
+use Rattle.lookup.specs.Outcome.{finds, startMoved, findOfEntry, findOf, removeOfEntry, removeOf, addOf}
+use Rattle.book_change.specs.Written.{bytesReady, listReady, startReady, AddRight, RemoveRight}
+use Rattle.book_change.proofs.Fitting.{Placed, behind, tidied-first, Fitting, added-fitting}
 
 -- what is read as a book is one
 sound-at : (b : List ℕ) (es : List Entry) (free : ℕ) → Bytes b → entries b ≡ book es free → IsBook b es × (free ≡ endOf 0 es)
 sound-at b es free small e = subst (Sound b) e (sound b small)
 
 -- the entries before and after a record is added
-pub record Added (before after w : List ℕ) (stock start : ℕ) : Type 0 where
+pub record Added (before after w : List ℕ) (stock start tidies : ℕ) : Type 0 where
   pub list : List Entry
-  pub was : entries before ≡ book list start
+  pub free : ℕ
+  pub was : entries before ≡ book list free
+  pub was-book : IsBook before list
   pub not-live : lookup list w ≡ none
-  pub is-book : IsBook after (list ++ (newEntry start w stock ∷ []))
-  pub is : entries after ≡ book (list ++ (newEntry start w stock ∷ [])) (start + 7 + length w)
+  pub placed : Placed list free (length before) (7 + length w) start tidies
+  pub is-book : IsBook after (listReady tidies list ++ (newEntry start w stock ∷ []))
+  pub is : entries after ≡ book (listReady tidies list ++ (newEntry start w stock ∷ [])) (start + 7 + length w)
 
-module _ (before after w : List ℕ) (stock start : ℕ) (small : Bytes before) (st : Storable w) (fits : stock < 4294967296) (r : AddRight w stock before after (accepts start)) where
-  pub added : Added before after w stock start
+module _ (before after w : List ℕ) (stock start tidies : ℕ) (small : Bytes before) (st : Storable w) (fits : stock < 4294967296)
+    (r : AddRight w stock before after (accepts-both start tidies)) where
+  pub added : Added before after w stock start tidies
   added = go (entries before) refl (r .answer)
     where
-      go : (x : Entries) → entries before ≡ x → accepts start ≡ addOf x (length before) w → Added before after w stock start
+      placed-in : (es : List Entry) (free start tidies : ℕ) → entries before ≡ book es free → lookup es w ≡ none
+          → Placed es free (length before) (7 + length w) start tidies → Added before (withRecord (bytesReady tidies before) start w stock) w stock start tidies
+      placed-in es free start tidies q n (behind h) =
+          let s = sound-at before es free small q in
+          let o : Opened before free = record { list = es; is-book = s .0; end = s .1 } in
+          record {
+            list = es;
+            free = free;
+            was = q;
+            was-book = s .0;
+            not-live = n;
+            placed = behind h;
+            is-book = added-book before w free stock o (omega arith) st fits n;
+            is = added-entries before w free stock o (omega arith) st fits n;
+          }
+      placed-in es free start tidies q n (tidied-first h k) =
+          let s = sound-at before es free small q in
+          let o : Opened (bytesTidied before) (liveLength es) =
+          record { list = tidied es; is-book = bytes-tidied-book before es (s .0); end = sym (end-tidied before es (s .0)) } in
+          let room : liveLength es + 7 + length w ≤ length (bytesTidied before) =
+          omega (arith, ap length (tidied-is before es (s .0)), length-tidied before es (s .0)) in
+          let none-left : lookup (tidied es) w ≡ none = lookup-tidied es (s .0 .good) w ∙ ap (placedOne _) n in
+          record {
+            list = es;
+            free = free;
+            was = q;
+            was-book = s .0;
+            not-live = n;
+            placed = tidied-first h k;
+            is-book = added-book (bytesTidied before) w (liveLength es) stock o room st fits none-left;
+            is = added-entries (bytesTidied before) w (liveLength es) stock o room st fits none-left;
+          }
+
+      go : (x : Entries) → entries before ≡ x → accepts-both start tidies ≡ addOf x (length before) w → Added before after w stock start tidies
       go (wrong p) q e = let z : _≡_ {A = ℕ} 0 1 = cc in let y : ⊥ = omega arith in absurd y
       go (book es free) q e =
-          let f : Fitting es free (length before) w start = added-fitting es free (length before) w start e in
-          let g : entries before ≡ book es start = q ∙ ap (book es) (sym (f .at-free)) in
-          let o : Opened before start = record { list = es; is-book = sound-at before es start small g .0; end = sound-at before es start small g .1 } in
-          subst (λ (b : List ℕ). Added before b w stock start) (sym (r .bytes))
-          (record {
-            list = es;
-            was = g;
-            not-live = f .not-live;
-            is-book = added-book before w start stock o (f .room-left) st fits (f .not-live);
-            is = added-entries before w start stock o (f .room-left) st fits (f .not-live);
-          })
+          let f : Fitting es free (length before) w start tidies = added-fitting es free (length before) w start tidies e in
+          subst (λ (b : List ℕ). Added before b w stock start tidies) (sym (r .bytes)) (placed-in es free start tidies q (f .not-live) (f .placed))
+
+  -- what a word looks up among the entries to which the record is added
+  lookup-ready : (tidies : ℕ) (v : List ℕ) → lookup (listReady tidies (added .list)) v ≡ placedOne (λ entry. startReady tidies (book (added .list) (added .free)) (entry .start)) (lookup (added .list) v)
+  lookup-ready zero v = same (lookup (added .list) v)
+    where
+      same : (o : Option Entry) → o ≡ placedOne (λ entry. entry .start) o
+      same none = refl
+      same (some entry) = refl
+  lookup-ready (suc n) v = lookup-tidied (added .list) (added .was-book .good) v
 
   -- what was added is found
   pub find-added : findOf (entries after) w ≡ finds start stock
-  find-added = ap (λ (x : Entries). findOf x w) (added .is) ∙ ap findOfEntry (lookup-added (added .list) w start stock (added .not-live))
+  find-added =
+      let none-left : lookup (listReady tidies (added .list)) w ≡ none = lookup-ready tidies w ∙ ap (placedOne _) (added .not-live) in
+      ap (λ (x : Entries). findOf x w) (added .is) ∙ ap findOfEntry (lookup-added (listReady tidies (added .list)) w start stock none-left)
 
-  -- every other word as before
-  pub find-others : (v : List ℕ) → (v ≡ w → ⊥) → findOf (entries after) v ≡ findOf (entries before) v
+  -- every other word as before, where add tidied at the start that its record then has
+  pub find-others : (v : List ℕ) → (v ≡ w → ⊥) → findOf (entries after) v ≡ startMoved (startReady tidies (entries before)) (findOf (entries before) v)
   find-others v n =
-      ap (λ (x : Entries). findOf x v) (added .is) ∙ ap findOfEntry (lookup-others (added .list) w v start stock n)
-      ∙ ap (λ (x : Entries). findOf x v) (sym (added .was))
+      ap (λ (x : Entries). findOf x v) (added .is)
+      ∙ ap findOfEntry (lookup-others (listReady tidies (added .list)) w v start stock n ∙ lookup-ready tidies v) ∙ found (lookup (added .list) v)
+      ∙ ap (λ (x : Entries). startMoved (startReady tidies x) (findOf x v)) (sym (added .was))
+    where
+      found : (o : Option Entry) → findOfEntry (placedOne (λ entry. startReady tidies (book (added .list) (added .free)) (entry .start)) o)
+          ≡ startMoved (startReady tidies (book (added .list) (added .free))) (findOfEntry o)
+      found none = refl
+      found (some entry) = refl
 
 -- the entries before and after a record is removed
 pub record Removed (before after w : List ℕ) (start : ℕ) : Type 0 where

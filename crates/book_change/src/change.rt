@@ -1,20 +1,25 @@
 // Adding and removing records: the decision first, then the bytes.
 use book_frame::HEAD;
+use lookup::plan::Plan;
 use lookup::plan::plan_add;
 use lookup::plan::plan_remove;
 use memory::casts::count_byte;
 use refusals::Counted;
+use refusals::Reply;
+use tidying::tidy_records;
 ghost use mathlib.Core.Path.{_≡_};
 ghost use mathlib.Core.List.{map};
 ghost use Prim.Native.Nat.{_+_, _≤_, _<_};
 ghost use lib.ListN.{length};
 ghost use lib.Seq.{paste};
 ghost use Rattle.formula.specs.Limits.{limit};
-ghost use Rattle.refusals.specs.Outcome.{outcomeOf};
+ghost use Rattle.refusals.specs.Outcome.{outcomeOf, replyOutcome};
 ghost use Rattle.entries.specs.Limits.{bookLimit, headSize};
 ghost use Rattle.entries.specs.Book.{byteOf};
-ghost use Rattle.entries.specs.Change.{Storable};
-ghost use Rattle.book_change.specs.Written.{withHead, AddRight, RemoveRight};
+ghost use Rattle.entries.specs.Change.{Storable, withRecord};
+ghost use Rattle.lookup.specs.Look.{Within};
+ghost use Rattle.lookup.specs.Plan.{planOutcome, PlanWithin};
+ghost use Rattle.book_change.specs.Written.{bytesAdded, withHead, AddRight, RemoveRight};
 
 // A part of a stock number as a byte.
 fn stock_byte(part: u32) -> u8
@@ -59,18 +64,38 @@ fn put_word(book: &mut [u8], from: usize, word: &[u16])
     }
 }
 
-// Puts a live record with the word just after the last record.
-pub fn add(book: &mut [u8], word: &[u16], stock: u32) -> Counted
-    requires { ⌜ Storable (now word) ⌝ }
-    ensures { λ r. ⌜ AddRight (now (word .entry)) stock (now (book .entry)) (now (book .exit)) (outcomeOf r) ⌝ }
+// Writes a live record with the word at a place.
+fn put_record(book: &mut [u8], start: usize, word: &[u16], stock: u32)
+    requires { ⌜ Within (now book) start (headSize + length (now word)) × Storable (now word) ⌝ }
+    ensures { λ _. ⌜ now (book .exit) ≡ withRecord (now (book .entry)) start (now (word .entry)) stock ⌝ }
 {
-    let plan = plan_add(book, word);
-    let Counted::Count(start) = plan else {
-        return plan;
-    };
     put_head(book, start, word.len(), stock);
     put_word(book, start + HEAD, word);
-    plan
+}
+
+// Does what the plan says.
+fn carry_out(book: &mut [u8], plan: Plan, word: &[u16], stock: u32)
+    requires { ⌜ PlanWithin (now book) (headSize + length (now word)) plan × Storable (now word) ⌝ }
+    ensures { λ _. ⌜ now (book .exit) ≡ bytesAdded (planOutcome plan) (now (book .entry)) (now (word .entry)) stock ⌝ }
+{
+    match plan {
+        Plan::Refused(_) => {}
+        Plan::Behind { start } => put_record(book, start, word, stock),
+        Plan::Tidied { start, free } => {
+            tidy_records(book, free);
+            put_record(book, start, word, stock);
+        }
+    }
+}
+
+// Puts a live record with the word just after the last record, and tidies the book first where it does not fit otherwise.
+pub fn add(book: &mut [u8], word: &[u16], stock: u32) -> Reply
+    requires { ⌜ Storable (now word) ⌝ }
+    ensures { λ r. ⌜ AddRight (now (word .entry)) stock (now (book .entry)) (now (book .exit)) (replyOutcome r) ⌝ }
+{
+    let plan = plan_add(book, word);
+    carry_out(book, plan, word, stock);
+    plan.reply()
 }
 
 // Marks the live record with the word as removed.

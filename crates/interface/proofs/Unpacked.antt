@@ -13,8 +13,9 @@ use Rattle.writing.specs.Write.{WriteRight}
 use Rattle.spelling.specs.Spell.{Lists, SpellRight}
 use Rattle.collation.specs.Comparison.{CompareAnswers}
 use Rattle.entries.specs.Entries.{entries}
+use Rattle.tidying.specs.Tidy.{TidyRight}
 use Rattle.lookup.specs.Outcome.{checkOf}
-use Rattle.book_change.proofs.Laws.{Bytes}
+use Rattle.entries.proofs.Bytes.{Bytes}
 use Rattle.ranking.specs.Rank.{rankOf}
 use Rattle.ranking.specs.Whole.{OrderRight}
 use Rattle.book_word.specs.WordAt.{WordRight}
@@ -24,7 +25,7 @@ use Rattle.packing.specs.Packing.{pack, unpack, Packed}
 use Rattle.packing.specs.Answers.{outcomeNumbers, bytesNumbers, RecordGivenRight, recordNumbers, compareNumbers, FindAnswers}
 use Rattle.packing.proofs.Laws.{unpack-pack, packed-unpacked, RecordBits, record-bits}
 use Rattle.packing.proofs.WordFits.{read-fits, record-fits, record-small, part-fits, normalise-fits, form-fits, typed-fits, write-fits, spell-fits, compare-fits}
-use Rattle.packing.proofs.BookFits.{check-fits, rank-fits, order-fits, prefix-fits, record-word-fits, find-fits, add-fits, remove-fits}
+use Rattle.packing.proofs.BookFits.{check-fits, rank-fits, order-fits, prefix-fits, record-word-fits, find-fits, add-fits, tidy-fits, remove-fits}
 use Rattle.interface.specs.Outputs.{KeyWritten, DecodeWritten}
 use Rattle.interface.proofs.OutputFits.{key-fits, decode-fits}
 
@@ -93,6 +94,9 @@ module _ (book : List ℕ) (small : Bytes book) (n : ℕ) where
   pub add-unpacked : (word : List ℕ) (stock : ℕ) (after : List ℕ) (p : Packed (AddPromise word stock book after) outcomeNumbers n)
       → unpack n ≡ outcomeNumbers (p .outcome)
   add-unpacked word stock after p = packed-unpacked (AddPromise word stock book after) outcomeNumbers (add-fits book small word stock after) n p
+
+  pub tidy-unpacked : (after : List ℕ) (p : Packed (TidyRight book after) outcomeNumbers n) → unpack n ≡ outcomeNumbers (p .outcome)
+  tidy-unpacked after p = packed-unpacked (TidyRight book after) outcomeNumbers (tidy-fits book small after) n p
 
   pub remove-unpacked : (word after : List ℕ) (p : Packed (RemovePromise word book after) outcomeNumbers n) → unpack n ≡ outcomeNumbers (p .outcome)
   remove-unpacked word after p = packed-unpacked (RemovePromise word book after) outcomeNumbers (remove-fits book small word after) n p

@@ -1,6 +1,7 @@
 // The calls on a book.
 ghost use mathlib.Core.Path.{_≡_};
 ghost use Rattle.entries.specs.Entries.{entries};
+ghost use Rattle.tidying.specs.Tidy.{TidyRight};
 ghost use Rattle.lookup.specs.Outcome.{checkOf};
 ghost use Rattle.ranking.specs.Rank.{rankOf};
 ghost use Rattle.ranking.specs.Whole.{OrderRight};
@@ -18,12 +19,12 @@ pub extern "C" fn jogcairn_book_check(book: &[u8]) -> u64
     packing::of_counted(wordbook::check(book))
 }
 
-// Puts a live record with the word just after the last record.
+// Puts a live record with the word just after the last record, and tells whether the book was tidied for it.
 #[no_mangle]
 pub extern "C" fn jogcairn_book_add(book: &mut [u8], word: &[u16], stock: u32) -> u64
     ensures { λ r. ⌜ Packed (AddPromise (now (word .entry)) stock (now (book .entry)) (now (book .exit))) outcomeNumbers r ⌝ }
 {
-    packing::of_counted(wordbook::add(book, word, stock))
+    packing::of_reply(wordbook::add(book, word, stock))
 }
 
 // Marks the live record with the word as removed.
@@ -32,6 +33,14 @@ pub extern "C" fn jogcairn_book_remove(book: &mut [u8], word: &[u16]) -> u64
     ensures { λ r. ⌜ Packed (RemovePromise (now (word .entry)) (now (book .entry)) (now (book .exit))) outcomeNumbers r ⌝ }
 {
     packing::of_counted(wordbook::remove(book, word))
+}
+
+// Moves the live records to the front and fills the rest with zeros.
+#[no_mangle]
+pub extern "C" fn jogcairn_book_tidy(book: &mut [u8]) -> u64
+    ensures { λ r. ⌜ Packed (TidyRight (now (book .entry)) (now (book .exit))) outcomeNumbers r ⌝ }
+{
+    packing::of_counted(wordbook::tidy(book))
 }
 
 // Stock number and start of the live record with the word.

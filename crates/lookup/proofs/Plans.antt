@@ -5,6 +5,7 @@ use mathlib.Core.Bool.{Bool}
 use mathlib.Core.List.{List}
 use mathlib.Core.Option.{Option, none, some}
 use Prim.Native.Nat.{ℕ, _+_, _≤_, _<_}
+use native.Mathlib.Omega.{arith}
 use borrow.Author.Tests.{le-leb, lt-leb}
 use lib.Dec.{leb}
 use lib.ListN.{length}
@@ -12,7 +13,8 @@ use Rattle.letters.specs.Choice.{pick}
 use Rattle.refusals.specs.Outcome.{Outcome, accepts, refuses}
 use Rattle.entries.specs.Entries.{Entry, Entries, book, wrong}
 use Rattle.entries.specs.Map.{lookup}
-use Rattle.lookup.specs.Outcome.{finds, findOfEntry, findOf, removeOfEntry, removeOf, addOfEntry, addOf}
+use Rattle.entries.specs.Tidy.{liveLength}
+use Rattle.lookup.specs.Outcome.{finds, findOfEntry, findOf, removeOfEntry, removeOf, puts, tidiesAndPuts, placing, addOfEntry, addOf}
 use Rattle.lookup.specs.Look.{lookOfEntry, lookOf}
 use Rattle.lookup.specs.declared.look.Look.{Look}
 use Rattle.lookup.specs.declared.look.Look.the-variants.{Wrong, Live, Missing}
@@ -27,10 +29,15 @@ removeBy (Wrong p) = refuses 11 p
 removeBy (Live s t) = accepts s
 removeBy (Missing f) = refuses 13 0
 
-abbrev pub addBy : Look → ℕ → List ℕ → Outcome
-addBy (Wrong p) room w = refuses 11 p
-addBy (Live s t) room w = refuses 12 s
-addBy (Missing f) room w = pick (leb (f + 7 + length w) room) (accepts f) (refuses 14 f)
+abbrev pub addBy : Look → Outcome → Outcome
+addBy (Wrong p) placed = refuses 11 p
+addBy (Live s t) placed = refuses 12 s
+addBy (Missing f) placed = placed
+
+-- where the record of a word that is not live goes
+abbrev pub placedIn : Entries → ℕ → ℕ → Outcome
+placedIn (book es f) room size = placing es f room size
+placedIn (wrong p) room size = refuses 11 p
 
 pub find-by : (e : Entries) (w : List ℕ) → findBy (lookOf e w) ≡ findOf e w
 find-by (wrong p) w = refl
@@ -48,19 +55,35 @@ remove-by (book es f) w = go (lookup es w)
     go none = refl
     go (some x) = refl
 
-pub add-by : (e : Entries) (room : ℕ) (w : List ℕ) → addBy (lookOf e w) room w ≡ addOf e room w
+pub add-by : (e : Entries) (room : ℕ) (w : List ℕ) → addBy (lookOf e w) (placedIn e room (7 + length w)) ≡ addOf e room w
 add-by (wrong p) room w = refl
 add-by (book es f) room w = go (lookup es w)
   where
-    go : (o : Option Entry) → addBy (lookOfEntry o f) room w ≡ addOfEntry o f room w
+    go : (o : Option Entry) → addBy (lookOfEntry o f) (placing es f room (7 + length w)) ≡ addOfEntry o (placing es f room (7 + length w))
     go none = refl
     go (some x) = refl
 
--- the record fits, or it does not
-pub fits : (f room : ℕ) (w : List ℕ) → f + 7 + length w ≤ room → accepts f ≡ pick (leb (f + 7 + length w) room) (accepts f) (refuses 14 f)
-unfolding pick
-fits f room w h = ap (λ (t : Bool). pick t (accepts f) (refuses 14 f)) (sym (le-leb (f + 7 + length w) room h))
+-- the record fits behind the last one, or only behind the live ones, or nowhere
+module _ (es : List Entry) (f room size : ℕ) (less : liveLength es ≤ f) where
+  pub fits : f + size ≤ room → puts f ≡ placing es f room size
+  unfolding pick
+  fits h =
+      sym
+      ((λ i. pick (le-leb (liveLength es + size) room (omega arith) i)
+      (pick (le-leb (f + size) room h i) (puts f) (tidiesAndPuts (liveLength es)))
+      (refuses 14 (liveLength es))))
 
-pub full : (f room : ℕ) (w : List ℕ) → room < f + 7 + length w → refuses 14 f ≡ pick (leb (f + 7 + length w) room) (accepts f) (refuses 14 f)
-unfolding pick
-full f room w h = ap (λ (t : Bool). pick t (accepts f) (refuses 14 f)) (sym (lt-leb (f + 7 + length w) room h))
+  pub fits-tidied : room < f + size → liveLength es + size ≤ room → tidiesAndPuts (liveLength es) ≡ placing es f room size
+  unfolding pick
+  fits-tidied h k =
+      sym
+      ((λ i. pick (le-leb (liveLength es + size) room k i)
+      (pick (lt-leb (f + size) room h i) (puts f) (tidiesAndPuts (liveLength es)))
+      (refuses 14 (liveLength es))))
+
+  pub full : room < liveLength es + size → refuses 14 (liveLength es) ≡ placing es f room size
+  unfolding pick
+  full h =
+      sym
+      (ap (λ (t : Bool). pick t (pick (leb (f + size) room) (puts f) (tidiesAndPuts (liveLength es))) (refuses 14 (liveLength es)))
+      (lt-leb (liveLength es + size) room h))

@@ -1,2 +1,3 @@
 pub mod Outcome
 pub mod Look
+pub mod Plan

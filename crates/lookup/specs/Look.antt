@@ -7,6 +7,7 @@ use lib.ListN.{length}
 use Rattle.refusals.specs.Outcome.{Outcome, accepts, accepts-both, absent, refuses}
 use Rattle.entries.specs.Limits.{bookLimit, headSize}
 use Rattle.entries.specs.Entries.{Entry, Entries, book, wrong, entries}
+use Rattle.entries.specs.Book.{Opened}
 use Rattle.entries.specs.Map.{lookup}
 use Rattle.lookup.specs.declared.look.Look.{Look}
 use Rattle.lookup.specs.declared.look.Look.the-variants.{Wrong, Live, Missing}
@@ -27,7 +28,7 @@ pub record Within (bytes : List ℕ) (place behind : ℕ) : Type 0 where
 abbrev pub LookWithin : List ℕ → Look → Type 0
 LookWithin bytes (Wrong place) = Unit {0}
 LookWithin bytes (Live start stock) = Within bytes start headSize
-LookWithin bytes (Missing free) = Within bytes free 0
+LookWithin bytes (Missing free) = Opened bytes free
 
 pub record LookRight (bytes word : List ℕ) (look : Look) : Type 0 where
   pub answer : look ≡ lookOf (entries bytes) word

@@ -5,13 +5,15 @@ use book_frame::HEAD;
 use refusals::Counted;
 use refusals::Refusal;
 use refusals::Reply;
+use tidying::length::live_length;
 ghost use mathlib.Core.Path.{_≡_};
-ghost use lib.ListN.{length};
 ghost use Rattle.refusals.specs.Outcome.{outcomeOf, replyOutcome};
 ghost use Rattle.entries.specs.Entries.{entries};
+ghost use Rattle.entries.specs.Book.{Opened};
 ghost use Rattle.entries.specs.Change.{Storable};
-ghost use Rattle.lookup.specs.Outcome.{findOf, addOf, removeOf};
+ghost use Rattle.lookup.specs.Outcome.{findOf, removeOf};
 ghost use Rattle.lookup.specs.Look.{PlacedRight};
+ghost use Rattle.lookup.specs.Plan.{planOutcome, RoomRight, PlanRight};
 
 // Stock number and start of the live record with the word.
 pub fn find(book: &[u8], word: &[u16]) -> Reply
@@ -24,20 +26,51 @@ pub fn find(book: &[u8], word: &[u16]) -> Reply
     }
 }
 
+// What add does: it refuses, or it puts a record behind the last one, or, where the record fits only then, behind the live records of the tidied book. The
+// records that are tidied end at `free`.
+pub enum Plan {
+    Refused(Refusal),
+    Behind { start: usize },
+    Tidied { start: usize, free: usize },
+}
+
+impl Plan {
+    // What add replies: the start of the record, and 1 where the book is tidied for it.
+    pub fn reply(self) -> Reply
+        ensures { λ r. ⌜ replyOutcome r ≡ planOutcome self ⌝ }
+    {
+        match self {
+            Plan::Refused(refusal) => Reply::Refused(refusal),
+            Plan::Behind { start } => Reply::Two(start, 0),
+            Plan::Tidied { start, free: _ } => Reply::Two(start, 1),
+        }
+    }
+}
+
+// Where a record of `size` bytes goes in a book.
+fn plan_record(book: &[u8], free: usize, size: usize) -> Plan
+    requires { ⌜ Opened (now book) free ⌝ }
+    ensures { λ r. ⌜ RoomRight (now (book .entry)) free size r ⌝ }
+{
+    if size <= book.len() - free {
+        return Plan::Behind { start: free };
+    }
+    let start = live_length(book, free);
+    if book.len() - start < size {
+        return Plan::Refused(Refusal::BookFull(start));
+    }
+    Plan::Tidied { start, free }
+}
+
 // Where a record with the word would be added.
-pub fn plan_add(book: &[u8], word: &[u16]) -> Counted
+pub fn plan_add(book: &[u8], word: &[u16]) -> Plan
     requires { ⌜ Storable (now word) ⌝ }
-    ensures { λ r. ⌜ PlacedRight (now (book .entry)) (addOf (entries (now (book .entry))) (length (now (book .entry))) (now (word .entry))) (outcomeOf r) ⌝ }
+    ensures { λ r. ⌜ PlanRight (now (book .entry)) (now (word .entry)) r ⌝ }
 {
     match look_up(book, word) {
-        Look::Wrong(place) => Counted::Refused(Refusal::NotABook(place)),
-        Look::Live { start, stock: _ } => Counted::Refused(Refusal::AlreadyLive(start)),
-        Look::Missing { free } => {
-            if book.len() - free < HEAD + word.len() {
-                return Counted::Refused(Refusal::BookFull(free));
-            }
-            Counted::Count(free)
-        }
+        Look::Wrong(place) => Plan::Refused(Refusal::NotABook(place)),
+        Look::Live { start, stock: _ } => Plan::Refused(Refusal::AlreadyLive(start)),
+        Look::Missing { free } => plan_record(book, free, HEAD + word.len()),
     }
 }
 

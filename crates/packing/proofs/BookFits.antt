@@ -15,16 +15,19 @@ use Rattle.letters.specs.Choice.{pick}
 use Rattle.letters.proofs.Tests.{is-true}
 use Rattle.formula.proofs.Lists.{sameList, both-left}
 use Rattle.formula.specs.Limits.{limit}
-use Rattle.refusals.specs.Outcome.{Outcome, accepts, accepts-both, refuses}
+use Rattle.refusals.specs.Outcome.{Outcome, accepts-both, refuses}
 use Rattle.storage.specs.Stored.{storedForm}
 use Rattle.entries.specs.Limits.{bookLimit}
 use Rattle.entries.specs.Entries.{Entry, entryAt, isFramed, mayFollow, Entries, book, wrong, zeroTail, entriesFrom, entries}
 use Rattle.entries.specs.Book.{zeros, recordBytes, records, size, endOf, GoodEntry, GoodAfter, IsBook}
 use Rattle.entries.specs.Map.{lookup, counted, liveCount}
+use Rattle.entries.specs.Tidy.{liveLength}
 use Rattle.entries.proofs.Records.{framed-true, length-record, end-length}
 use Rattle.entries.proofs.Agree.{Sound, sound}
-use Rattle.lookup.specs.Outcome.{checkOf, findOfEntry, findOf, removeOfEntry, removeOf, addOfEntry, addOf}
-use Rattle.book_change.proofs.Laws.{Bytes}
+use Rattle.entries.proofs.Tidied.{live-before}
+use Rattle.tidying.specs.Tidy.{tidyOf, TidyRight}
+use Rattle.lookup.specs.Outcome.{checkOf, findOfEntry, findOf, removeOfEntry, removeOf, puts, tidiesAndPuts, placing, addOfEntry, addOf}
+use Rattle.entries.proofs.Bytes.{Bytes}
 use Rattle.book_keys.specs.Filing.{rowOf}
 use Rattle.book_keys.specs.Fitting.{fits}
 use Rattle.sorting.proofs.InOrder.{passing-few}
@@ -172,20 +175,33 @@ module _ (bytes word : List ℕ) where
   pick-fits true x y f g = f
   pick-fits false x y f g = g
 
-  add-entry : (es : List Entry) (free room : ℕ) → IsBook bytes es → free ≡ endOf 0 es → (o : Option Entry) → lookup es word ≡ o
-      → Fits (outcomeNumbers (addOfEntry o free room word))
-  add-entry es free room is end (some entry) e =
-      let h = looked 0 [] es word entry (is .good) e .before in
-      record { tag = omega arith; second = omega arith; first = omega (arith, book-end bytes es is) }
-  add-entry es free room is end none e =
+  -- a record is placed within the buffer, or the live length is told
+  placing-fits : (es : List Entry) (free room size : ℕ) → IsBook bytes es → free ≡ endOf 0 es → Fits (outcomeNumbers (placing es free room size))
+  placing-fits es free room size is end =
       let h = book-end bytes es is in
-      pick-fits _ (accepts free) (refuses 14 free)
+      let l = live-before es in
+      pick-fits _ _ (refuses 14 (liveLength es))
+      (pick-fits _ (puts free) (tidiesAndPuts (liveLength es))
       (record { tag = omega arith; second = omega arith; first = omega arith })
+      (record { tag = omega arith; second = omega arith; first = omega arith }))
       (record { tag = omega arith; second = omega arith; first = omega arith })
 
+  add-entry : (es : List Entry) (placed : Outcome) → IsBook bytes es → Fits (outcomeNumbers placed) → (o : Option Entry) → lookup es word ≡ o
+      → Fits (outcomeNumbers (addOfEntry o placed))
+  add-entry es placed is f none e = f
+  add-entry es placed is f (some entry) e =
+      let h = looked 0 [] es word entry (is .good) e .before in
+      record { tag = omega arith; second = omega arith; first = omega (arith, book-end bytes es is) }
+
   add-by : (room : ℕ) (e : Entries) → Bounded bookLimit e → Sound bytes e → Fits (outcomeNumbers (addOf e room word))
-  add-by room (book es free) b s = add-entry es free room (s .0) (s .1) (lookup es word) refl
+  add-by room (book es free) b s =
+      add-entry es _ (s .0) (placing-fits es free room (7 + length word) (s .0) (s .1)) (lookup es word) refl
   add-by room (wrong place) b s = wrong-fits place b
+
+  tidy-by : (e : Entries) → Bounded bookLimit e → Sound bytes e → Fits (outcomeNumbers (tidyOf e))
+  tidy-by (book es free) b s =
+      record { tag = omega arith; second = omega arith; first = omega (arith, live-before es, book-end bytes es (s .0)) }
+  tidy-by (wrong place) b s = wrong-fits place b
 
 -- what is told of an entry that can be held: its stock number has four bytes, and its word is no longer than a word may be
 told-fits : (room : ℕ) (entry : Entry) → GoodEntry entry → Fits (outcomeNumbers (wordOfEntry (some entry) room))
@@ -275,6 +291,10 @@ module _ (bytes : List ℕ) (small : Bytes bytes) where
   pub add-fits : (word : List ℕ) (stock : ℕ) (after : List ℕ) (o : Outcome) → AddPromise word stock bytes after o → Fits (outcomeNumbers o)
   add-fits word stock after o p =
       call-fits word _ o (add-by bytes (storedForm word) (length bytes) (entries bytes) (bounded bytes) (sound bytes small)) (p .answers)
+
+  pub tidy-fits : (after : List ℕ) (o : Outcome) → TidyRight bytes after o → Fits (outcomeNumbers o)
+  tidy-fits after o t =
+      subst (λ (x : Outcome). Fits (outcomeNumbers x)) (sym (t .answer)) (tidy-by bytes [] (entries bytes) (bounded bytes) (sound bytes small))
 
   pub remove-fits : (word after : List ℕ) (o : Outcome) → RemovePromise word bytes after o → Fits (outcomeNumbers o)
   remove-fits word after o p =

@@ -1,5 +1,5 @@
--- Document 01, "Refused because of what is handed in" and "Refused because of what the book holds": the number and the place of each refusal.
--- Assumes nothing.
+-- Document 01, "Refused because of what is handed in" and "Refused because of what the book holds", with what document 02 changes: the number and the
+-- place of each refusal. Assumes nothing.
 use Prim.Native.Nat.{ℕ}
 use Rattle.formula.specs.Limits.{limit}
 use Rattle.refusals.specs.declared.Refusal.{Refusal}
@@ -29,7 +29,7 @@ numberOf (NotABook p) = 11
 numberOf (AlreadyLive p) = 12
 -- "find, remove: not live"
 numberOf NotLive = 13
--- "add: first free byte plus 7 plus n passes the buffer's end"
+-- 02: "when the live records and the new one together pass the buffer's end"
 numberOf (BookFull p) = 14
 -- "rank not below the live count"
 numberOf (RankTooHigh p) = 15
@@ -58,7 +58,7 @@ placeOf (NotABook p) = p
 placeOf (AlreadyLive p) = p
 -- "0"
 placeOf NotLive = 0
--- "first free byte"
+-- 02: "the live length"
 placeOf (BookFull p) = p
 -- "live count"
 placeOf (RankTooHigh p) = p

@@ -12,6 +12,7 @@ use Rattle.refusals.proofs.Determined.{Same}
 use Rattle.storage.specs.Stored.{storedForm}
 use Rattle.normaliser.proofs.Determined.{store-refused-alike}
 use Rattle.entries.specs.Entries.{entries}
+use Rattle.tidying.specs.Tidy.{TidyRight}
 use Rattle.lookup.specs.Outcome.{checkOf, findOf}
 use Rattle.book_change.specs.Written.{bytesAdded, bytesRemoved}
 use Rattle.ranking.specs.Rank.{rankOf}
@@ -42,6 +43,10 @@ module _ (book : List ℕ) where
   pub find-determined : (word : List ℕ) (a b : Reply) → CallAnswers word (findOf (entries book) (storedForm word)) (replyOutcome a)
       → CallAnswers word (findOf (entries book) (storedForm word)) (replyOutcome b) → a ≡ b
   find-determined word a b c d = reply-once a b (call-alike word (findOf (entries book) (storedForm word)) (replyOutcome a) (replyOutcome b) c d)
+
+pub tidy-determined : (before after final : List ℕ) (first second : Counted) → TidyRight before after (outcomeOf first) → TidyRight before final (outcomeOf second)
+    → (first ≡ second) × (after ≡ final)
+tidy-determined before after final first second p q = (counted-once first second (p .answer ∙ sym (q .answer)), p .bytes ∙ sym (q .bytes))
 
 module _ (word before after final : List ℕ) (first second : Outcome) where
   pub add-determined : (stock : ℕ) → AddPromise word stock before after first → AddPromise word stock before final second → Same first second after final

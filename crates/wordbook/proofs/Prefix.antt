@@ -151,7 +151,7 @@ prefix-first bytes list k query starts after count p first lent final more q row
     (first-syllables query first (query-stored bytes list k query starts after count p) (query-stored bytes list k first lent final more q) row rest g h)
 
 -- an entry of a book can be held
-among-good : (at : ℕ) (seen list : List Entry) → GoodAfter at seen list → (e : Entry) → Among e list → GoodEntry e
+pub among-good : (at : ℕ) (seen list : List Entry) → GoodAfter at seen list → (e : Entry) → Among e list → GoodEntry e
 among-good at seen [] g e m = absurd m
 among-good at seen (x ∷ list) g e (inl p) = subst GoodEntry (sym p) (g .1)
 among-good at seen (x ∷ list) g e (inr m) = among-good (at + size x) (seen ++ (x ∷ [])) list (g .3) e m

@@ -14,7 +14,7 @@ use Rattle.storage.proofs.Rows.{gives-stored}
 use Rattle.entries.specs.Entries.{Entry, entries}
 use Rattle.entries.specs.Book.{IsBook}
 use Rattle.lookup.specs.Outcome.{finds, findOf}
-use Rattle.book_change.proofs.Laws.{Bytes}
+use Rattle.entries.proofs.Bytes.{Bytes}
 use Rattle.book_keys.specs.Filing.{rowOf}
 use Rattle.book_keys.specs.Fitting.{fits}
 use Rattle.ranking.specs.Rank.{Among}

@@ -12,9 +12,9 @@ use borrow.Author.Tests.{eq-eqb, ne-eqb, le-leb}
 use lib.Dec.{T, eqb, leb}
 use lib.ListN.{length, getD, drop}
 use Rattle.letters.specs.Choice.{pick}
-use Rattle.letters.proofs.Tests.{is-true, of-true, both-left, both-right, pick-true, pick-false}
+use Rattle.letters.proofs.Tests.{is-true, pick-true, pick-false}
 use Rattle.formula.specs.Limits.{limit}
-use Rattle.formula.proofs.Lists.{sameList, sameList-equal}
+use Rattle.formula.proofs.Lists.{sameList}
 use Rattle.refusals.specs.Outcome.{Outcome, accepts, accepts-both, replyOutcome}
 use Rattle.refusals.specs.declared.Reply.{Reply}
 use Rattle.refusals.proofs.Laws.{reply-once}
@@ -23,8 +23,9 @@ use Rattle.entries.specs.Entries.{Entry, Entries, book, wrong, entries}
 use Rattle.entries.specs.Book.{size, GoodEntry, GoodAfter, IsBook}
 use Rattle.entries.specs.Map.{lookup, removed, without}
 use Rattle.entries.proofs.Agree.{Sound, sound, complete}
+use Rattle.entries.proofs.Lookups.{lookup-word}
 use Rattle.lookup.specs.Outcome.{finds, findOfEntry, findOf}
-use Rattle.book_change.proofs.Laws.{Bytes}
+use Rattle.entries.proofs.Bytes.{Bytes}
 use Rattle.ranking.specs.Rank.{Among}
 use Rattle.ranking.specs.Whole.{OrderRight}
 use Rattle.ranking.proofs.Whole.{order-only}
@@ -92,19 +93,15 @@ module _ (bytes : List ℕ) (list : List Entry) (k : IsBook bytes list) (e : Ent
 -- the entry that a word looks up is one of the list, live, and has the word
 pub found-among : (list : List Entry) (w : List ℕ) (e : Entry) → lookup list w ≡ some e → Among e list × T (e .live) × (e .word ≡ w)
 unfolding lookup pick
-found-among [] w e = λ q. absurd (Option·none-ne-some e q)
-found-among (x ∷ list) w e = go (x .live && sameList (x .word) w) refl (found-among list w e)
+found-among list w e q = let held = lookup-word list w e q in (among list q, held .0, held .1)
   where
-    go : (t : Bool) → x .live && sameList (x .word) w ≡ t → (lookup list w ≡ some e → Among e list × T (e .live) × (e .word ≡ w))
-        → pick t (some x) (lookup list w) ≡ some e → Among e (x ∷ list) × T (e .live) × (e .word ≡ w)
-    go true q f r =
-        let same : x ≡ e = cc in
-        let t : T (x .live && sameList (x .word) w) = of-true (x .live && sameList (x .word) w) q in (
-          inl (sym same),
-          subst (λ (y : Entry). T (y .live)) same (both-left (x .live) _ t),
-          ap (λ (y : Entry). y .word) (sym same) ∙ sameList-equal (x .word) w (both-right (x .live) _ t),
-        )
-    go false q f r = let h = f r in (inr (h .0), h .1, h .2)
+    among : (es : List Entry) → lookup es w ≡ some e → Among e es
+    among [] = λ r. absurd (Option·none-ne-some e r)
+    among (x ∷ es) = go (x .live && sameList (x .word) w) (among es)
+      where
+        go : (t : Bool) → (lookup es w ≡ some e → Among e es) → pick t (some x) (lookup es w) ≡ some e → Among e (x ∷ es)
+        go true f r = let same : x ≡ e = cc in inl (sym same)
+        go false f r = inr (f r)
 
 -- and it is among those with the word removed, as removed
 removed-among : (list : List Entry) (w : List ℕ) (e : Entry) → lookup list w ≡ some e → Among (removed e) (without list w)

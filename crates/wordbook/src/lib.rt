@@ -9,6 +9,7 @@ ghost use mathlib.Core.Path.{_≡_};
 ghost use Rattle.refusals.specs.Outcome.{outcomeOf, replyOutcome};
 ghost use Rattle.storage.specs.Stored.{storedForm};
 ghost use Rattle.entries.specs.Entries.{entries};
+ghost use Rattle.tidying.specs.Tidy.{TidyRight};
 ghost use Rattle.lookup.specs.Outcome.{checkOf, findOf};
 ghost use Rattle.ranking.specs.Rank.{rankOf};
 ghost use Rattle.ranking.specs.Whole.{OrderRight};
@@ -25,8 +26,8 @@ pub fn check(book: &[u8]) -> Counted
     ensures { λ r. ⌜ outcomeOf r ≡ checkOf (entries (now (book .entry))) ⌝ }
 {
     match open_book(book) {
-        Opening::Wrong(place) => Counted::Refused(Refusal::NotABook(place)),
         Opening::Book { live, free: _ } => Counted::Count(live),
+        Opening::Wrong(place) => Counted::Refused(Refusal::NotABook(place)),
     }
 }
 
@@ -41,13 +42,14 @@ pub fn find(book: &[u8], word: &[u16]) -> Reply
     }
 }
 
-// Puts a live record with the word just after the last record, and gives its start.
-pub fn add(book: &mut [u8], word: &[u16], stock: u32) -> Counted
-    ensures { λ r. ⌜ AddPromise (now (word .entry)) stock (now (book .entry)) (now (book .exit)) (outcomeOf r) ⌝ }
+// Puts a live record with the word just after the last record, and tidies the book first where it does not fit otherwise. It gives the record's start,
+// and 1 where the book was tidied.
+pub fn add(book: &mut [u8], word: &[u16], stock: u32) -> Reply
+    ensures { λ r. ⌜ AddPromise (now (word .entry)) stock (now (book .entry)) (now (book .exit)) (replyOutcome r) ⌝ }
 {
     let mut values = [0; Word::LIMIT];
     match enter(word, &mut values) {
-        Counted::Refused(refusal) => Counted::Refused(refusal),
+        Counted::Refused(refusal) => Reply::Refused(refusal),
         Counted::Count(count) => book_change::change::add(book, &values[..count], stock),
     }
 }
@@ -61,6 +63,13 @@ pub fn remove(book: &mut [u8], word: &[u16]) -> Counted
         Counted::Refused(refusal) => Counted::Refused(refusal),
         Counted::Count(count) => book_change::change::remove(book, &values[..count]),
     }
+}
+
+// Moves the live records to the front, fills the rest with zeros, and gives the live length.
+pub fn tidy(book: &mut [u8]) -> Counted
+    ensures { λ r. ⌜ TidyRight (now (book .entry)) (now (book .exit)) (outcomeOf r) ⌝ }
+{
+    tidying::tidy(book)
 }
 
 // Puts the starts of the live records that begin with the query's syllables, in word order, at the front of `starts`, and tells how many there are.

@@ -8,7 +8,7 @@ use lib.ListN.{length}
 use lib.Seq.{length-take-le}
 use denote.Ref.{now}
 use Rattle.formula.specs.Limits.{limit}
-use Rattle.refusals.specs.Outcome.{outcomeOf}
+use Rattle.refusals.specs.Outcome.{replyOutcome}
 use Rattle.storage.specs.Stored.{storedForm}
 use Rattle.entries.specs.Entries.{entries}
 use Rattle.entries.specs.Book.{zeros}
@@ -59,7 +59,7 @@ returns-2 c =
     let t = c .before .before .before .before .before in
     let s = t .before .before .before .before .before .before .before .before .args in
     let h = form t in
-    let outcome = outcomeOf (c .before .before .add .result) in
+    let outcome = replyOutcome (c .before .before .add .result) in
     let r : AddRight (storedForm (now (s .word))) (s .stock) (now (s .book)) (c .before .before .add .last .0) outcome =
     subst (λ (w : List ℕ). AddRight w (s .stock) (now (s .book)) (c .before .before .add .last .0) outcome) (form-front h) (c .before .before .add .ensures) in
     record {

@@ -26,18 +26,18 @@ answered c opening e = ap checkBy (sym e ∙ c .open-book .ensures .answer) ∙ 
 open-book-requires : tie.Need-open-book-requires
 open-book-requires c κs = search needs
 
-enum-known-place : tie.Need-enum-known-place
-enum-known-place c = search needs
-
 enum-known-live : tie.Need-enum-known-live
 enum-known-live c = search needs
 
+enum-known-place : tie.Need-enum-known-place
+enum-known-place c = search needs
+
 returns : tie.Need-returns
-returns c = answered (c .before .before .before) _ (c .before .place .given .1)
+returns c = answered (c .before .before .before) _ (c .before .live .given .1)
 
 returns-2 : tie.Need-returns-2
-returns-2 c = answered (c .before .before .before) _ (c .before .live .given .1)
+returns-2 c = answered (c .before .before .before) _ (c .before .place .given .1)
 
 pub check-spec : {M : Type 1} → statement M
 check-spec =
-    tie.close (tie.spec open-book-requires enum-known-place enum-known-live returns returns-2)
+    tie.close (tie.spec open-book-requires enum-known-live enum-known-place returns returns-2)

@@ -9,7 +9,7 @@ use lib.ListN.{getD}
 use denote.Ref.{now}
 use Rattle.entries.specs.Map.{lookup}
 use Rattle.entries.proofs.Records.{framed-is}
-use Rattle.entries.proofs.Walk.{Turn, free-within}
+use Rattle.entries.proofs.Walk.{Turn}
 use Rattle.lookup.specs.declared.look.Look.the-variants.{Live}
 use Rattle.lookup.proofs.Walk.{Ahead, ahead-start, at-record, hit, miss, done, lookup-searches, looked}
 use Rattle.lookup.proofs.look.locate.Statement.{statement}
@@ -86,7 +86,7 @@ returns-2 c =
     let w = now (s .args .word) in
     record {
       answer = sym (looked _ _ w o (l .inv .list) (l .inv .walk .is-book) _ (done (lookup-searches w) _ _ _ (l .inv) (c .loop-test .left)));
-      within = record { short = l .inv .walk .is-book .short; room = omega (arith, free-within _ _ o) };
+      within = o;
     }
 
 pub locate-spec : {M : Type 1} → statement M

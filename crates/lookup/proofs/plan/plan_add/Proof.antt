@@ -2,26 +2,30 @@
 -- Assumes nothing.
 use borrow.Author.Needs.{needs}
 use mathlib.Core.Path.{_≡_, sym, ap, subst, _∙_}
+use Prim.Native.Nat.{_+_}
 use native.Mathlib.Omega.{arith}
 use lib.ListN.{length}
 use denote.Ref.{now}
-use Rattle.entries.specs.Entries.{entries}
+use Rattle.entries.specs.Entries.{Entries, entries}
+use Rattle.entries.specs.Book.{Opened}
+use Rattle.entries.proofs.Agree.{opened-is}
 use Rattle.lookup.specs.Outcome.{addOf}
-use Rattle.lookup.specs.Look.{Within, LookWithin}
+use Rattle.lookup.specs.Look.{LookWithin}
 use Rattle.lookup.specs.declared.look.Look.{Look}
-use Rattle.lookup.proofs.Plans.{addBy, add-by, fits, full}
+use Rattle.lookup.proofs.Plans.{addBy, placedIn, add-by}
 use Rattle.lookup.proofs.plan.plan_add.Statement.{statement}
 use Rattle.lookup.proofs.plan.plan_add.Tie as tie
 
 answered : (c : tie.After-look-up) (look : Look) → c .look-up .result ≡ look → let s = c .before .before .before .args in
-    addBy look (length (now (s .book))) (now (s .word)) ≡ addOf (entries (now (s .book))) (length (now (s .book))) (now (s .word))
+    addBy look (placedIn (entries (now (s .book))) (length (now (s .book))) (7 + length (now (s .word))))
+    ≡ addOf (entries (now (s .book))) (length (now (s .book))) (now (s .word))
 answered c look e =
     let s = c .before .before .before .args in
-    ap (λ (l : Look). addBy l (length (now (s .book))) (now (s .word))) (sym e ∙ c .look-up .ensures .answer)
+    ap (λ (l : Look). addBy l (placedIn (entries (now (s .book))) (length (now (s .book))) (7 + length (now (s .word))))) (sym e ∙ c .look-up .ensures .answer)
     ∙ add-by (entries (now (s .book))) (length (now (s .book))) (now (s .word))
 
-free-within : (c : tie.After-known-told3) → Within (now (c .before .before .before .before .before .before .args .book)) (c .before .free .given .0 .0) 0
-free-within c =
+opened : (c : tie.After-known-told3) → Opened (now (c .before .before .before .before .before .before .args .book)) (c .before .free .given .0 .0)
+opened c =
     subst (LookWithin (now (c .before .before .before .before .before .before .args .book))) (c .before .free .given .1) (c .before .before .before .look-up .ensures .within)
 
 look-up-requires : tie.Need-look-up-requires
@@ -36,38 +40,32 @@ enum-known-start c = search needs
 enum-known-free : tie.Need-enum-known-free
 enum-known-free c = search needs
 
-sub-if1 : tie.Need-sub-if1
-sub-if1 c = let w = free-within c in omega (arith, w .room)
-
-add-if1 : tie.Need-add-if1
-add-if1 c =
+add-plan-record : tie.Need-add-plan-record
+add-plan-record c =
     let s = c .before .before .before .before .before .before in
     omega (arith, s .pre .readable .admissible .short)
 
+plan-record-requires : tie.Need-plan-record-requires
+plan-record-requires c κs = opened c
+
 returns : tie.Need-returns
-returns c =
-    let k = c .before in
-    let s = k .before .before .before .before .before .before .args in
-    let w = free-within k in
-    record {
-      answer = full (k .before .free .given .0 .0) (length (now (s .book))) (now (s .word)) (omega (arith, w .room, c .if1 .taken)) ∙ answered (k .before .before .before) _ (k .before .free .given .1);
-      within = tt;
-    }
+returns c = record { answer = answered (c .before .before .before) _ (c .before .place .given .1); within = tt }
 
 returns-2 : tie.Need-returns-2
-returns-2 c = record { answer = answered (c .before .before .before) _ (c .before .place .given .1); within = tt }
+returns-2 c = record { answer = answered (c .before .before .before) _ (c .before .start .given .1); within = tt }
 
 returns-3 : tie.Need-returns-3
-returns-3 c = record { answer = answered (c .before .before .before) _ (c .before .start .given .1); within = tt }
-
-returns-4 : tie.Need-returns-4
-returns-4 c =
+returns-3 c =
     let k = c .before in
     let s = k .before .before .before .before .before .before .args in
-    let w = free-within k in
+    let b = now (s .book) in
+    let o = opened k in
+    let r = c .plan-record .ensures in
     record {
-      answer = fits (k .before .free .given .0 .0) (length (now (s .book))) (now (s .word)) (omega (arith, w .room, c .if1 .left)) ∙ answered (k .before .before .before) _ (k .before .free .given .1);
-      within = record { short = w .short; room = omega (arith, w .room, c .if1 .left) };
+      answer =
+          r .answer (o .list) (o .is-book) ∙ sym (ap (λ (x : Entries). placedIn x (length b) (7 + length (now (s .word)))) (opened-is b _ o))
+          ∙ answered (k .before .before .before) _ (k .before .free .given .1);
+      within = r .within;
     }
 
 pub plan-add-spec : {M : Type 1} → statement M
@@ -78,9 +76,8 @@ plan-add-spec =
     enum-known-place
     enum-known-start
     enum-known-free
-    sub-if1
-    add-if1
+    add-plan-record
+    plan-record-requires
     returns
     returns-2
-    returns-3
-    returns-4)
+    returns-3)
