@@ -1,3 +1,4 @@
 pub mod Words
 pub mod Fitting
 pub mod Laws
+pub mod Room

@@ -5,3 +5,4 @@ pub mod Turns
 pub mod Halves
 pub mod InOrder
 pub mod Sorted
+pub mod Tidied

@@ -5,3 +5,6 @@ pub mod Words
 pub mod Prefix
 pub mod Searched
 pub mod Base
+pub mod Tidied
+pub mod Shown
+pub mod Room
