@@ -7,4 +7,5 @@ pub mod Searched
 pub mod Base
 pub mod Tidied
 pub mod Shown
+pub mod Shelf
 pub mod Room
