@@ -63,7 +63,7 @@ enum jogcairn_refusal {
     JOGCAIRN_NOT_A_BOOK = 11,       /* place: the first byte where the buffer stops being a book; 16384 where it is too long */
     JOGCAIRN_ALREADY_LIVE = 12,     /* add: the word is there already; place: the start of its record */
     JOGCAIRN_NOT_LIVE = 13,         /* find, remove: the word is not there; place 0 */
-    JOGCAIRN_BOOK_FULL = 14,        /* add: the record does not fit behind the others; place: the first free byte */
+    JOGCAIRN_BOOK_FULL = 14,        /* add: the live records and the new one together pass the buffer's end; place: the live length */
     JOGCAIRN_RANK_TOO_HIGH = 15     /* rank: so many live records there are not; place: how many there are */
 };
 
@@ -158,17 +158,25 @@ uint64_t jogcairn_decode(const uint8_t *line, size_t bytes, uint16_t *word, size
  *     3 to 6      the stock number, lowest byte first
  *     7 to 6 + n  the values of the word in the stored spelling, each minus 1000 (hexadecimal)
  *
- * No two live records have the same word. Each call tests the whole buffer, and normalises the word that is handed in.
+ * No two live records have the same word. The live length is the sum of the live records' bytes. Each call tests the whole buffer, and normalises the
+ * word that is handed in.
  */
 
 /* Whether the buffer is a book. First: its live records. [11] */
 uint64_t jogcairn_book_check(const uint8_t *book, size_t bytes);
 
-/* Adds a word with its stock number behind the last record. First: the start of the new record. [1 to 4, 8, 11, 12, 14] */
+/* Adds a word with its stock number behind the last record. Where the record would pass the buffer's end there, but fits after tidying, the book is
+   tidied first, and in no other case. First: the start of the new record; second: 1 where the book was tidied, else 0. After a 1, as after
+   jogcairn_book_tidy, no start that the caller keeps holds any more: it is to be asked for again. With 14 nothing is moved, and its place is the live
+   length. [1 to 4, 8, 11, 12, 14] */
 uint64_t jogcairn_book_add(uint8_t *book, size_t bytes, const uint16_t *word, size_t count, uint32_t stock);
 
-/* Marks the record of a word as removed; its room is not used again. First: its start. [1 to 4, 8, 11, 13] */
+/* Marks the record of a word as removed; its room is used again through tidying alone. First: its start. [1 to 4, 8, 11, 13] */
 uint64_t jogcairn_book_remove(uint8_t *book, size_t bytes, const uint16_t *word, size_t count);
+
+/* Tidies a book: moves the live records to the front, in the order of their starts, closes the gaps of the removed ones, and fills the rest with zeros.
+   Words keep their stock numbers and their ranks, but not their starts. First: the live length, which is where the next record starts. [11] */
+uint64_t jogcairn_book_tidy(uint8_t *book, size_t bytes);
 
 /* Finds a word. First: its stock number; second: the start of its record. [1 to 4, 8, 11, 13] */
 uint64_t jogcairn_book_find(const uint8_t *book, size_t bytes, const uint16_t *word, size_t count);
