@@ -46,6 +46,13 @@ impl Answer {
         }
     }
 
+    /// The first number of an accepted input, and the second as yes (1) or no (0).
+    pub(crate) fn one_and_whether(self) -> Result<(usize, bool), Refusal> {
+        let (first, second) = self.two()?;
+        self.demand(second <= 1);
+        Ok((first as usize, second == 1))
+    }
+
     /// The two numbers of a thing asked for by number, or nothing where there is no such thing.
     pub(crate) fn two_or_none(self) -> Result<Option<(u32, usize)>, Refusal> {
         match self.tag() {
@@ -113,6 +120,8 @@ mod tests {
         assert_eq!(packed(0, 0, 64).one(), Ok(64));
         let most = packed(0, 0x00FF_FFFF, 0xFFFF_FFFF).two();
         assert_eq!(most, Ok((u32::MAX, 0x00FF_FFFF)));
+        assert_eq!(packed(0, 0, 85).one_and_whether(), Ok((85, false)));
+        assert_eq!(packed(0, 1, 85).one_and_whether(), Ok((85, true)));
         assert_eq!(packed(128, 0, 0).two_or_none(), Ok(None));
         assert_eq!(Answer::new(0x0006_0504_0302_0100).seven_bytes(), [0, 1, 2, 3, 4, 5, 6]);
     }
@@ -128,10 +137,11 @@ mod tests {
 
     #[test]
     fn an_answer_that_the_contract_excludes_ends_the_program() {
-        let excluded: [fn() -> bool; 5] = [
+        let excluded: [fn() -> bool; 6] = [
             || packed(9, 0, 0).one().is_ok(),
             || packed(128, 0, 0).one().is_ok(),
             || packed(0, 1, 0).one().is_ok(),
+            || packed(0, 2, 0).one_and_whether().is_ok(),
             || packed(3, 1, 0).two().is_ok(),
             || packed(0, 0, 3).ordering().is_eq(),
         ];

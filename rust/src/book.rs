@@ -3,6 +3,9 @@
 //! [`Book`] keeps a book in bytes that it may change; the functions of this module look into bytes
 //! that are shared. Each call tests the word first and then the whole book, and changes nothing
 //! where it refuses. A buffer of zeros, and one of no bytes, is a book without records.
+//!
+//! A record keeps its start until the book is tidied, by [`Book::tidy`] or by a [`Book::add`] that
+//! says so. Starts that were taken before are then to be asked for again.
 
 use crate::entries::{Entries, Entry, Listing};
 use crate::ffi;
@@ -16,6 +19,15 @@ pub struct Found {
     pub start: usize,
     /// The stock number.
     pub stock: u32,
+}
+
+/// Where the new record of an add starts, and whether the book was tidied for it.
+#[derive(Clone, Copy, Debug, PartialEq, Eq, Hash)]
+pub struct Added {
+    /// The byte where the record starts.
+    pub start: usize,
+    /// Whether the book was tidied, so that starts taken before have moved.
+    pub tidied: bool,
 }
 
 /// What is told of a record that is asked for by its start.
@@ -214,8 +226,8 @@ pub fn entries_with_prefix<'b>(book: &'b [u8], query: &[u16]) -> Result<Entries<
 /// let mut book = Book::new(&mut bytes);
 /// let daughter: Word = "သမီး".parse()?;
 /// let university: Word = "တက္ကသိုလ်".parse()?;
-/// assert_eq!(book.add(&daughter, 31)?, 0);
-/// assert_eq!(book.add(&university, 4_000_000_000)?, 11);
+/// assert_eq!(book.add(&daughter, 31)?.start, 0);
+/// assert_eq!(book.add(&university, 4_000_000_000)?.start, 11);
 /// assert_eq!(book.add(&daughter, 5).unwrap_err().reason, Reason::AlreadyLive);
 /// assert_eq!(book.remove(&daughter)?, 0);
 /// assert_eq!(book.find(&daughter).unwrap_err().reason, Reason::NotLive);
@@ -267,24 +279,35 @@ impl<'b> Book<'b> {
         check(self.bytes)
     }
 
-    /// Puts a live record with the word just after the last record, and gives its start.
+    /// Puts a live record with the word just after the last record. Where the record would pass the
+    /// end of the bytes there, but fits after [tidying](Book::tidy), the book is tidied first, and
+    /// in no other case.
     ///
     /// ```
-    /// use jogcairn::{Book, Reason};
+    /// use jogcairn::{Added, Book, Reason};
     ///
-    /// let mut bytes = [0; 15];
+    /// let mut bytes = [0; 24];
     /// let mut book = Book::new(&mut bytes);
-    /// assert_eq!(book.add(&[0x1015], 1)?, 0);
-    /// let full = book.add(&[0x1000], 2).unwrap_err();
-    /// assert_eq!((full.reason, full.place), (Reason::BookFull, 8));
+    /// book.add(&[0x1000], 1)?;
+    /// book.add(&[0x1001], 2)?;
+    /// book.remove(&[0x1000])?;
+    /// // A record of eight bytes ends where the bytes end, so that nothing has to move.
+    /// assert_eq!(book.add(&[0x1002], 3)?, Added { start: 16, tidied: false });
+    /// // One of nine does not fit behind the two live ones of eight.
+    /// let full = book.add(&[0x1015, 0x102B], 4).unwrap_err();
+    /// assert_eq!((full.reason, full.place), (Reason::BookFull, 16));
+    /// // One of eight does, in the room of the removed one: the live ones move to the front.
+    /// assert_eq!(book.add(&[0x1015], 4)?, Added { start: 16, tidied: true });
+    /// assert_eq!(book.find(&[0x1002])?.start, 8);
     /// # Ok::<(), jogcairn::Refusal>(())
     /// ```
-    pub fn add(&mut self, word: &[u16], stock: u32) -> Result<usize, Refusal> {
-        ffi::book_add(self.bytes, word, stock).one()
+    pub fn add(&mut self, word: &[u16], stock: u32) -> Result<Added, Refusal> {
+        let (start, tidied) = ffi::book_add(self.bytes, word, stock).one_and_whether()?;
+        Ok(Added { start, tidied })
     }
 
-    /// Marks the live record with the word as removed, and gives its start. Its room is not used
-    /// again.
+    /// Marks the live record with the word as removed, and gives its start. Its room is used again
+    /// through tidying alone.
     ///
     /// ```
     /// use jogcairn::Book;
@@ -296,6 +319,25 @@ impl<'b> Book<'b> {
     /// ```
     pub fn remove(&mut self, word: &[u16]) -> Result<usize, Refusal> {
         ffi::book_remove(self.bytes, word).one()
+    }
+
+    /// Moves the live records to the front, in the order of their starts, closes the gaps of the
+    /// removed ones, and fills the rest with zeros. Gives the live length, the sum of the live
+    /// records' bytes. Words keep their stock numbers and their ranks, but not their starts.
+    ///
+    /// ```
+    /// use jogcairn::Book;
+    ///
+    /// let mut bytes = *b"M-\x01\x07\0\0\0\x15MW\x01\x08\0\0\0\x15";
+    /// assert_eq!(Book::new(&mut bytes).tidy()?, 8);
+    /// assert_eq!(&bytes, b"MW\x01\x08\0\0\0\x15\0\0\0\0\0\0\0\0");
+    /// // Nothing is left to tidy.
+    /// assert_eq!(Book::new(&mut bytes).tidy()?, 8);
+    /// assert_eq!(&bytes, b"MW\x01\x08\0\0\0\x15\0\0\0\0\0\0\0\0");
+    /// # Ok::<(), jogcairn::Refusal>(())
+    /// ```
+    pub fn tidy(&mut self) -> Result<usize, Refusal> {
+        ffi::book_tidy(self.bytes).one()
     }
 
     /// The live record with the word.

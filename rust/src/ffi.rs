@@ -35,6 +35,7 @@ unsafe extern "C" {
         stock: u32,
     ) -> u64;
     fn jogcairn_book_remove(book: *mut u8, bytes: usize, word: *const u16, count: usize) -> u64;
+    fn jogcairn_book_tidy(book: *mut u8, bytes: usize) -> u64;
     fn jogcairn_book_find(book: *const u8, bytes: usize, word: *const u16, count: usize) -> u64;
     fn jogcairn_book_find_prefix(
         book: *const u8,
@@ -145,6 +146,11 @@ pub(crate) fn book_remove(book: &mut [u8], word: &[u16]) -> Answer {
     // SAFETY: the pointers and counts are those of slices, of which the book is borrowed mutably
     // and so does not overlap the word.
     Answer::new(unsafe { jogcairn_book_remove(book_at, bytes, word.as_ptr(), word.len()) })
+}
+
+pub(crate) fn book_tidy(book: &mut [u8]) -> Answer {
+    // SAFETY: the pointer and the count are those of a slice, which is borrowed mutably.
+    Answer::new(unsafe { jogcairn_book_tidy(book.as_mut_ptr(), book.len()) })
 }
 
 pub(crate) fn book_find(book: &[u8], word: &[u16]) -> Answer {

@@ -43,7 +43,7 @@
 //!     assert_eq!(syllables, spelled);
 //!     let records: Vec<u8> = read(&word)?.flat_map(|syllable| syllable.record.bytes()).collect();
 //!     assert_eq!(write(&records)?, word.values());
-//!     let start = book.add(&word, 61)?;
+//!     let start = book.add(&word, 61)?.start;
 //!     assert_eq!(book.find(&word)?.start, start);
 //! }
 //! # Ok::<(), jogcairn::Refusal>(())
@@ -59,6 +59,7 @@
 //! | file words | [`Word`], [`Key`], [`key_into`], [`compare`] |
 //! | take the values of a line of UTF-8 | [`decode`], [`decode_into`] |
 //! | keep a word book | [`Book`], and the functions of [`book`] for shared bytes |
+//! | use the room of removed records again | [`Book::add`] by itself, [`Book::tidy`] |
 //! | list the words of a book that continue some syllables | [`Book::entries_with_prefix`] |
 //!
 //! A function whose name ends in `_into` writes to the front of what the caller lends and leaves
@@ -85,7 +86,7 @@ mod text;
 mod word;
 mod writing;
 
-pub use book::{Book, Found, Told};
+pub use book::{Added, Book, Found, Told};
 pub use comparison::{compare, ComparisonRefusal, Which};
 pub use entries::{Entries, Entry, Listing};
 pub use key::{key_into, Key};

@@ -32,7 +32,8 @@ pub enum Reason {
     AlreadyLive = 12,
     /// No live record has the word. The place is 0.
     NotLive = 13,
-    /// The record does not fit behind the last one. The place is the first free byte.
+    /// The live records and the new one together pass the end of the bytes. The place is the live
+    /// length, the sum of the live records' bytes.
     BookFull = 14,
     /// The rank is not below the number of live records. The place is that number.
     RankTooHigh = 15,
@@ -162,7 +163,7 @@ impl fmt::Display for Refusal {
             }
             Reason::NotLive => f.write_str("no live record has the word"),
             Reason::BookFull => {
-                write!(f, "the record does not fit from the first free byte {place} on")
+                write!(f, "the record does not fit behind the {place} bytes of the live records")
             }
             Reason::RankTooHigh => {
                 write!(f, "the rank is not below {place}, the number of live records")

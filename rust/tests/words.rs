@@ -2,7 +2,7 @@
 
 mod answers;
 
-use answers::{found, refused, weights};
+use answers::{found, put_at, refused, weights};
 use jogcairn::{
     book, compare, decode, key_into, normalise, part, read, spell_into, stored_form, typed_place,
     write, Book, Reason, Refusal, Told, Which, Word, BOOK_LIMIT, KEY_SIZE, WORD_LIMIT,
@@ -118,8 +118,8 @@ fn a_book_is_kept_through_its_calls() {
     let mut bytes = [0; 26];
     let mut book = Book::new(&mut bytes);
     let (first, second) = ([0x1000, 0x102B], [0x1000, 0x102C]);
-    assert_eq!(book.add(&second, 1), Ok(0));
-    assert_eq!(book.add(&first, 2), Ok(9));
+    assert_eq!(book.add(&second, 1), put_at(0));
+    assert_eq!(book.add(&first, 2), put_at(9));
     assert_eq!(refused(book.add(&second, 3)), (12, 0));
     assert_eq!(refused(book.add(&[0x1015, 0x102B], 3)), (14, 18));
     let stocks =
@@ -129,7 +129,7 @@ fn a_book_is_kept_through_its_calls() {
     assert_eq!(refused(book.remove(&first)), (13, 0));
     assert_eq!(refused(book.rank(1)), (15, 1));
     assert_eq!(stocks(&book), [1]);
-    assert_eq!(book.add(&[0x1000], 4), Ok(18));
+    assert_eq!(book.add(&[0x1000], 4), put_at(18));
     assert_eq!(bytes, *b"MW\x02\x01\0\0\0\x00\x2CM-\x02\x02\0\0\0\x00\x2BMW\x01\x04\0\0\0\x00");
 }
 
@@ -140,7 +140,7 @@ fn first_syllables_find_the_words_that_continue_them() {
     let names = ["တက္ကသိုလ်", "အင်္ဂလန်", "ပြဿနာ", "တက်သည်", "ပိုက်"];
     let starts: Vec<u16> = (0u32..)
         .zip(names)
-        .map(|(stock, name)| book.add(&name.parse::<Word>().unwrap(), stock).unwrap() as u16)
+        .map(|(stock, name)| book.add(&name.parse::<Word>().unwrap(), stock).unwrap().start as u16)
         .collect();
     // A plain final finds a stacked one, kinzi and great sa.
     assert_eq!(found(&book, "တက်"), [starts[0], starts[3]]);

@@ -1,11 +1,16 @@
 //! What the tests ask of an answer.
 
-use jogcairn::{decode, Book, Key, Refusal};
+use jogcairn::{decode, Added, Book, Key, Refusal};
 
 /// The number and the place of a refusal.
 pub fn refused<T: std::fmt::Debug>(result: Result<T, Refusal>) -> (u8, usize) {
     let refusal = result.unwrap_err();
     (refusal.number(), refusal.place)
+}
+
+/// The answer of an add that puts its record there without tidying.
+pub fn put_at(start: usize) -> Result<Added, Refusal> {
+    Ok(Added { start, tidied: false })
 }
 
 /// The weights of a word, syllable by syllable.
