@@ -1,5 +1,5 @@
 /* A day at the counter of a parts shop: names are filed, one is found, those that begin with what the clerk typed are listed, then all, in dictionary
-   order, and in a misspelt one the letter that breaks it is pointed at. */
+   order, and in a misspelt one the letter that breaks it is pointed at. Parts are renamed in the full book, which makes room by tidying. */
 #include "jogcairn.h"
 
 #include <inttypes.h>
@@ -34,7 +34,8 @@ static const struct part parts[] = {
     {"fan", 7},             /* no Myanmar letters */
 };
 
-static uint8_t book[256];
+/* The parts that are accepted fill the book to its last byte. */
+static uint8_t book[109];
 
 /* Prints values as UTF-8: each is 1000 to 107F, which takes three bytes. */
 static void print_values(const uint16_t *values, size_t count)
@@ -78,17 +79,24 @@ static int decode(const char *text, struct name *name)
     return 1;
 }
 
+/* Adds a record and says where it starts, or why it is refused. */
+static int add_name(const struct name *name, uint32_t stock)
+{
+    uint64_t answer = jogcairn_book_add(book, sizeof book, name->values, name->count, stock);
+    if (!jogcairn_accepted(answer)) {
+        print_refusal(answer, name);
+        return 0;
+    }
+    printf("at byte %" PRIu32 "%s\n", jogcairn_first(answer), jogcairn_second(answer) ? ", tidied, so starts have moved" : "");
+    return 1;
+}
+
 static void file_part(struct part part)
 {
     struct name name;
     printf("file %s: ", part.name);
-    if (!decode(part.name, &name))
-        return;
-    uint64_t answer = jogcairn_book_add(book, sizeof book, name.values, name.count, part.stock);
-    if (jogcairn_accepted(answer))
-        printf("at byte %" PRIu32 "\n", jogcairn_first(answer));
-    else
-        print_refusal(answer, &name);
+    if (decode(part.name, &name))
+        add_name(&name, part.stock);
 }
 
 static void find_part(const char *text)
@@ -115,6 +123,36 @@ static void remove_part(const char *text)
         printf("at byte %" PRIu32 "\n", jogcairn_first(answer));
     else
         print_refusal(answer, &name);
+}
+
+/* Gives a part another name. Its record is removed first, so that its room can be used; where the new name does not fit even so, the old one does. */
+static void rename_part(const char *text, const char *other)
+{
+    struct name name, renamed;
+    printf("rename %s to %s: ", text, other);
+    if (!decode(text, &name) || !decode(other, &renamed))
+        return;
+    uint64_t found = jogcairn_book_find(book, sizeof book, name.values, name.count);
+    if (!jogcairn_accepted(found)) {
+        print_refusal(found, &name);
+        return;
+    }
+    jogcairn_book_remove(book, sizeof book, name.values, name.count);
+    if (!add_name(&renamed, jogcairn_first(found))) {
+        printf("  kept as %s: ", text);
+        add_name(&name, jogcairn_first(found));
+    }
+}
+
+/* Tidies the book, and says how much of it is used. */
+static void tidy_book(void)
+{
+    uint64_t answer = jogcairn_book_tidy(book, sizeof book);
+    printf("tidy: ");
+    if (jogcairn_accepted(answer))
+        printf("%" PRIu32 " bytes of live records, %zu free\n", jogcairn_first(answer), sizeof book - jogcairn_first(answer));
+    else
+        print_refusal(answer, NULL);
 }
 
 /* The record that starts at a byte: its stock number, its word, and whether it is removed. */
@@ -281,6 +319,17 @@ int main(void)
     print_rank(7);
     print_record(0);
     print_record(1);
+    file_part((struct part){"ရေပိုက်ခေါင်း", 19});
+    find_part("ပတ္တာ");
+    rename_part("ပိုက်", "ရေပိုက်");
+    find_part("ပတ္တာ");
+    print_record(75);
+    rename_part("ပတ္တာ", "လေအေးပေးစက်ပတ္တာ");
+    remove_part("ဥက္က");
+    file_part((struct part){"မီး", 20});
+    tidy_book();
+    find_part("ပတ္တာ");
+    list_parts();
     print_syllables("တက္ကသိုလ်");
     print_syllables("ဥက္က");
     print_syllables("၎င်း");
