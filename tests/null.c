@@ -55,6 +55,7 @@ static void on_books(void)
     expect("add, no word", jogcairn_book_add(book, sizeof book, NULL, 0, 7), JOGCAIRN_EMPTY_WORD, 0, 0);
     expect("remove", jogcairn_book_remove(NULL, 0, ka, 1), JOGCAIRN_NOT_LIVE, 0, 0);
     expect("remove, no word", jogcairn_book_remove(book, sizeof book, NULL, 0), JOGCAIRN_EMPTY_WORD, 0, 0);
+    expect("tidy", jogcairn_book_tidy(NULL, 0), 0, 0, 0);
     expect("find", jogcairn_book_find(NULL, 0, ka, 1), JOGCAIRN_NOT_LIVE, 0, 0);
     expect("find, no word", jogcairn_book_find(book, sizeof book, NULL, 0), JOGCAIRN_EMPTY_WORD, 0, 0);
     expect("find prefix", jogcairn_book_find_prefix(NULL, 0, ka, 1, NULL, 0), 0, 0, 0);

@@ -17,8 +17,10 @@ static void (*measured)(void);
 static uint16_t words[4][JOGCAIRN_WORD_LIMIT];
 static const uint16_t *word = words[0];
 
-/* The longest book, full, and a copy of it to be changed; and a full one whose words all begin with the same syllable. */
-static uint8_t full[JOGCAIRN_BOOK_LIMIT], book[JOGCAIRN_BOOK_LIMIT], alike[JOGCAIRN_BOOK_LIMIT];
+/* The longest book, full; the same with every second record removed; a copy of either to be changed; and a full one whose words all begin with the same
+   syllable. */
+static uint8_t full[JOGCAIRN_BOOK_LIMIT], gaps[JOGCAIRN_BOOK_LIMIT], book[JOGCAIRN_BOOK_LIMIT], alike[JOGCAIRN_BOOK_LIMIT];
+static const uint8_t *const books[] = {full, gaps};
 static const uint16_t first_syllable[] = {0x1021};
 static uint16_t values[JOGCAIRN_SPELLED_LIMIT], starts[JOGCAIRN_BOOK_LIMIT / 8];
 static uint8_t bytes[JOGCAIRN_WORD_LIMIT * JOGCAIRN_RECORD_SIZE], key[JOGCAIRN_KEY_SIZE];
@@ -38,6 +40,7 @@ static void run_decode(void) { jogcairn_decode((const uint8_t *)"\xE1\x80\x80\xE
 static void run_check(void) { jogcairn_book_check(book, sizeof book); }
 static void run_add(void) { jogcairn_book_add(book, sizeof book, word, 64, 1); }
 static void run_remove(void) { jogcairn_book_remove(book, sizeof book, word, 1); }
+static void run_tidy(void) { jogcairn_book_tidy(book, sizeof book); }
 static void run_find(void) { jogcairn_book_find(book, sizeof book, word, 64); }
 static void run_rank(void) { jogcairn_book_rank(book, sizeof book, 1000); }
 static void run_order(void) { jogcairn_book_order(book, sizeof book, starts, JOGCAIRN_BOOK_LIMIT / 8); }
@@ -69,6 +72,7 @@ static const struct {
     {"jogcairn_book_check", run_check, JOGCAIRN_STACK_BOOK},
     {"jogcairn_book_add", run_add, JOGCAIRN_STACK_BOOK},
     {"jogcairn_book_remove", run_remove, JOGCAIRN_STACK_BOOK},
+    {"jogcairn_book_tidy", run_tidy, JOGCAIRN_STACK_BOOK},
     {"jogcairn_book_find", run_find, JOGCAIRN_STACK_BOOK},
     {"jogcairn_book_word", run_word, JOGCAIRN_STACK_BOOK},
     {"jogcairn_book_rank", run_rank, JOGCAIRN_STACK_ORDER},
@@ -98,16 +102,17 @@ static size_t depth_of(void (*run)(void))
     return sizeof stack - untouched;
 }
 
-/* The most that a call needs for any of the words, beyond what running nothing takes. */
+/* The most that a call needs for any of the words and books, beyond what running nothing takes. */
 static size_t deepest(void (*run)(void))
 {
     size_t most = 0;
-    for (size_t at = 0; at < sizeof words / sizeof words[0]; at++) {
-        word = words[at];
-        memcpy(book, full, sizeof book);
-        size_t depth = depth_of(run);
-        most = depth > most ? depth : most;
-    }
+    for (size_t at = 0; at < sizeof words / sizeof words[0]; at++)
+        for (size_t which = 0; which < sizeof books / sizeof books[0]; which++) {
+            word = words[at];
+            memcpy(book, books[which], sizeof book);
+            size_t depth = depth_of(run);
+            most = depth > most ? depth : most;
+        }
     return most - depth_of(run_nothing);
 }
 
@@ -138,12 +143,24 @@ static int make_book(uint8_t *filled, unsigned front)
     return 0;
 }
 
+/* Removes every second record of the full book; the longest word is then added by tidying, as the answer says. */
+static int make_gaps(void)
+{
+    memcpy(gaps, full, sizeof gaps);
+    for (size_t start = 0, number = 0; start < sizeof gaps && gaps[start] != 0; start += 7 + gaps[start + 2], number++)
+        if (number % 2 == 1)
+            gaps[start + 1] = 0x2D;
+    memcpy(book, gaps, sizeof book);
+    uint64_t answer = jogcairn_book_add(book, sizeof book, words[0], JOGCAIRN_WORD_LIMIT, 1);
+    return jogcairn_accepted(answer) && jogcairn_second(answer) == 1;
+}
+
 int main(void)
 {
     int wrong = 0;
     make_words();
-    if (!make_book(full, 0) || !make_book(alike, 1)) {
-        printf("a book is not filled\n");
+    if (!make_book(full, 0) || !make_book(alike, 1) || !make_gaps()) {
+        printf("a book is not filled, or not tidied\n");
         return 1;
     }
     for (size_t at = 0; at < sizeof calls / sizeof calls[0]; at++) {
