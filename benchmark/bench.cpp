@@ -239,7 +239,7 @@ static size_t fill_book(std::vector<uint8_t> &book, std::vector<Word> names, siz
         uint64_t answer = jogcairn_book_add(book.data(), book.size(), name.data(), name.size(), uint32_t(added));
         if (jogcairn_tag(answer) == JOGCAIRN_BOOK_FULL)
             break;
-        need(jogcairn_accepted(answer), "a book could not be filled");
+        need(jogcairn_accepted(answer) && jogcairn_second(answer) == 0, "a book could not be filled without tidying");
     }
     return added;
 }
@@ -269,8 +269,10 @@ static void time_book(const std::vector<Word> &names, size_t live, size_t record
         timed("add", turns,
               [&](size_t) {
                   uint64_t answer = jogcairn_book_add(bytes, length, absent.data(), absent.size(), 7);
-                  if (jogcairn_accepted(answer))
+                  if (jogcairn_accepted(answer)) {
+                      need(jogcairn_second(answer) == 0, "an add of the table of calls tidied its book");
                       std::memset(bytes + jogcairn_first(answer), 0, 7 + absent.size());
+                  }
                   return answer;
               }),
         timed("remove", turns,
@@ -380,6 +382,65 @@ static void time_prefixes(const std::vector<Word> &names)
     std::printf("  * a book made for it: every word, or every tenth, is put behind 1021\n");
 }
 
+// The book with every `step`th record removed, from the first on; none where it is 0.
+static std::vector<uint8_t> with_removed(std::vector<uint8_t> book, size_t step)
+{
+    for (size_t start = 0, number = 0; start < book.size() && book[start] != 0; start += 7 + book[start + 2], number++)
+        if (step != 0 && number % step == 0)
+            book[start + 1] = 0x2D;
+    return book;
+}
+
+// The book without as many of its last records as leave room for so many bytes.
+static std::vector<uint8_t> with_room(std::vector<uint8_t> book, size_t room)
+{
+    size_t end = 0;
+    while (book[end] != 0 && end + 7 + book[end + 2] + room <= book.size())
+        end += 7 + book[end + 2];
+    std::fill(book.begin() + ptrdiff_t(end), book.end(), 0);
+    return book;
+}
+
+// Tidying a full book, beside check; and an add to it, which tidies where records are removed, beside one to the same book with room for the record.
+// Each call that changes the book has a copy of it made anew, and the time of the copy alone is taken off.
+static void time_tidying(const char *removed, const std::vector<uint8_t> &full)
+{
+    const Word absent(3, 0x1000); // the names have at most two values
+    const std::vector<uint8_t> roomy = with_room(full, 7 + absent.size());
+    std::vector<uint8_t> book(full.size());
+    size_t length = book.size(), turns = 20, lives = jogcairn_first(jogcairn_book_check(full.data(), length));
+    auto copy_of = [&](const std::vector<uint8_t> &from) { return static_cast<uint8_t *>(std::memcpy(book.data(), from.data(), length)); };
+    auto add_to = [&](const std::vector<uint8_t> &from) { return jogcairn_book_add(copy_of(from), length, absent.data(), absent.size(), 7); };
+    enum { COPY, CHECK, TIDY, ADD_FITTING, ADD_TIDYING };
+    std::vector<Case> cases = {
+        timed("copy", turns, [&](size_t i) { return uint64_t(copy_of(full)[i]); }),
+        timed("check", turns, [&](size_t) { return jogcairn_book_check(full.data(), length); }),
+        timed("tidy", turns, [&](size_t) { return jogcairn_book_tidy(copy_of(full), length); }),
+        timed("add, fits", turns, [&](size_t) { return add_to(roomy); }),
+        timed("add, tidies", turns, [&](size_t) { return add_to(full); }),
+    };
+    uint64_t fits = add_to(roomy), tidies = add_to(full);
+    need(jogcairn_accepted(fits) && jogcairn_second(fits) == 0, "an add to a book with room is refused, or tidies");
+    need(jogcairn_second(tidies) == 1 || jogcairn_tag(tidies) == JOGCAIRN_BOOK_FULL, "an add to a full book does not tidy");
+    run(cases);
+    std::printf("  %-14s %6zu %8.1f %8.1f", removed, lives, cases[COPY].shortest / 1000, cases[CHECK].shortest / 1000);
+    for (int changing : {TIDY, ADD_FITTING, ADD_TIDYING})
+        std::printf(" %12.1f", (cases[changing].shortest - cases[COPY].shortest) / 1000);
+    std::printf("%s\n", jogcairn_accepted(tidies) ? "" : ", refused with 14");
+}
+
+// The full book with none, every second and all of its records removed.
+static void time_tidyings(const std::vector<Word> &names)
+{
+    std::printf("\n  tidying a full book of %d bytes, in microseconds; each change is on a new copy, whose time is taken off\n", JOGCAIRN_BOOK_LIMIT);
+    std::printf("  %-14s %6s %8s %8s %12s %12s %12s\n", "removed", "live", "copy", "check", "tidy", "add, fits", "add, tidies");
+    std::vector<uint8_t> book(JOGCAIRN_BOOK_LIMIT);
+    fill_book(book, names, names.size(), names.size());
+    time_tidying("none", with_removed(book, 0));
+    time_tidying("every second", with_removed(book, 2));
+    time_tidying("all", with_removed(book, 1));
+}
+
 int main(int argc, char **argv)
 {
     need(argc > 1, "usage: bench FILE [ROUNDS]");
@@ -408,4 +469,5 @@ int main(int argc, char **argv)
     time_book(names, names.size(), names.size());
     time_book(names, 300, 2000);
     time_prefixes(names);
+    time_tidyings(names);
 }
