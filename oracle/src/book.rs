@@ -1,7 +1,7 @@
-//! Document 01, "The word book".
+//! Document 01, "The word book", and document 02, "Tidying a book".
 //!
 //! Every call takes the whole buffer apart into records, and answers from their
-//! list.
+//! list. A tidied book is built anew from the live ones.
 
 use crate::collation::{begins_with, compare};
 use crate::reading::read;
@@ -26,6 +26,16 @@ pub struct Entry {
     pub start: usize,
     /// Its stock number.
     pub stock: u32,
+}
+
+/// "Add puts a record with the normalised word just after the last record and
+/// gives its start."
+#[derive(Clone, Copy, Debug, PartialEq, Eq)]
+pub struct Added {
+    /// Where its record starts.
+    pub start: usize,
+    /// Whether the book was tidied for it, so that live records may start elsewhere.
+    pub tidied: bool,
 }
 
 /// What is told of the record that starts at a place.
@@ -111,22 +121,25 @@ pub fn word_at(buffer: &[u8], start: usize, output: &mut [u16]) -> Result<Option
     Ok(Some(Told { stock: record.entry.stock, count, live: record.live }))
 }
 
-/// "Add puts a record with the normalised word just after the last record and
-/// gives its start."
-pub fn add(buffer: &mut [u8], word: &[u16], stock: u32) -> Result<usize, Refusal> {
+/// Puts a record behind the last one. Document 02: "Add tidies by itself when its
+/// record doesn't fit otherwise but fits after tidying, and in no other case."
+pub fn add(buffer: &mut [u8], word: &[u16], stock: u32) -> Result<Added, Refusal> {
     let word = entered(word)?.word;
     let book = Book::of(buffer)?;
     if let Some(entry) = book.entry_of(&word) {
         return Err(Refusal::already_live(entry.start));
     }
-    let mut record = Vec::from(LIVE);
-    record.push(word.len() as u8);
-    record.extend(stock.to_le_bytes());
-    record.extend(word.iter().map(|value| (value - 0x1000) as u8));
-    let start = book.first_free;
-    let room = buffer[start..].get_mut(..record.len()).ok_or(Refusal::book_full(start))?;
-    room.copy_from_slice(&record);
-    Ok(start)
+    let record = live_record(&word, stock);
+    if let Some(room) = buffer[book.first_free..].get_mut(..record.len()) {
+        room.copy_from_slice(&record);
+        return Ok(Added { start: book.first_free, tidied: false });
+    }
+    let live = book.live_bytes();
+    if live.len() + record.len() > buffer.len() {
+        return Err(Refusal::book_full(live.len()));
+    }
+    write_anew(buffer, &[&live[..], &record].concat());
+    Ok(Added { start: live.len(), tidied: true })
 }
 
 /// "Remove changes the record's 57 to 2D, no other byte, and gives its start."
@@ -134,6 +147,22 @@ pub fn remove(buffer: &mut [u8], word: &[u16]) -> Result<usize, Refusal> {
     let start = find(buffer, word)?.start;
     buffer[start..start + 2].copy_from_slice(&REMOVED);
     Ok(start)
+}
+
+/// Document 02: "Tidying moves the live records to the front, in the order of their
+/// starts, closes the gaps, and fills the rest with zero. It gives the live length,
+/// the sum of the live records' bytes." It is "refused with 11 alone".
+pub fn tidy(buffer: &mut [u8]) -> Result<usize, Refusal> {
+    let live = Book::of(buffer)?.live_bytes();
+    write_anew(buffer, &live);
+    Ok(live.len())
+}
+
+/// Makes the buffer these records, from byte 0 on, "then only zero bytes".
+fn write_anew(buffer: &mut [u8], records: &[u8]) {
+    let (front, rest) = buffer.split_at_mut(records.len());
+    front.copy_from_slice(records);
+    rest.fill(0);
 }
 
 /// The word that goes to the book: "Keys, comparison and the book normalise
@@ -178,6 +207,12 @@ impl Book {
         self.records.iter().filter(|record| record.live)
     }
 
+    /// The bytes of the live records, one behind the other in the order of their
+    /// starts.
+    fn live_bytes(&self) -> Vec<u8> {
+        self.live().flat_map(|record| live_record(&record.word, record.entry.stock)).collect()
+    }
+
     fn in_order(&self) -> Vec<&Record> {
         let mut live: Vec<&Record> = self.live().collect();
         live.sort_by(|first, second| {
@@ -189,6 +224,17 @@ impl Book {
     fn entry_of(&self, word: &[u16]) -> Option<Entry> {
         self.live().find(|record| record.word == word).map(|record| record.entry)
     }
+}
+
+/// The bytes of a live record: "Then come the count n of code values (one byte, 1 to
+/// 64), the stock number (four bytes, low byte first) and n bytes, each a value minus
+/// 1000."
+fn live_record(word: &[u16], stock: u32) -> Vec<u8> {
+    let mut bytes = Vec::from(LIVE);
+    bytes.push(word.len() as u8);
+    bytes.extend(stock.to_le_bytes());
+    bytes.extend(word.iter().map(|value| (value - 0x1000) as u8));
+    bytes
 }
 
 /// Cuts the record at the front off, if one stands there.

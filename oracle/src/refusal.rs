@@ -64,10 +64,10 @@ impl Refusal {
         Refusal { number: 12, place: start }
     }
 
-    /// 14: "add: first free byte plus 7 plus n passes the buffer's end"; place
-    /// "first free byte".
-    pub const fn book_full(first_free: usize) -> Refusal {
-        Refusal { number: 14, place: first_free }
+    /// 14: document 02, "when the live records and the new one together pass the
+    /// buffer's end and at no other time"; place "the live length".
+    pub const fn book_full(live_length: usize) -> Refusal {
+        Refusal { number: 14, place: live_length }
     }
 
     /// 15: "rank not below the live count"; place "live count".

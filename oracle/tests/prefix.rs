@@ -1,6 +1,6 @@
 //! Document 02, "Find by the first syllables", with starts and places worked out by hand.
 
-use oracle::book::{add, find_prefix, remove};
+use oracle::book::{add, find_prefix, remove, Added};
 use oracle::{compare, key, read, spell_out, Refusal};
 
 /// တက္ကသိုလ်
@@ -20,7 +20,7 @@ fn refusal<T>(number: u8, place: usize) -> Result<T, Refusal> {
 /// A book of these words, and where the record of each starts.
 fn book_of(words: &[&[u16]]) -> (Vec<u8>, Vec<u16>) {
     let mut book = vec![0; words.iter().map(|word| 7 + word.len()).sum()];
-    let starts = words.iter().map(|word| add(&mut book, word, 7).unwrap() as u16).collect();
+    let starts = words.iter().map(|word| add(&mut book, word, 7).unwrap().start as u16).collect();
     (book, starts)
 }
 
@@ -169,7 +169,7 @@ fn removed_records_are_not_found() {
     remove(&mut book, &[0x1000]).unwrap();
     assert_eq!(find_prefix(&book, &[0x1000], &mut []), refusal(5, 1));
     // Added anew, it stands at the end of the records and is filed first again.
-    assert_eq!(add(&mut book, &[0x1000], 1), Ok(26));
+    assert_eq!(add(&mut book, &[0x1000], 1), Ok(Added { start: 26, tidied: false }));
     assert_eq!(find_prefix(&book, &[0x1000], &mut list), Ok(2));
     assert_eq!(list, [26, starts[2], 9, 9]);
 }

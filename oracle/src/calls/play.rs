@@ -32,14 +32,17 @@ pub enum Call {
     Order(usize),
     /// Where a record starts, and the room for its word.
     Word(usize, usize),
+    /// The live records at the front, then zeros.
+    Tidy,
 }
 
 /// What stands in an output before a call.
 pub const BLANK: u16 = 0xA5A5;
 
-/// Two numbers, the second 0 where a call gives only one; or a refusal. The word of
-/// a record has the number of its values, with 256 more where the record is live and
-/// 0 where there is none, and the stock number.
+/// Two numbers, the second 0 where a call gives only one; or a refusal. Add gives the
+/// start and 1 where it tidied, else 0. The word of a record has the number of its
+/// values, with 256 more where the record is live and 0 where there is none, and the
+/// stock number.
 pub type Answer = Result<(usize, u32), Refusal>;
 
 /// The calls so far, what must be printed for them, and the array as they left it.
@@ -104,6 +107,17 @@ impl Play {
         self.array[place]
     }
 
+    /// Where the records of the book start, live or not.
+    pub fn starts(&self) -> Vec<usize> {
+        let mut starts = Vec::new();
+        let mut next = 0;
+        while next < self.length && self.byte(next) != 0 {
+            starts.push(next);
+            next += 7 + usize::from(self.byte(next + 2));
+        }
+        starts
+    }
+
     /// Plays a call on the book.
     pub fn check(&mut self) -> Answer {
         let answer = book::check(&self.array[..self.length]).map(|live| (live, 0));
@@ -112,8 +126,9 @@ impl Play {
 
     /// Plays a call on the book.
     pub fn add(&mut self, word: &[u16], stock: u32) -> Answer {
-        let start = book::add(&mut self.array[..self.length], word, stock);
-        self.told(Call::Add(word.to_vec(), stock), start.map(|start| (start, 0)))
+        let added = book::add(&mut self.array[..self.length], word, stock);
+        let answer = added.map(|added| (added.start, u32::from(added.tidied)));
+        self.told(Call::Add(word.to_vec(), stock), answer)
     }
 
     /// Plays a call on the book.
@@ -160,6 +175,12 @@ impl Play {
         self.told_with(Call::Word(start, room), numbers, &output)
     }
 
+    /// Plays a call on the book.
+    pub fn tidy(&mut self) -> Answer {
+        let live_length = book::tidy(&mut self.array[..self.length]);
+        self.told(Call::Tidy, live_length.map(|live_length| (live_length, 0)))
+    }
+
     fn told(&mut self, call: Call, answer: Answer) -> Answer {
         self.told_with(call, answer, &[])
     }
@@ -174,9 +195,10 @@ impl Play {
         let output: Vec<u8> = output.iter().flat_map(|value| value.to_le_bytes()).collect();
         let sum = checksum(&[&self.array, &output[..]].concat());
         writeln!(self.expected, "{verdict} {first} {second} {sum}").expect("memory");
-        let kind = match answer {
-            Ok(_) => format!("{} OK", name(&call)),
-            Err(refusal) => format!("{} NO {}", name(&call), refusal.number),
+        let kind = match (&call, answer) {
+            (Call::Add(..), Ok((_, 1))) => String::from("add OK, tidied"),
+            (_, Ok(_)) => format!("{} OK", name(&call)),
+            (_, Err(refusal)) => format!("{} NO {}", name(&call), refusal.number),
         };
         *self.counts.entry((self.scene, kind)).or_default() += 1;
         answer
@@ -194,6 +216,7 @@ impl Play {
             Call::Rank(rank) => format!("{rank:X}k"),
             Call::Order(room) => format!("{room:X}o"),
             Call::Word(start, room) => format!("{start:X} {room:X}w"),
+            Call::Tidy => String::from("t"),
         };
         self.input.push_str(&line);
         self.input.push('\n');
@@ -222,6 +245,7 @@ fn name(call: &Call) -> &'static str {
         Call::Rank(_) => "rank",
         Call::Order(_) => "order",
         Call::Word(..) => "word",
+        Call::Tidy => "tidy",
     }
 }
 
