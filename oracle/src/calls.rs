@@ -14,6 +14,7 @@ mod listings;
 mod play;
 mod ranks;
 mod refusals;
+mod tidyings;
 mod turns;
 mod words;
 
@@ -45,5 +46,8 @@ pub fn all() -> Play {
     play.scene("long beginnings", beginnings::long_beginnings);
     play.scene("refused queries", beginnings::refused_queries);
     play.scene("changed beginnings", beginnings::changed_beginnings);
+    play.scene("tidied", tidyings::tidied);
+    play.scene("renamings", tidyings::renamings);
+    play.scene("by one byte", tidyings::by_one_byte);
     play
 }

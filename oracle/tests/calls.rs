@@ -11,9 +11,9 @@ static CALLS: LazyLock<Play> = LazyLock::new(all);
 #[test]
 fn the_calls_are_of_the_right_size() {
     let lines = CALLS.expected.lines().count();
-    assert!((5_000..=10_000).contains(&lines), "{lines} lines");
+    assert!((5_000..=11_000).contains(&lines), "{lines} lines");
     assert!(CALLS.input.len() <= 450_000, "{} bytes of input", CALLS.input.len());
-    assert!(CALLS.expected.len() <= 200_000, "{} bytes of output", CALLS.expected.len());
+    assert!(CALLS.expected.len() <= 220_000, "{} bytes of output", CALLS.expected.len());
 }
 
 #[test]
@@ -33,6 +33,30 @@ fn every_answer_occurs() {
     numbers("rank", &[11, 15]);
     numbers("order", &[11, 5]);
     numbers("word", &[11, 5]);
+    numbers("tidy", &[11]);
+}
+
+/// In the scenes that come to them: adds that tidy and adds that no tidying helps, books
+/// that are tidied and buffers that are none.
+#[test]
+fn the_scenes_tidy_as_they_say() {
+    let scenes: [(&str, &[&str]); 10] = [
+        ("lengths", &["add OK", "add OK, tidied", "add NO 14", "tidy OK", "tidy NO 11"]),
+        ("filled", &["add OK", "add OK, tidied", "add NO 14"]),
+        ("filled to the limit", &["add OK", "add OK, tidied", "add NO 14", "tidy OK"]),
+        ("turns", &["add OK", "add OK, tidied", "add NO 14"]),
+        ("damaged bytes", &["tidy NO 11"]),
+        ("made by hand", &["add OK", "add OK, tidied", "tidy OK", "tidy NO 11"]),
+        ("any damage", &["tidy OK", "tidy NO 11"]),
+        ("tidied", &["tidy OK"]),
+        ("renamings", &["add OK", "add OK, tidied", "add NO 14", "tidy OK"]),
+        ("by one byte", &["add OK", "add OK, tidied", "add NO 14"]),
+    ];
+    for (scene, kinds) in scenes {
+        for kind in kinds {
+            assert!(CALLS.counts.contains_key(&(scene, kind.to_string())), "{scene}: {kind}");
+        }
+    }
 }
 
 /// The words of the calls with this letter, which have a number behind the word.

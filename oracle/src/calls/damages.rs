@@ -55,13 +55,16 @@ fn changed(play: &mut Play, random: &mut Random, place: usize, byte: u8) {
             _ => play.find(&[0x1000]),
         };
     }
-    // An add or a remove that is refused changes nothing, so the byte can be put back.
+    // A call that is refused changes nothing, so the byte can be put back.
     let answer = play.find(&[0x1000, 0x1014, 0x1037, 0x103A]);
     if answer.is_err() && random.chance(50) {
         let _ = play.remove(&[0x1000, 0x1014, 0x1037, 0x103A]);
     }
     if answer.is_err_and(|refusal| refusal.number == 11) && random.chance(50) {
-        let _ = play.add(&[0x1020], stock(random));
+        let _ = match random.below(2) {
+            0 => play.add(&[0x1020], stock(random)),
+            _ => play.tidy(),
+        };
     }
     play.poke(place, before);
 }
@@ -77,9 +80,10 @@ pub fn made_by_hand(play: &mut Play, random: &mut Random) {
                 play.new_book(whole.len() + behind);
                 play.poke_all(0, &whole);
                 let _ = play.check();
-                let _ = match random.below(3) {
+                let _ = match random.below(4) {
                     0 => play.find(&[0x1005, 0x102C]),
                     1 => play.remove(&[0x1000]),
+                    2 => play.tidy(),
                     _ => play.add(&[0x1000], stock(random)),
                 };
                 let _ = play.rank(random.below(3) as u32);
@@ -176,10 +180,11 @@ pub fn any_damage(play: &mut Play, random: &mut Random) {
             let chosen = random.below(words.len());
             let word = respelled(random, &words[chosen]);
             let _ = play.check();
-            let _ = match random.below(4) {
+            let _ = match random.below(5) {
                 0 => play.add(&word, stock(random)),
                 1 => play.remove(&word),
                 2 => play.find(&word),
+                3 => play.tidy(),
                 _ => play.rank(random.below(words.len()) as u32),
             };
             if random.chance(70) {

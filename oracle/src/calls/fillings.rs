@@ -19,6 +19,7 @@ pub fn lengths(play: &mut Play, random: &mut Random) {
         let _ = play.remove(&[0x1000]);
         ask_all(play, &[0x1000]);
         let _ = play.add(&[0x1000], stock(random));
+        let _ = play.tidy();
         if length > 0 {
             play.poke(0, 0x01);
             ask_all(play, &[0x1000]);
@@ -26,6 +27,7 @@ pub fn lengths(play: &mut Play, random: &mut Random) {
             play.poke(0, 0x00);
             play.poke(length - 1, 0x01);
             ask_all(play, &[0x1000]);
+            let _ = play.tidy();
         }
     }
 }
@@ -60,12 +62,32 @@ pub fn filled(play: &mut Play, random: &mut Random) {
     }
 }
 
-/// The longest book, filled with the longest words and then to the last byte.
+/// The longest book, filled with the longest words and then to the last byte. Where
+/// the one shorter record is removed, no other has room; then some records go, half of
+/// them, and all.
 pub fn filled_to_the_limit(play: &mut Play, random: &mut Random) {
     play.new_book(BOOK_LIMIT);
     fill(play, random, BOOK_LIMIT, |random| of_length(random, WORD_LIMIT));
-    for rank in [1, 2, 100, 225, 226, 227, 228, 229, 230] {
+    for rank in [1, 2, 100, 200, 227, 229, 230, 231, 232] {
         let _ = play.rank(rank);
+    }
+    let mut starts = play.starts();
+    starts.retain(|start| usize::from(play.byte(start + 2)) < WORD_LIMIT);
+    remove_at(play, starts);
+    let _ = play.add(&of_length(random, WORD_LIMIT), stock(random));
+    for one_of in [57, 2, 1] {
+        remove_at(play, play.starts().into_iter().step_by(one_of));
+        let _ = play.add(&of_length(random, WORD_LIMIT), stock(random));
+        let _ = play.rank(0);
+        let _ = play.tidy();
+        let _ = play.check();
+    }
+}
+
+/// Marks the records that start there as removed.
+fn remove_at(play: &mut Play, starts: impl IntoIterator<Item = usize>) {
+    for start in starts {
+        play.poke(start + 1, 0x2D);
     }
 }
 
@@ -108,18 +130,27 @@ pub fn many_records(play: &mut Play, random: &mut Random) {
     let _ = play.check();
 }
 
-/// Adds words until one has no room, and then a word that ends at the last byte.
-fn fill(play: &mut Play, random: &mut Random, size: usize, make: fn(&mut Random) -> Vec<u16>) {
+/// Adds words until one has no room: what was added, and the live length.
+pub fn add_until_full(
+    play: &mut Play,
+    random: &mut Random,
+    make: fn(&mut Random) -> Vec<u16>,
+) -> (Vec<Vec<u16>>, usize) {
     let mut words: Vec<Vec<u16>> = Vec::new();
-    let first_free = loop {
+    loop {
         let word = make(random);
         match play.add(&word, stock(random)) {
             Ok(_) => words.push(word),
-            Err(refusal) if refusal.number == 14 => break refusal.place,
+            Err(refusal) if refusal.number == 14 => return (words, refusal.place),
             Err(_) => {}
         }
-    };
-    let room = size - first_free;
+    }
+}
+
+/// Adds words until one has no room, and then a word that ends at the last byte.
+fn fill(play: &mut Play, random: &mut Random, size: usize, make: fn(&mut Random) -> Vec<u16>) {
+    let (words, live_length) = add_until_full(play, random, make);
+    let room = size - live_length;
     if room < 8 {
         let _ = play.add(&[0x1020], 1);
     } else if room <= 7 + WORD_LIMIT {
@@ -127,7 +158,7 @@ fn fill(play: &mut Play, random: &mut Random, size: usize, make: fn(&mut Random)
     }
     let _ = play.check();
     for word in words.iter().take(4) {
-        // 12 comes before 14; room of removed records is not used again.
+        // 12 comes before 14; the room of a removed record is used again by tidying.
         let _ = play.add(word, 1);
         let _ = play.remove(word);
         let _ = play.add(word, 2);

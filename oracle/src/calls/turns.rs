@@ -4,9 +4,10 @@ use super::play::Play;
 use super::words::{respelled, short, stock, STOCKS};
 use crate::random::Random;
 
-/// A few words that come and go, until the book is full and beyond.
+/// A few words that come and go: in books too short for all of them, in books that add
+/// tidies again and again, and in one with room for every record.
 pub fn turns(play: &mut Play, random: &mut Random) {
-    for size in [60, 150, 400, 400, 700, 1000] {
+    for size in [30, 45, 60, 90, 150, 1000] {
         play.new_book(size);
         let words: Vec<Vec<u16>> = (0..random.between(3, 9)).map(|_| short(random)).collect();
         for _ in 0..130 {
