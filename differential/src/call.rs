@@ -20,6 +20,7 @@ pub enum Call {
     BookCheck,
     BookAdd,
     BookRemove,
+    BookTidy,
     BookFind,
     BookFindPrefix,
     BookRank,
@@ -31,7 +32,7 @@ pub enum Call {
 
 impl Call {
     /// All calls.
-    pub const ALL: [Call; 23] = [
+    pub const ALL: [Call; 24] = [
         Call::Read,
         Call::Record,
         Call::Part,
@@ -48,6 +49,7 @@ impl Call {
         Call::BookCheck,
         Call::BookAdd,
         Call::BookRemove,
+        Call::BookTidy,
         Call::BookFind,
         Call::BookFindPrefix,
         Call::BookRank,
@@ -76,6 +78,7 @@ impl Call {
             Call::BookCheck => "book check",
             Call::BookAdd => "book add",
             Call::BookRemove => "book remove",
+            Call::BookTidy => "book tidy",
             Call::BookFind => "book find",
             Call::BookFindPrefix => "book find prefix",
             Call::BookRank => "book rank",
@@ -97,7 +100,7 @@ impl Call {
             Call::TypedPlace => &[0, 1, 2, 128],
             Call::Write => &[0, 5, 6],
             Call::Decode => &[0, 1, 5, 7],
-            Call::BookCheck | Call::BookEntries => &[0, 11],
+            Call::BookCheck | Call::BookTidy | Call::BookEntries => &[0, 11],
             Call::BookAdd => &[0, 1, 2, 3, 4, 8, 11, 12, 14],
             Call::BookRemove | Call::BookFind => &[0, 1, 2, 3, 4, 8, 11, 13],
             Call::BookFindPrefix => &[0, 1, 2, 3, 4, 5, 8, 11],
@@ -121,6 +124,7 @@ impl Call {
             Call::BookCheck
             | Call::BookAdd
             | Call::BookRemove
+            | Call::BookTidy
             | Call::BookFind
             | Call::BookFindPrefix
             | Call::BookRank
@@ -159,10 +163,16 @@ impl Call {
             Call::Write
                 | Call::Decode
                 | Call::BookCheck
+                | Call::BookTidy
                 | Call::BookRank
                 | Call::BookOrder
                 | Call::BookWord
                 | Call::BookEntries
         )
+    }
+
+    /// Whether the call may change a book.
+    pub const fn changes_book(self) -> bool {
+        matches!(self, Call::BookAdd | Call::BookRemove | Call::BookTidy)
     }
 }

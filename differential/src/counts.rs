@@ -4,8 +4,9 @@ use crate::call::Call;
 use crate::outcome::Answer;
 use std::collections::BTreeMap;
 use std::fmt;
+use std::iter::once;
 
-/// Counts by call, by which of two words is refused, and by tag.
+/// Counts by call, by the row of the call, and by tag.
 #[derive(Default)]
 pub struct Counts {
     counts: BTreeMap<(Call, u8, u8), usize>,
@@ -22,18 +23,19 @@ impl Counts {
 
     /// Counts an answer.
     pub fn count(&mut self, call: Call, answer: &Answer) {
-        let which = match answer {
+        let row = match answer {
             Answer::Refused { which, .. } => *which,
+            Answer::Accepted(numbers) if call == Call::BookAdd => numbers[1] as u8,
             _ => 0,
         };
         if let Some(tag) = answer.tag() {
-            *self.counts.entry((call, which, tag)).or_default() += 1;
+            *self.counts.entry((call, row, tag)).or_default() += 1;
         }
     }
 
-    /// How often a call gave the tag.
-    pub fn of(&self, call: Call, which: u8, tag: u8) -> usize {
-        self.counts.get(&(call, which, tag)).copied().unwrap_or(0)
+    /// How often a call gave the tag, by its row.
+    pub fn of(&self, call: Call, row: u8, tag: u8) -> usize {
+        self.counts.get(&(call, row, tag)).copied().unwrap_or(0)
     }
 
     /// All answers that were counted.
@@ -44,30 +46,35 @@ impl Counts {
     /// The answers that a call can give and never gave.
     pub fn missing(&self) -> Vec<String> {
         let rows = Call::ALL.into_iter().flat_map(rows);
-        let cells = rows.flat_map(|(call, which, name)| {
-            tags(call, which).map(move |tag| (call, which, tag, name.clone()))
+        let cells = rows.flat_map(|(call, row, name)| {
+            tags(call, row).map(move |tag| (call, row, tag, name.clone()))
         });
         cells
-            .filter(|&(call, which, tag, _)| self.of(call, which, tag) == 0)
+            .filter(|&(call, row, tag, _)| self.of(call, row, tag) == 0)
             .map(|(_, _, tag, name)| format!("{name}: {}", column_name(tag)))
             .collect()
     }
 }
 
-/// The rows of a call: of two words, refusals of each have a row of their own.
+/// The rows of a call: of two words, refusals of each have a row of their own, and so have the adds
+/// that tidied.
 fn rows(call: Call) -> Vec<(Call, u8, String)> {
+    let further: &[&str] = match call {
+        Call::Compare | Call::WordOrder => &["first", "second"],
+        Call::BookAdd => &["tidied"],
+        _ => &[],
+    };
     let name = call.name();
-    if call.takes_two_words() {
-        let of_word = |which, word| (call, which, format!("{name}, {word}"));
-        vec![(call, 0, name.to_string()), of_word(1, "first"), of_word(2, "second")]
-    } else {
-        vec![(call, 0, name.to_string())]
-    }
+    let further = further.iter().zip(1..).map(|(what, row)| (call, row, format!("{name}, {what}")));
+    once((call, 0, name.to_string())).chain(further).collect()
 }
 
 /// The tags that a row can have.
-fn tags(call: Call, which: u8) -> impl Iterator<Item = u8> {
-    let fits = move |tag: &&u8| !call.takes_two_words() || (which == 0) == (**tag == 0);
+fn tags(call: Call, row: u8) -> impl Iterator<Item = u8> {
+    let fits = move |tag: &&u8| match (call, row) {
+        (Call::BookAdd, 1) => **tag == 0,
+        _ => !call.takes_two_words() || (row == 0) == (**tag == 0),
+    };
     call.tags().iter().filter(fits).copied()
 }
 
@@ -83,11 +90,11 @@ impl fmt::Display for Counts {
     fn fmt(&self, f: &mut fmt::Formatter<'_>) -> fmt::Result {
         write!(f, "{:22}", "answers")?;
         COLUMNS.iter().try_for_each(|&tag| write!(f, "{:>9}", column_name(tag)))?;
-        for (call, which, name) in Call::ALL.into_iter().flat_map(rows) {
+        for (call, row, name) in Call::ALL.into_iter().flat_map(rows) {
             write!(f, "\n{name:22}")?;
             for column in COLUMNS {
-                if tags(call, which).any(|tag| tag == column) {
-                    write!(f, "{:>9}", self.of(call, which, column))?;
+                if tags(call, row).any(|tag| tag == column) {
+                    write!(f, "{:>9}", self.of(call, row, column))?;
                 } else {
                     write!(f, "{:>9}", "-")?;
                 }

@@ -5,7 +5,7 @@ use crate::case::Case;
 use crate::lent::{Lent, Memory};
 use crate::library::Library;
 use crate::outcome::{Answer, Outcome};
-use jogcairn::{Book, ComparisonRefusal, Entries, Found, Refusal, Told, Which, Word};
+use jogcairn::{Added, Book, ComparisonRefusal, Entries, Found, Refusal, Told, Which, Word};
 use std::cmp::Ordering;
 
 /// The proved library.
@@ -19,7 +19,7 @@ impl Library for Proved {
             Call::Normalise | Call::StoredForm => stored(case),
             Call::Key => key(case),
             Call::Compare | Call::WordOrder => of_two_words(case),
-            Call::BookCheck | Call::BookRank | Call::BookEntries => of_book(case),
+            Call::BookCheck | Call::BookTidy | Call::BookRank | Call::BookEntries => of_book(case),
             Call::BookOrder | Call::BookWord => from_book(case),
             Call::BookAdd | Call::BookRemove | Call::BookFind => of_book_and_word(case),
             Call::BookFindPrefix | Call::BookPrefixEntries => of_book_and_query(case),
@@ -149,9 +149,10 @@ fn order_of_words(first: &[u16], second: &[u16]) -> Result<Ordering, ComparisonR
 }
 
 fn of_book(case: &Case) -> Outcome {
-    let book = Lent::input(&case.bytes);
+    let mut book = Lent::input(&case.bytes);
     let answer = match case.call {
         Call::BookCheck => one(jogcairn::book::check(book.inside())),
+        Call::BookTidy => one(Book::new(book.inside_mut()).tidy()),
         Call::BookRank => many(jogcairn::book::rank(book.inside(), case.numbers[0]).map(found)),
         _ => many(jogcairn::book::entries(book.inside()).map(listed)),
     };
@@ -174,6 +175,10 @@ fn from_book(case: &Case) -> Outcome {
 
 fn numbers_of(told: Told) -> Vec<u64> {
     vec![told.count as u64, u64::from(told.stock), u64::from(told.live)]
+}
+
+fn added(added: Added) -> Vec<u64> {
+    vec![added.start as u64, u64::from(added.tidied)]
 }
 
 fn found(found: Found) -> Vec<u64> {
@@ -210,7 +215,7 @@ fn of_book_and_word(case: &Case) -> Outcome {
     let word = Lent::input(&case.word);
     let mut book = Book::new(bytes.inside_mut());
     let answer = match case.call {
-        Call::BookAdd => one(book.add(word.inside(), case.numbers[0] as u32)),
+        Call::BookAdd => many(book.add(word.inside(), case.numbers[0] as u32).map(added)),
         Call::BookRemove => one(book.remove(word.inside())),
         _ => many(book.find(word.inside()).map(found)),
     };

@@ -20,7 +20,7 @@ impl Library for Reference {
             Call::Normalise | Call::StoredForm => stored(case),
             Call::Key => key(case),
             Call::Compare | Call::WordOrder => compare(case),
-            Call::BookCheck | Call::BookRank | Call::BookEntries => of_book(case),
+            Call::BookCheck | Call::BookTidy | Call::BookRank | Call::BookEntries => of_book(case),
             Call::BookOrder | Call::BookWord => from_book(case),
             Call::BookAdd | Call::BookRemove | Call::BookFind => of_book_and_word(case),
             Call::BookFindPrefix | Call::BookPrefixEntries => of_book_and_query(case),
@@ -144,9 +144,10 @@ fn compare(case: &Case) -> Outcome {
 }
 
 fn of_book(case: &Case) -> Outcome {
-    let bytes = Lent::input(&case.bytes);
+    let mut bytes = Lent::input(&case.bytes);
     let answer = accepted(match case.call {
         Call::BookCheck => book::check(bytes.inside()).map(one),
+        Call::BookTidy => book::tidy(bytes.inside_mut()).map(one),
         Call::BookRank => book::rank(bytes.inside(), case.numbers[0]).map(found),
         _ => entries(bytes.inside()),
     });
@@ -169,6 +170,10 @@ fn from_book(case: &Case) -> Outcome {
 
 fn numbers_of(told: book::Told) -> Vec<u64> {
     vec![told.count as u64, u64::from(told.stock), u64::from(told.live)]
+}
+
+fn added(added: book::Added) -> Vec<u64> {
+    vec![added.start as u64, u64::from(added.tidied)]
 }
 
 fn found(entry: book::Entry) -> Vec<u64> {
@@ -224,7 +229,7 @@ fn of_book_and_word(case: &Case) -> Outcome {
     let word = Lent::input(&case.word);
     let answer = accepted(match case.call {
         Call::BookAdd => {
-            book::add(bytes.inside_mut(), word.inside(), case.numbers[0] as u32).map(one)
+            book::add(bytes.inside_mut(), word.inside(), case.numbers[0] as u32).map(added)
         }
         Call::BookRemove => book::remove(bytes.inside_mut(), word.inside()).map(one),
         _ => book::find(bytes.inside(), word.inside()).map(found),

@@ -7,7 +7,7 @@
 //! `1000 103A 7a` adds the word 1000 103A with the stock number 7.
 
 use jogcairn::book::{find_prefix_into, order_into, word_into};
-use jogcairn::{Book, Found, Refusal, Told, BOOK_LIMIT};
+use jogcairn::{Added, Book, Found, Refusal, Told, BOOK_LIMIT};
 use oracle::calls::{Call, Play, BLANK};
 
 const CALLS: &str = include_str!("../calls/calls");
@@ -51,12 +51,14 @@ fn proved(call: &Call, array: &mut Array) -> Option<Answer> {
     let mut book = Book::new(&mut array.bytes[..array.lent]);
     let alone = |number| (number, 0);
     let both = |found: Found| (found.start, found.stock);
+    let added = |added: Added| (added.start, u32::from(added.tidied));
     match call {
         Call::New(length) => *array = Array::new(*length),
         Call::Poke(place, byte) => array.bytes[*place] = *byte,
         Call::Check => return Some(book.check().map(alone)),
-        Call::Add(word, stock) => return Some(book.add(word, *stock).map(alone)),
+        Call::Add(word, stock) => return Some(book.add(word, *stock).map(added)),
         Call::Remove(word) => return Some(book.remove(word).map(alone)),
+        Call::Tidy => return Some(book.tidy().map(alone)),
         Call::Find(word) => return Some(book.find(word).map(both)),
         Call::FindPrefix(query, _) => {
             return Some(find_prefix_into(book.as_bytes(), query, &mut array.output).map(alone));
@@ -99,6 +101,7 @@ fn call_of(line: &str) -> Option<Call> {
         ("k", [], Some(rank)) => Some(Call::Rank(rank)),
         ("o", [], Some(room)) => Some(Call::Order(room as usize)),
         ("w", [start], Some(room)) => Some(Call::Word(usize::from(*start), room as usize)),
+        ("t", [], None) => Some(Call::Tidy),
         _ => None,
     }
 }
@@ -257,10 +260,30 @@ fn a_search_that_leaves_a_start_out_or_adds_one_is_reported() {
 }
 
 #[test]
+fn tidying_untold_and_bytes_left_behind_are_reported() {
+    let untold: Library = |call, array| match (call, proved(call, array)) {
+        (Call::Add(..), Some(Ok((start, _)))) => Some(Ok((start, 0))),
+        (_, answer) => answer,
+    };
+    let left_behind: Library = |call, array| {
+        let before = array.bytes;
+        let answer = proved(call, array);
+        if let (Call::Tidy, Some(Ok((live_length, _)))) = (call, &answer) {
+            array.bytes[*live_length..].copy_from_slice(&before[*live_length..]);
+        }
+        answer
+    };
+    let difference = play(CALLS, ANSWERS, untold).unwrap_err();
+    assert!(difference.contains("a\", line "), "{difference}");
+    let difference = play(CALLS, ANSWERS, left_behind).unwrap_err();
+    assert!(difference.contains("t\", line "), "{difference}");
+}
+
+#[test]
 fn a_line_that_is_no_call_is_reported() {
     for line in [
         "", "x", "7c", "1000 7f", "1000 a", "1000  7a", "G 7a", "10000 7a", "100p", "0 100p", "o",
-        "0 0o", "0w", "b", "1000 b",
+        "0 0o", "0w", "b", "1000 b", "0t", "1000 t",
     ] {
         let difference = play(&format!("c\n{line}\n"), "OK 0 0 0\n", proved).unwrap_err();
         assert_eq!(difference, format!("calls, line 2: {line:?} is no call"));

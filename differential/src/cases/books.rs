@@ -7,11 +7,14 @@ use super::words::{self, valid};
 use crate::call::Call;
 use crate::case::Case;
 use oracle::book::BOOK_LIMIT;
-use oracle::lists::shuffle_runs;
+use oracle::lists::{row_of_length, shuffle_runs};
 use oracle::random::Random;
+use oracle::word::WORD_LIMIT;
 
 /// The calls, each as often as it stands here.
-const CALLS: [Call; 24] = [
+const CALLS: [Call; 30] = [
+    Call::BookAdd,
+    Call::BookAdd,
     Call::BookAdd,
     Call::BookAdd,
     Call::BookAdd,
@@ -20,6 +23,10 @@ const CALLS: [Call; 24] = [
     Call::BookAdd,
     Call::BookRemove,
     Call::BookRemove,
+    Call::BookRemove,
+    Call::BookRemove,
+    Call::BookTidy,
+    Call::BookTidy,
     Call::BookFind,
     Call::BookFind,
     Call::BookFind,
@@ -117,8 +124,24 @@ fn word(random: &mut Random, shelf: &Shelf, call: Call) -> Vec<u16> {
             }
             word
         }
+        9..13 if call == Call::BookAdd => ending_near_the_end(random, shelf),
         18 => vec![random.pick(&[0x1000, 0x1015, 0x1021, 0x1025, 0x1040, 0x104F])],
         19 => words::beginning(random),
+        _ => shelf.another(random),
+    }
+}
+
+/// A word whose record ends at the buffer's last byte or passes it by one, behind the last record or
+/// after tidying; another where no word is that long.
+fn ending_near_the_end(random: &mut Random, shelf: &Shelf) -> Vec<u16> {
+    let before = random.pick(&[shelf.end, shelf.live_length()]);
+    let record = shelf.bytes.len() - before + random.below(2);
+    match record.checked_sub(7) {
+        // Stored, the last two values are one.
+        Some(length @ 2..=WORD_LIMIT) if random.chance(10) => {
+            [&row_of_length(random, length - 1).values[..], &[0x1025, 0x102E]].concat()
+        }
+        Some(length @ 1..=WORD_LIMIT) => row_of_length(random, length).values,
         _ => shelf.another(random),
     }
 }
@@ -170,7 +193,7 @@ fn damage(random: &mut Random, shelf: &Shelf, bytes: &mut Vec<u8>) {
         15 => put_record(random, shelf, bytes),
         16 => put_record_as_typed(random, shelf, bytes),
         17 => put(bytes, shelf.end, random.pick(&[&b"M"[..], b"MW", b"M-\x01", b"MW\x40", b"W"])),
-        18 if random.chance(4) => bytes.resize(BOOK_LIMIT + random.between(1, 3), 0),
+        18 if random.chance(10) => bytes.resize(BOOK_LIMIT + random.between(1, 3), 0),
         18 => bytes.extend((0..random.below(9)).map(|_| random.pick(b"\0\0\0\0\0\0\0M"))),
         _ => bytes.iter_mut().take(40).for_each(|byte| *byte = random.below(256) as u8),
     }

@@ -56,7 +56,7 @@ impl Cases {
 
     /// The next input.
     pub fn next_case(&mut self) -> Case {
-        if self.random.chance(38) {
+        if self.random.chance(42) {
             return books::case(&mut self.random, &mut self.shelf);
         }
         let call = self.random.pick(&WORD_CALLS);

@@ -19,7 +19,7 @@ pub struct Shelf {
     pub starts: Vec<usize>,
     /// The first free byte.
     pub end: usize,
-    /// Stored words of records, live or not.
+    /// Stored words of records, live, removed or tidied away.
     pub words: Vec<Vec<u16>>,
     /// How many of a hundred words begin as another does.
     alike: usize,
@@ -69,15 +69,18 @@ impl Shelf {
         let filled = match random.below(4) {
             _ if size > 1_500 => size - random.below(30),
             0 => random.below(size + 1),
-            1 => size,
+            1 | 2 => size,
             _ => 0,
         };
-        shelf.fill(random, filled);
+        // In a long book few removed records are room enough for any word.
+        let removed = random.pick(if size > 1_500 { &[0, 0, 20] } else { &[0, 20, 20, 60, 95] });
+        shelf.fill(random, filled, removed);
         shelf
     }
 
-    /// Puts records of different words there, until the next would pass the given byte.
-    fn fill(&mut self, random: &mut Random, to: usize) {
+    /// Puts records of different words there, until the next would pass the given byte; so many of a
+    /// hundred are removed.
+    fn fill(&mut self, random: &mut Random, to: usize, removed: usize) {
         let mut live = BTreeSet::new();
         loop {
             let Ok(stored) = store(&self.another(random)) else { continue };
@@ -85,7 +88,7 @@ impl Shelf {
             if self.end + 7 + word.len() > to {
                 return;
             }
-            let mark = if random.chance(80) { b"MW" } else { b"M-" };
+            let mark = if random.chance(removed) { b"M-" } else { b"MW" };
             if mark == b"MW" && !live.insert(word.clone()) {
                 continue;
             }
@@ -115,17 +118,36 @@ impl Shelf {
         else {
             return;
         };
-        if !matches!(case.call, Call::BookAdd | Call::BookRemove) || case.bytes != self.bytes {
+        if !case.call.changes_book() || case.bytes != self.bytes {
             return;
         }
         self.bytes.copy_from_slice(&cells[MARGIN..cells.len() - MARGIN]);
+        self.find_records();
         if case.call == Call::BookAdd {
             let start = numbers[0] as usize;
             let letters = &self.bytes[start + 7..][..usize::from(self.bytes[start + 2])];
             self.words.push(letters.iter().map(|&letter| 0x1000 + u16::from(letter)).collect());
-            self.end = start + 7 + letters.len();
-            self.starts.push(start);
         }
+    }
+
+    /// Takes note of where the records start, and where they end.
+    fn find_records(&mut self) {
+        self.starts.clear();
+        self.end = 0;
+        while self.bytes.get(self.end) == Some(&b'M') {
+            self.starts.push(self.end);
+            self.end += self.record_length(self.end);
+        }
+    }
+
+    fn record_length(&self, start: usize) -> usize {
+        7 + usize::from(self.bytes[start + 2])
+    }
+
+    /// How many bytes the live records have.
+    pub fn live_length(&self) -> usize {
+        let live = self.starts.iter().filter(|&&start| self.bytes[start + 1] == b'W');
+        live.map(|&start| self.record_length(start)).sum()
     }
 }
 
