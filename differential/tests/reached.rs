@@ -20,16 +20,6 @@ fn books_come_in_every_state() {
         ("no records", |case, _| {
             case.call == Call::BookAdd && !case.bytes.is_empty() && case.bytes[0] == 0
         }),
-        ("an exact fit", |case, outcome| {
-            let Answer::Accepted(numbers) = &outcome.answer else { return false };
-            case.call == Call::BookAdd
-                && record(&case.bytes[numbers[0] as usize..]).is_none()
-                && case.bytes.len() - numbers[0] as usize == 7 + case.word.len()
-        }),
-        ("one byte short", |case, outcome| {
-            let free = place_of(outcome, 14);
-            free.is_some_and(|free| case.bytes.len() + 1 == free + 7 + case.word.len())
-        }),
         ("the longest book", |case, outcome| {
             case.bytes.len() == BOOK_LIMIT && matches!(outcome.answer, Answer::Accepted(_))
         }),
@@ -45,6 +35,161 @@ fn books_come_in_every_state() {
                     .any(|window| window[0] == letters.len() as u8 && window[5..] == letters)
         }),
     ]);
+}
+
+/// How many bytes of a book are live records, removed ones, and free.
+struct Lengths {
+    live: usize,
+    removed: usize,
+    free: usize,
+}
+
+fn lengths(book: &[u8]) -> Lengths {
+    let (mut live, mut removed) = (0, 0);
+    while let Some(count) = record(&book[live + removed..]) {
+        match book[live + removed + 1] {
+            b'W' => live += 7 + count,
+            _ => removed += 7 + count,
+        }
+    }
+    Lengths { live, removed, free: book.len() - live - removed }
+}
+
+#[test]
+fn books_are_tidied_in_every_state() {
+    demand(&[
+        ("no bytes", |case, outcome| tidied(case, outcome).is_some() && case.bytes.is_empty()),
+        ("no records", |case, outcome| {
+            tidied(case, outcome).is_some_and(|it| it.live + it.removed == 0 && it.free > 0)
+        }),
+        ("none removed", |case, outcome| {
+            tidied(case, outcome).is_some_and(|it| it.live > 0 && it.removed == 0)
+        }),
+        ("some removed", |case, outcome| {
+            tidied(case, outcome).is_some_and(|it| it.live > 0 && it.removed > 0)
+        }),
+        ("all removed", |case, outcome| {
+            tidied(case, outcome).is_some_and(|it| it.live == 0 && it.removed > 0)
+        }),
+        ("none removed, no byte free", |case, outcome| {
+            tidied(case, outcome).is_some_and(|it| it.live > 0 && it.removed + it.free == 0)
+        }),
+        ("some removed, no byte free", |case, outcome| {
+            tidied(case, outcome).is_some_and(|it| it.live > 0 && it.removed > 0 && it.free == 0)
+        }),
+        ("all removed, no byte free", |case, outcome| {
+            tidied(case, outcome).is_some_and(|it| it.removed > 0 && it.live + it.free == 0)
+        }),
+        ("some removed in the longest book", |case, outcome| {
+            case.bytes.len() == BOOK_LIMIT
+                && tidied(case, outcome).is_some_and(|it| it.live > 0 && it.removed > 0)
+        }),
+        ("no book behind a removed record and a live one", |case, outcome| {
+            let place = place_of(outcome, 11).filter(|_| case.call == Call::BookTidy);
+            let before = place.and_then(|place| case.bytes.get(..place)).map(lengths);
+            before.is_some_and(|it| it.live > 0 && it.removed > 0)
+        }),
+        ("an overlong buffer", |case, outcome| {
+            case.call == Call::BookTidy && place_of(outcome, 11) == Some(BOOK_LIMIT)
+        }),
+    ]);
+}
+
+/// The lengths of a book that is tidied, before it is.
+fn tidied(case: &Case, outcome: &Outcome) -> Option<Lengths> {
+    let tidied = case.call == Call::BookTidy && outcome.answer.tag() == Some(0);
+    tidied.then(|| lengths(&case.bytes))
+}
+
+#[test]
+fn records_are_added_in_every_way() {
+    demand(&[
+        ("behind the last record", |case, outcome| {
+            added(case, outcome, BEHIND).is_some_and(|(it, _)| it.removed == 0)
+        }),
+        ("behind the last record, some removed", |case, outcome| {
+            added(case, outcome, BEHIND).is_some_and(|(it, _)| it.removed > 0)
+        }),
+        ("behind the last record to the last byte", |case, outcome| {
+            added(case, outcome, BEHIND).is_some_and(|(it, record)| record == it.free)
+        }),
+        ("behind the last record to the last byte, some removed", |case, outcome| {
+            added(case, outcome, BEHIND)
+                .is_some_and(|(it, record)| it.removed > 0 && record == it.free)
+        }),
+        ("by tidying", |case, outcome| {
+            added(case, outcome, TIDIED).is_some_and(|(it, _)| it.live > 0)
+        }),
+        ("by tidying, all removed", |case, outcome| {
+            added(case, outcome, TIDIED).is_some_and(|(it, _)| it.live == 0)
+        }),
+        ("by tidying, for one byte", |case, outcome| {
+            added(case, outcome, TIDIED).is_some_and(|(it, record)| record == it.free + 1)
+        }),
+        ("by tidying, to the last byte", |case, outcome| {
+            added(case, outcome, TIDIED)
+                .is_some_and(|(it, record)| it.live > 0 && record == it.removed + it.free)
+        }),
+        ("by tidying, no byte free", |case, outcome| {
+            added(case, outcome, TIDIED).is_some_and(|(it, _)| it.live > 0 && it.free == 0)
+        }),
+        ("by tidying, typed longer than stored", |case, outcome| {
+            added(case, outcome, TIDIED).is_some_and(|(_, record)| record < 7 + case.word.len())
+        }),
+        ("by tidying the longest book", |case, outcome| {
+            case.bytes.len() == BOOK_LIMIT && added(case, outcome, TIDIED).is_some()
+        }),
+    ]);
+}
+
+#[test]
+fn records_have_no_room_in_every_way() {
+    demand(&[
+        ("none removed", |case, outcome| {
+            added(case, outcome, FULL).is_some_and(|(it, _)| it.live > 0 && it.removed == 0)
+        }),
+        ("some removed", |case, outcome| {
+            added(case, outcome, FULL).is_some_and(|(it, _)| it.live > 0 && it.removed > 0)
+        }),
+        ("all removed", |case, outcome| {
+            added(case, outcome, FULL).is_some_and(|(it, _)| it.live == 0 && it.removed > 0)
+        }),
+        ("for one byte, none removed", |case, outcome| {
+            added(case, outcome, FULL)
+                .is_some_and(|(it, record)| it.removed == 0 && record == it.free + 1)
+        }),
+        ("for one byte, some removed", |case, outcome| {
+            added(case, outcome, FULL).is_some_and(|(it, record)| {
+                it.live > 0 && it.removed > 0 && record == it.removed + it.free + 1
+            })
+        }),
+        ("a live word that tidying would make room for", |case, outcome| {
+            added(case, outcome, LIVE)
+                .is_some_and(|(it, record)| it.free < record && record <= it.removed + it.free)
+        }),
+        ("a live word that has no room", |case, outcome| {
+            added(case, outcome, LIVE).is_some_and(|(it, record)| it.removed + it.free < record)
+        }),
+    ]);
+}
+
+/// What follows the start in the answer of an add, or the refusal's number.
+type Ending = Result<u64, u8>;
+
+const BEHIND: Ending = Ok(0);
+const TIDIED: Ending = Ok(1);
+const FULL: Ending = Err(14);
+const LIVE: Ending = Err(12);
+
+/// The lengths of a book before an add that ends so, and the bytes of the word's record.
+fn added(case: &Case, outcome: &Outcome, wanted: Ending) -> Option<(Lengths, usize)> {
+    let ending = match &outcome.answer {
+        _ if case.call != Call::BookAdd => return None,
+        Answer::Accepted(numbers) => Ok(numbers[1]),
+        answer => Err(answer.tag()?),
+    };
+    let count = oracle::normalise(&case.word, &mut [0; WORD_LIMIT]).ok()?;
+    (ending == wanted).then(|| (lengths(&case.bytes), 7 + count))
 }
 
 #[test]
@@ -212,7 +357,7 @@ fn rooms(inputs: usize) -> (BTreeSet<(Call, u64, usize)>, BTreeSet<usize>) {
         let room = case.numbers[0];
         match case.call {
             Call::Key => drop(for_keys.insert(room)),
-            Call::BookAdd | Call::BookRemove => cases.take_note(&case, &Reference.outcome(&case)),
+            call if call.changes_book() => cases.take_note(&case, &Reference.outcome(&case)),
             call if call.number_names().contains(&"room") => {
                 let numbers = if call == Call::Spell { [512; 2] } else { [512, case.numbers[1]] };
                 let enough = Case { numbers, ..case };

@@ -8,7 +8,7 @@ use std::sync::LazyLock;
 pub type Kind = fn(&Case, &Outcome) -> bool;
 
 /// How many inputs are looked at.
-pub const INPUTS: usize = 60_000;
+pub const INPUTS: usize = 100_000;
 
 /// The inputs, with what the other implementation answers to them.
 static ANSWERED: LazyLock<Vec<(Case, Outcome)>> = LazyLock::new(|| {
