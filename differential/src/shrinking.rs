@@ -27,14 +27,30 @@ fn smaller_cases(case: &Case) -> impl Iterator<Item = Case> + '_ {
 
 /// Cases of which some list is shorter.
 fn shorter_cases(case: &Case) -> impl Iterator<Item = Case> + '_ {
-    let book = book(case);
-    let books = fewer_records(book).chain(shorter(&case.bytes)).chain(shorter_records(book));
-    books
+    shorter_bytes(case)
         .map(|bytes| Case { bytes, ..case.clone() })
         .chain(without_records_before(case))
+        .chain(shorter_adds(case))
         .chain(with_shorter_words(case))
+        .chain(with_word_of_record(case))
         .chain(shorter(&case.word).map(|word| Case { word, ..case.clone() }))
         .chain(shorter(&case.second).map(|second| Case { second, ..case.clone() }))
+}
+
+/// The bytes of a case with some less, of a book by whole records first.
+fn shorter_bytes(case: &Case) -> impl Iterator<Item = Vec<u8>> + '_ {
+    let book = book(case);
+    fewer_records(book).chain(shorter(&case.bytes)).chain(shorter_records(book))
+}
+
+/// Cases of an add with as many values less as bytes of the book, so that a record that would end at
+/// the last byte still does.
+fn shorter_adds(case: &Case) -> impl Iterator<Item = Case> + '_ {
+    let adds = (case.call == Call::BookAdd).then(|| shorter_bytes(case));
+    adds.into_iter().flatten().filter_map(|bytes| {
+        let length = case.word.len().checked_sub(case.bytes.len() - bytes.len())?;
+        Some(Case { bytes, word: case.word[..length].to_vec(), ..case.clone() })
+    })
 }
 
 /// The book of a case, if it has one.
@@ -45,10 +61,12 @@ fn book(case: &Case) -> &[u8] {
     }
 }
 
-/// Cases of lists that are no longer, one item of which is simpler, or in which the word is stored as
-/// it is.
+/// Cases of lists that are no longer, one item or the last record of which is simpler, or in which the
+/// word is stored as it is.
 fn simpler_cases(case: &Case) -> impl Iterator<Item = Case> + '_ {
-    simpler(&case.bytes, 0)
+    without_last_record(book(case))
+        .into_iter()
+        .chain(simpler(&case.bytes, 0))
         .map(|bytes| Case { bytes, ..case.clone() })
         .chain(with_stored_word(case))
         .chain(with_simpler_words(case))
@@ -114,6 +132,14 @@ fn fewer_records(book: &[u8]) -> impl Iterator<Item = Vec<u8>> + '_ {
         .map(move |taken| without(book, records[taken.start].start..records[taken.end - 1].end))
 }
 
+/// The book with zeros for its last record.
+fn without_last_record(book: &[u8]) -> Option<Vec<u8>> {
+    let last = records(book).pop()?;
+    let mut book = book.to_vec();
+    book[last].fill(0);
+    Some(book)
+}
+
 /// Cases without one of the records before the start that is asked for, which moves with its record.
 fn without_records_before(case: &Case) -> impl Iterator<Item = Case> + '_ {
     let start = if case.call == Call::BookWord { case.numbers[1] } else { 0 };
@@ -163,6 +189,17 @@ fn with_shorter_words(case: &Case) -> impl Iterator<Item = Case> + '_ {
             places.map(|place| replaced(case, place, &letters[stretch.clone()], None))
         })
     })
+}
+
+/// Cases with the word of a record for their own, where it is shorter: a search by another spelling
+/// finds the record by its own too.
+fn with_word_of_record(case: &Case) -> impl Iterator<Item = Case> + '_ {
+    let words = records(book(case)).into_iter().map(|record| {
+        let letters = &case.bytes[record.start + 7..record.end];
+        letters.iter().map(|&letter| 0x1000 + u16::from(letter)).collect::<Vec<u16>>()
+    });
+    let shorter = words.filter(|word| word.len() < case.word.len());
+    shorter.map(|word| Case { word, ..case.clone() })
 }
 
 /// Cases with one value made simpler in every word that has the same value there: the simplest, or

@@ -190,7 +190,9 @@ fn the_sign_that_carries_nothing_is_found() {
     let word = &found.case.word;
     assert!(word[0] == 0x104E && word.len() <= 4, "{}", found.case);
     assert_eq!(found.difference.tried.answer.tag(), Some(3));
-    assert_eq!(found.difference.reference.answer.tag(), Some(0));
+    // A word, or one that a letter under its stacker would make one.
+    let reference = found.difference.reference.answer.tag();
+    assert!(matches!(reference, Some(0 | 4)), "{}", found.case);
 }
 
 #[test]
