@@ -1,4 +1,4 @@
-//! Every short word, none left out.
+//! Every short word and every small book, none left out.
 
 use differential::{difference, Call, Case, Proved, Reference};
 
@@ -15,6 +15,11 @@ const MADE_INTO_FINALS: [u16; 12] = [
     0x1000, 0x1004, 0x1009, 0x1025, 0x104C, 0x104E, 0x102E, 0x1038, 0x1039, 0x103A, 0x103B, 0x103F,
 ];
 
+/// Demands that both libraries have the same outcome.
+fn demand_agreement(case: &Case) {
+    assert!(difference(&Proved, &Reference, case).is_none(), "{case}");
+}
+
 /// Tries each word of so many of the values, with room for whatever is written.
 fn try_all(values: &[u16], length: usize, call: Call) {
     try_all_at(values, length, call, [320, 64]);
@@ -30,8 +35,7 @@ fn try_all_in(values: &[u16], length: usize, case: &Case) {
     let mut places = vec![0; length];
     loop {
         let word = places.iter().map(|&place| values[place]).collect();
-        let case = Case { word, ..case.clone() };
-        assert!(difference(&Proved, &Reference, &case).is_none(), "{case}");
+        demand_agreement(&Case { word, ..case.clone() });
         // The next word: the places count like the digits of a number.
         let Some(digit) = places.iter().rposition(|&place| place + 1 < values.len()) else { break };
         places[digit] += 1;
@@ -145,8 +149,46 @@ fn every_room_for_what_a_word_of_the_book_finds() {
     for word in BOOKED {
         for room in 0..=BOOKED.len() {
             let search = Case::of_bytes(Call::BookFindPrefix, booked());
-            let case = Case { word: word.to_vec(), numbers: [room, 0], ..search };
-            assert!(difference(&Proved, &Reference, &case).is_none(), "{case}");
+            demand_agreement(&Case { word: word.to_vec(), numbers: [room, 0], ..search });
+        }
+    }
+}
+
+/// The records of every book of up to four, each live or removed and of one or two values.
+fn few_records() -> Vec<Vec<u8>> {
+    let mut books = vec![Vec::new()];
+    let mut longest = books.clone();
+    for letter in 0..4 {
+        let record = |mark, letters: &[u8]| {
+            [&[b'M', mark, letters.len() as u8, letter, 1, 2, 3], letters].concat()
+        };
+        let records =
+            [b'W', b'-'].map(|mark| [record(mark, &[letter]), record(mark, &[letter, 0x2C])]);
+        let with_one_more = |book: &Vec<u8>| {
+            let records = records.as_flattened().iter();
+            records.map(|record| [&book[..], record].concat()).collect::<Vec<_>>()
+        };
+        longest = longest.iter().flat_map(with_one_more).collect();
+        books.extend_from_slice(&longest);
+    }
+    books
+}
+
+/// Words of every length that fits, behind the last record or after tidying, and of one value more;
+/// and a word that is live or removed.
+#[test]
+fn every_small_book_is_tidied_and_added_to() {
+    for records in few_records() {
+        for free in 0..=9 {
+            let book = [&records[..], &vec![0; free]].concat();
+            demand_agreement(&Case::of_bytes(Call::BookTidy, book.clone()));
+            let add = |word| {
+                let add = Case::of_bytes(Call::BookAdd, book.clone());
+                demand_agreement(&Case { word, numbers: [0x0403_0201, 0], ..add });
+            };
+            let longest = book.len().saturating_sub(7) + 1;
+            (1..=longest).for_each(|length| add(vec![0x1010; length]));
+            add(vec![0x1000]);
         }
     }
 }
