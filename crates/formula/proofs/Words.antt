@@ -10,9 +10,9 @@ use lib.ListN.{replicate}
 use Rattle.letters.specs.Choice.{pick}
 use Rattle.letters.specs.Marks.{ya, ra, MedialGroup, group, medialGroups, no-medial, medialText, Vowel, vowels, no-vowel, vowel-aa, vowel-ii, vowel-e-aa-killer, vowel-i-u, vowelText, ToneMark, toneMarks, no-tone, dot, visarga, toneText}
 use Rattle.formula.specs.Limits.{limit}
-use Rattle.formula.specs.Syllable.{no-final, plain, stacked, kinzi, great-sa, syllable, bare, carriesMarks, carriesFinal}
+use Rattle.formula.specs.Syllable.{no-final, plain, plain-pair, stacked, kinzi, great-sa, syllable, bare, carriesMarks, carriesFinal}
 use Rattle.formula.specs.Row.{Row, isRowOf, isRowAfter, join, Gives}
-use Rattle.formula.specs.Base.{isBaseSyllable}
+use Rattle.formula.specs.Earlier.{Edition, base, independent-finals, isSyllableIn}
 use Rattle.formula.specs.Record.{recordOf}
 use Rattle.formula.specs.Spelled.{spelled}
 use Rattle.formula.specs.Weighing.{weightsOf, weights}
@@ -32,8 +32,8 @@ letter =
     record {
       word = 0x1000 ∷ [];
       row = bare 0x1000 ∷ [];
-      records = (0x00 ∷ 0 ∷ 0 ∷ 0 ∷ 0 ∷ 0 ∷ 0 ∷ []) ∷ [];
-      weigh = (13 ∷ 0 ∷ 0 ∷ 0 ∷ 0 ∷ []) ∷ [];
+      records = (0x00 ∷ 0 ∷ 0 ∷ 0 ∷ 0 ∷ 0 ∷ 0 ∷ 0 ∷ []) ∷ [];
+      weigh = (13 ∷ 0 ∷ 0 ∷ 0 ∷ 0 ∷ 0 ∷ []) ∷ [];
       spell = (0x1000 ∷ []) ∷ [];
     }
 
@@ -43,8 +43,8 @@ closed =
     record {
       word = 0x1000 ∷ 0x1014 ∷ 0x103A ∷ 0x1037 ∷ [];
       row = syllable 0x1000 no-medial no-vowel (plain 0x1014) dot ∷ [];
-      records = (0x00 ∷ 0 ∷ 0 ∷ 0 ∷ 21 ∷ 1 ∷ 1 ∷ []) ∷ [];
-      weigh = (13 ∷ 0 ∷ 21 ∷ 0 ∷ 1 ∷ []) ∷ [];
+      records = (0x00 ∷ 0 ∷ 0 ∷ 0 ∷ 21 ∷ 0 ∷ 1 ∷ 1 ∷ []) ∷ [];
+      weigh = (13 ∷ 0 ∷ 21 ∷ 0 ∷ 0 ∷ 1 ∷ []) ∷ [];
       spell = (0x1000 ∷ 0x1014 ∷ 0x103A ∷ 0x1037 ∷ []) ∷ [];
     }
 
@@ -54,8 +54,8 @@ university =
     record {
       word = 0x1010 ∷ 0x1000 ∷ 0x1039 ∷ 0x1000 ∷ 0x101E ∷ 0x102D ∷ 0x102F ∷ 0x101C ∷ 0x103A ∷ [];
       row = syllable 0x1010 no-medial no-vowel (stacked 0x1000) no-tone ∷ bare 0x1000 ∷ syllable 0x101E no-medial vowel-i-u (plain 0x101C) no-tone ∷ [];
-      records = (0x10 ∷ 0 ∷ 0 ∷ 0 ∷ 1 ∷ 2 ∷ 0 ∷ []) ∷ (0x00 ∷ 0 ∷ 0 ∷ 0 ∷ 0 ∷ 0 ∷ 0 ∷ []) ∷ (0x1E ∷ 0 ∷ 11 ∷ 0 ∷ 29 ∷ 1 ∷ 0 ∷ []) ∷ [];
-      weigh = (29 ∷ 0 ∷ 1 ∷ 0 ∷ 0 ∷ []) ∷ (13 ∷ 0 ∷ 0 ∷ 0 ∷ 0 ∷ []) ∷ (43 ∷ 0 ∷ 29 ∷ 11 ∷ 0 ∷ []) ∷ [];
+      records = (0x10 ∷ 0 ∷ 0 ∷ 0 ∷ 1 ∷ 0 ∷ 2 ∷ 0 ∷ []) ∷ (0x00 ∷ 0 ∷ 0 ∷ 0 ∷ 0 ∷ 0 ∷ 0 ∷ 0 ∷ []) ∷ (0x1E ∷ 0 ∷ 11 ∷ 0 ∷ 29 ∷ 0 ∷ 1 ∷ 0 ∷ []) ∷ [];
+      weigh = (29 ∷ 0 ∷ 1 ∷ 0 ∷ 0 ∷ 0 ∷ []) ∷ (13 ∷ 0 ∷ 0 ∷ 0 ∷ 0 ∷ 0 ∷ []) ∷ (43 ∷ 0 ∷ 29 ∷ 0 ∷ 11 ∷ 0 ∷ []) ∷ [];
       spell = (0x1010 ∷ 0x1000 ∷ 0x103A ∷ []) ∷ (0x1000 ∷ []) ∷ (0x101E ∷ 0x102D ∷ 0x102F ∷ 0x101C ∷ 0x103A ∷ []) ∷ [];
     }
 
@@ -65,8 +65,8 @@ england =
     record {
       word = 0x1021 ∷ 0x1004 ∷ 0x103A ∷ 0x1039 ∷ 0x1002 ∷ 0x101C ∷ 0x1014 ∷ 0x103A ∷ [];
       row = syllable 0x1021 no-medial no-vowel kinzi no-tone ∷ bare 0x1002 ∷ syllable 0x101C no-medial no-vowel (plain 0x1014) no-tone ∷ [];
-      records = (0x21 ∷ 0 ∷ 0 ∷ 0 ∷ 5 ∷ 2 ∷ 0 ∷ []) ∷ (0x02 ∷ 0 ∷ 0 ∷ 0 ∷ 0 ∷ 0 ∷ 0 ∷ []) ∷ (0x1C ∷ 0 ∷ 0 ∷ 0 ∷ 21 ∷ 1 ∷ 0 ∷ []) ∷ [];
-      weigh = (46 ∷ 0 ∷ 5 ∷ 0 ∷ 0 ∷ []) ∷ (15 ∷ 0 ∷ 0 ∷ 0 ∷ 0 ∷ []) ∷ (41 ∷ 0 ∷ 21 ∷ 0 ∷ 0 ∷ []) ∷ [];
+      records = (0x21 ∷ 0 ∷ 0 ∷ 0 ∷ 5 ∷ 0 ∷ 2 ∷ 0 ∷ []) ∷ (0x02 ∷ 0 ∷ 0 ∷ 0 ∷ 0 ∷ 0 ∷ 0 ∷ 0 ∷ []) ∷ (0x1C ∷ 0 ∷ 0 ∷ 0 ∷ 21 ∷ 0 ∷ 1 ∷ 0 ∷ []) ∷ [];
+      weigh = (46 ∷ 0 ∷ 5 ∷ 0 ∷ 0 ∷ 0 ∷ []) ∷ (15 ∷ 0 ∷ 0 ∷ 0 ∷ 0 ∷ 0 ∷ []) ∷ (41 ∷ 0 ∷ 21 ∷ 0 ∷ 0 ∷ 0 ∷ []) ∷ [];
       spell = (0x1021 ∷ 0x1004 ∷ 0x103A ∷ []) ∷ (0x1002 ∷ []) ∷ (0x101C ∷ 0x1014 ∷ 0x103A ∷ []) ∷ [];
     }
 
@@ -76,8 +76,8 @@ problem =
     record {
       word = 0x1015 ∷ 0x103C ∷ 0x103F ∷ 0x1014 ∷ 0x102C ∷ [];
       row = syllable 0x1015 (group ra false false) no-vowel great-sa no-tone ∷ bare 0x101E ∷ syllable 0x1014 no-medial (vowel-aa false) no-final no-tone ∷ [];
-      records = (0x15 ∷ 2 ∷ 0 ∷ 0 ∷ 31 ∷ 3 ∷ 0 ∷ []) ∷ (0x1E ∷ 0 ∷ 0 ∷ 0 ∷ 0 ∷ 0 ∷ 0 ∷ []) ∷ (0x14 ∷ 0 ∷ 1 ∷ 0 ∷ 0 ∷ 0 ∷ 0 ∷ []) ∷ [];
-      weigh = (34 ∷ 2 ∷ 31 ∷ 0 ∷ 0 ∷ []) ∷ (43 ∷ 0 ∷ 0 ∷ 0 ∷ 0 ∷ []) ∷ (33 ∷ 0 ∷ 0 ∷ 1 ∷ 0 ∷ []) ∷ [];
+      records = (0x15 ∷ 2 ∷ 0 ∷ 0 ∷ 31 ∷ 0 ∷ 3 ∷ 0 ∷ []) ∷ (0x1E ∷ 0 ∷ 0 ∷ 0 ∷ 0 ∷ 0 ∷ 0 ∷ 0 ∷ []) ∷ (0x14 ∷ 0 ∷ 1 ∷ 0 ∷ 0 ∷ 0 ∷ 0 ∷ 0 ∷ []) ∷ [];
+      weigh = (34 ∷ 2 ∷ 31 ∷ 0 ∷ 0 ∷ 0 ∷ []) ∷ (43 ∷ 0 ∷ 0 ∷ 0 ∷ 0 ∷ 0 ∷ []) ∷ (33 ∷ 0 ∷ 0 ∷ 0 ∷ 1 ∷ 0 ∷ []) ∷ [];
       spell = (0x1015 ∷ 0x103C ∷ 0x101E ∷ 0x103A ∷ []) ∷ (0x101E ∷ []) ∷ (0x1014 ∷ 0x102C ∷ []) ∷ [];
     }
 
@@ -87,8 +87,8 @@ great-sa-alone =
     record {
       word = 0x1015 ∷ 0x103F ∷ 0x1014 ∷ 0x102C ∷ [];
       row = syllable 0x1015 no-medial no-vowel great-sa no-tone ∷ bare 0x101E ∷ syllable 0x1014 no-medial (vowel-aa false) no-final no-tone ∷ [];
-      records = (0x15 ∷ 0 ∷ 0 ∷ 0 ∷ 31 ∷ 3 ∷ 0 ∷ []) ∷ (0x1E ∷ 0 ∷ 0 ∷ 0 ∷ 0 ∷ 0 ∷ 0 ∷ []) ∷ (0x14 ∷ 0 ∷ 1 ∷ 0 ∷ 0 ∷ 0 ∷ 0 ∷ []) ∷ [];
-      weigh = (34 ∷ 0 ∷ 31 ∷ 0 ∷ 0 ∷ []) ∷ (43 ∷ 0 ∷ 0 ∷ 0 ∷ 0 ∷ []) ∷ (33 ∷ 0 ∷ 0 ∷ 1 ∷ 0 ∷ []) ∷ [];
+      records = (0x15 ∷ 0 ∷ 0 ∷ 0 ∷ 31 ∷ 0 ∷ 3 ∷ 0 ∷ []) ∷ (0x1E ∷ 0 ∷ 0 ∷ 0 ∷ 0 ∷ 0 ∷ 0 ∷ 0 ∷ []) ∷ (0x14 ∷ 0 ∷ 1 ∷ 0 ∷ 0 ∷ 0 ∷ 0 ∷ 0 ∷ []) ∷ [];
+      weigh = (34 ∷ 0 ∷ 31 ∷ 0 ∷ 0 ∷ 0 ∷ []) ∷ (43 ∷ 0 ∷ 0 ∷ 0 ∷ 0 ∷ 0 ∷ []) ∷ (33 ∷ 0 ∷ 0 ∷ 0 ∷ 1 ∷ 0 ∷ []) ∷ [];
       spell = (0x1015 ∷ 0x101E ∷ 0x103A ∷ []) ∷ (0x101E ∷ []) ∷ (0x1014 ∷ 0x102C ∷ []) ∷ [];
     }
 
@@ -98,8 +98,8 @@ ukka =
     record {
       word = 0x1025 ∷ 0x1000 ∷ 0x1039 ∷ 0x1000 ∷ [];
       row = syllable 0x1025 no-medial no-vowel (stacked 0x1000) no-tone ∷ bare 0x1000 ∷ [];
-      records = (0x25 ∷ 0 ∷ 0 ∷ 0 ∷ 1 ∷ 2 ∷ 0 ∷ []) ∷ (0x00 ∷ 0 ∷ 0 ∷ 0 ∷ 0 ∷ 0 ∷ 0 ∷ []) ∷ [];
-      weigh = (46 ∷ 0 ∷ 1 ∷ 4 ∷ 0 ∷ []) ∷ (13 ∷ 0 ∷ 0 ∷ 0 ∷ 0 ∷ []) ∷ [];
+      records = (0x25 ∷ 0 ∷ 0 ∷ 0 ∷ 1 ∷ 0 ∷ 2 ∷ 0 ∷ []) ∷ (0x00 ∷ 0 ∷ 0 ∷ 0 ∷ 0 ∷ 0 ∷ 0 ∷ 0 ∷ []) ∷ [];
+      weigh = (46 ∷ 0 ∷ 1 ∷ 0 ∷ 4 ∷ 0 ∷ []) ∷ (13 ∷ 0 ∷ 0 ∷ 0 ∷ 0 ∷ 0 ∷ []) ∷ [];
       spell = (0x1025 ∷ 0x1000 ∷ 0x103A ∷ []) ∷ (0x1000 ∷ []) ∷ [];
     }
 
@@ -108,8 +108,8 @@ aforementioned =
     record {
       word = 0x104E ∷ 0x1004 ∷ 0x103A ∷ 0x1038 ∷ [];
       row = syllable 0x104E no-medial no-vowel (plain 0x1004) visarga ∷ [];
-      records = (0x4E ∷ 0 ∷ 0 ∷ 0 ∷ 5 ∷ 1 ∷ 2 ∷ []) ∷ [];
-      weigh = (49 ∷ 0 ∷ 5 ∷ 0 ∷ 2 ∷ []) ∷ [];
+      records = (0x4E ∷ 0 ∷ 0 ∷ 0 ∷ 5 ∷ 0 ∷ 1 ∷ 2 ∷ []) ∷ [];
+      weigh = (49 ∷ 0 ∷ 5 ∷ 0 ∷ 0 ∷ 2 ∷ []) ∷ [];
       spell = (0x104E ∷ 0x1004 ∷ 0x103A ∷ 0x1038 ∷ []) ∷ [];
     }
 
@@ -119,8 +119,8 @@ toned-i =
     record {
       word = 0x1029 ∷ 0x1038 ∷ [];
       row = syllable 0x1029 no-medial no-vowel no-final visarga ∷ [];
-      records = (0x29 ∷ 0 ∷ 0 ∷ 0 ∷ 0 ∷ 0 ∷ 2 ∷ []) ∷ [];
-      weigh = (46 ∷ 0 ∷ 0 ∷ 8 ∷ 2 ∷ []) ∷ [];
+      records = (0x29 ∷ 0 ∷ 0 ∷ 0 ∷ 0 ∷ 0 ∷ 0 ∷ 2 ∷ []) ∷ [];
+      weigh = (46 ∷ 0 ∷ 0 ∷ 0 ∷ 8 ∷ 2 ∷ []) ∷ [];
       spell = (0x1029 ∷ 0x1038 ∷ []) ∷ [];
     }
 
@@ -129,8 +129,8 @@ kinzi-i =
     record {
       word = 0x1023 ∷ 0x1004 ∷ 0x103A ∷ 0x1039 ∷ 0x1002 ∷ [];
       row = syllable 0x1023 no-medial no-vowel kinzi no-tone ∷ bare 0x1002 ∷ [];
-      records = (0x23 ∷ 0 ∷ 0 ∷ 0 ∷ 5 ∷ 2 ∷ 0 ∷ []) ∷ (0x02 ∷ 0 ∷ 0 ∷ 0 ∷ 0 ∷ 0 ∷ 0 ∷ []) ∷ [];
-      weigh = (46 ∷ 0 ∷ 5 ∷ 2 ∷ 0 ∷ []) ∷ (15 ∷ 0 ∷ 0 ∷ 0 ∷ 0 ∷ []) ∷ [];
+      records = (0x23 ∷ 0 ∷ 0 ∷ 0 ∷ 5 ∷ 0 ∷ 2 ∷ 0 ∷ []) ∷ (0x02 ∷ 0 ∷ 0 ∷ 0 ∷ 0 ∷ 0 ∷ 0 ∷ 0 ∷ []) ∷ [];
+      weigh = (46 ∷ 0 ∷ 5 ∷ 0 ∷ 2 ∷ 0 ∷ []) ∷ (15 ∷ 0 ∷ 0 ∷ 0 ∷ 0 ∷ 0 ∷ []) ∷ [];
       spell = (0x1023 ∷ 0x1004 ∷ 0x103A ∷ []) ∷ (0x1002 ∷ []) ∷ [];
     }
 
@@ -139,8 +139,8 @@ great-sa-i =
     record {
       word = 0x1023 ∷ 0x103F ∷ [];
       row = syllable 0x1023 no-medial no-vowel great-sa no-tone ∷ bare 0x101E ∷ [];
-      records = (0x23 ∷ 0 ∷ 0 ∷ 0 ∷ 31 ∷ 3 ∷ 0 ∷ []) ∷ (0x1E ∷ 0 ∷ 0 ∷ 0 ∷ 0 ∷ 0 ∷ 0 ∷ []) ∷ [];
-      weigh = (46 ∷ 0 ∷ 31 ∷ 2 ∷ 0 ∷ []) ∷ (43 ∷ 0 ∷ 0 ∷ 0 ∷ 0 ∷ []) ∷ [];
+      records = (0x23 ∷ 0 ∷ 0 ∷ 0 ∷ 31 ∷ 0 ∷ 3 ∷ 0 ∷ []) ∷ (0x1E ∷ 0 ∷ 0 ∷ 0 ∷ 0 ∷ 0 ∷ 0 ∷ 0 ∷ []) ∷ [];
+      weigh = (46 ∷ 0 ∷ 31 ∷ 0 ∷ 2 ∷ 0 ∷ []) ∷ (43 ∷ 0 ∷ 0 ∷ 0 ∷ 0 ∷ 0 ∷ []) ∷ [];
       spell = (0x1023 ∷ 0x101E ∷ 0x103A ∷ []) ∷ (0x101E ∷ []) ∷ [];
     }
 
@@ -149,8 +149,8 @@ stacked-sign =
     record {
       word = 0x104E ∷ 0x1000 ∷ 0x1039 ∷ 0x1000 ∷ [];
       row = syllable 0x104E no-medial no-vowel (stacked 0x1000) no-tone ∷ bare 0x1000 ∷ [];
-      records = (0x4E ∷ 0 ∷ 0 ∷ 0 ∷ 1 ∷ 2 ∷ 0 ∷ []) ∷ (0x00 ∷ 0 ∷ 0 ∷ 0 ∷ 0 ∷ 0 ∷ 0 ∷ []) ∷ [];
-      weigh = (49 ∷ 0 ∷ 1 ∷ 0 ∷ 0 ∷ []) ∷ (13 ∷ 0 ∷ 0 ∷ 0 ∷ 0 ∷ []) ∷ [];
+      records = (0x4E ∷ 0 ∷ 0 ∷ 0 ∷ 1 ∷ 0 ∷ 2 ∷ 0 ∷ []) ∷ (0x00 ∷ 0 ∷ 0 ∷ 0 ∷ 0 ∷ 0 ∷ 0 ∷ 0 ∷ []) ∷ [];
+      weigh = (49 ∷ 0 ∷ 1 ∷ 0 ∷ 0 ∷ 0 ∷ []) ∷ (13 ∷ 0 ∷ 0 ∷ 0 ∷ 0 ∷ 0 ∷ []) ∷ [];
       spell = (0x104E ∷ 0x1000 ∷ 0x103A ∷ []) ∷ (0x1000 ∷ []) ∷ [];
     }
 
@@ -160,8 +160,8 @@ toned-uu =
     record {
       word = 0x1026 ∷ 0x1038 ∷ [];
       row = syllable 0x1026 no-medial no-vowel no-final visarga ∷ [];
-      records = (0x26 ∷ 0 ∷ 0 ∷ 0 ∷ 0 ∷ 0 ∷ 2 ∷ []) ∷ [];
-      weigh = (46 ∷ 0 ∷ 0 ∷ 5 ∷ 2 ∷ []) ∷ [];
+      records = (0x26 ∷ 0 ∷ 0 ∷ 0 ∷ 0 ∷ 0 ∷ 0 ∷ 2 ∷ []) ∷ [];
+      weigh = (46 ∷ 0 ∷ 0 ∷ 0 ∷ 5 ∷ 2 ∷ []) ∷ [];
       spell = (0x1026 ∷ 0x1038 ∷ []) ∷ [];
     }
 
@@ -174,20 +174,20 @@ range-ends =
     record {
       word = range-heads;
       row = map bare range-heads;
-      records = map (λ (h : ℕ). (h - 0x1000) ∷ replicate 6 0) range-heads;
+      records = map (λ (h : ℕ). (h - 0x1000) ∷ replicate 7 0) range-heads;
       weigh =
-          (13 ∷ 0 ∷ 0 ∷ 0 ∷ 0 ∷ [])
-          ∷ (46 ∷ 0 ∷ 0 ∷ 0 ∷ 0 ∷ [])
-          ∷ (46 ∷ 0 ∷ 0 ∷ 2 ∷ 0 ∷ [])
-          ∷ (46 ∷ 0 ∷ 0 ∷ 6 ∷ 0 ∷ [])
-          ∷ (46 ∷ 0 ∷ 0 ∷ 8 ∷ 0 ∷ [])
-          ∷ (46 ∷ 0 ∷ 0 ∷ 9 ∷ 0 ∷ [])
-          ∷ (3 ∷ 0 ∷ 0 ∷ 0 ∷ 0 ∷ [])
-          ∷ (12 ∷ 0 ∷ 0 ∷ 0 ∷ 0 ∷ [])
-          ∷ (1 ∷ 0 ∷ 0 ∷ 0 ∷ 0 ∷ [])
-          ∷ (2 ∷ 0 ∷ 0 ∷ 0 ∷ 0 ∷ [])
-          ∷ (47 ∷ 0 ∷ 0 ∷ 0 ∷ 0 ∷ [])
-          ∷ (50 ∷ 0 ∷ 0 ∷ 0 ∷ 0 ∷ [])
+          (13 ∷ 0 ∷ 0 ∷ 0 ∷ 0 ∷ 0 ∷ [])
+          ∷ (46 ∷ 0 ∷ 0 ∷ 0 ∷ 0 ∷ 0 ∷ [])
+          ∷ (46 ∷ 0 ∷ 0 ∷ 0 ∷ 2 ∷ 0 ∷ [])
+          ∷ (46 ∷ 0 ∷ 0 ∷ 0 ∷ 6 ∷ 0 ∷ [])
+          ∷ (46 ∷ 0 ∷ 0 ∷ 0 ∷ 8 ∷ 0 ∷ [])
+          ∷ (46 ∷ 0 ∷ 0 ∷ 0 ∷ 9 ∷ 0 ∷ [])
+          ∷ (3 ∷ 0 ∷ 0 ∷ 0 ∷ 0 ∷ 0 ∷ [])
+          ∷ (12 ∷ 0 ∷ 0 ∷ 0 ∷ 0 ∷ 0 ∷ [])
+          ∷ (1 ∷ 0 ∷ 0 ∷ 0 ∷ 0 ∷ 0 ∷ [])
+          ∷ (2 ∷ 0 ∷ 0 ∷ 0 ∷ 0 ∷ 0 ∷ [])
+          ∷ (47 ∷ 0 ∷ 0 ∷ 0 ∷ 0 ∷ 0 ∷ [])
+          ∷ (50 ∷ 0 ∷ 0 ∷ 0 ∷ 0 ∷ 0 ∷ [])
           ∷ [];
       spell = map (λ (h : ℕ). h ∷ []) range-heads;
     }
@@ -198,8 +198,8 @@ with-plain head final head-weight final-weight vowel-weight =
     record {
       word = head ∷ final ∷ 0x103A ∷ [];
       row = syllable head no-medial no-vowel (plain final) no-tone ∷ [];
-      records = ((head - 0x1000) ∷ 0 ∷ 0 ∷ 0 ∷ final-weight ∷ 1 ∷ 0 ∷ []) ∷ [];
-      weigh = (head-weight ∷ 0 ∷ final-weight ∷ vowel-weight ∷ 0 ∷ []) ∷ [];
+      records = ((head - 0x1000) ∷ 0 ∷ 0 ∷ 0 ∷ final-weight ∷ 0 ∷ 1 ∷ 0 ∷ []) ∷ [];
+      weigh = (head-weight ∷ 0 ∷ final-weight ∷ 0 ∷ vowel-weight ∷ 0 ∷ []) ∷ [];
       spell = (head ∷ final ∷ 0x103A ∷ []) ∷ [];
     }
 
@@ -213,6 +213,10 @@ plain-nga = with-plain 0x1021 0x1004 46 5 0
 abbrev pub plain-sa : Example
 plain-sa = with-plain 0x1015 0x101E 34 31 0
 
+-- ဘတ်, the syllable of `bus` without its second final
+abbrev pub baht : Example
+baht = with-plain 0x1018 0x1010 37 17 0
+
 -- the first syllable of `ukka` likewise, that of `aforementioned` without its tone, and what 1025 1025 103A is stored as
 abbrev pub plain-i : Example
 plain-i = with-plain 0x1025 0x1000 46 1 4
@@ -223,6 +227,69 @@ plain-sign = with-plain 0x104E 0x1004 49 5 0
 abbrev pub nya-i : Example
 nya-i = with-plain 0x1025 0x1009 46 10 4
 
+-- one syllable of a head, two plain finals and a tone, with the weights of all and the vowel weight of the head
+abbrev with-pair : ℕ → ℕ → ℕ → ToneMark → ℕ → ℕ → ℕ → ℕ → ℕ → Example
+with-pair head first second tone head-weight first-weight second-weight vowel-weight tone-weight =
+    record {
+      word = head ∷ first ∷ 0x103A ∷ second ∷ 0x103A ∷ toneText tone;
+      row = syllable head no-medial no-vowel (plain-pair first second) tone ∷ [];
+      records = ((head - 0x1000) ∷ 0 ∷ 0 ∷ 0 ∷ first-weight ∷ second-weight ∷ 1 ∷ tone-weight ∷ []) ∷ [];
+      weigh = (head-weight ∷ 0 ∷ first-weight ∷ second-weight ∷ vowel-weight ∷ tone-weight ∷ []) ∷ [];
+      spell = (head ∷ first ∷ 0x103A ∷ second ∷ 0x103A ∷ toneText tone) ∷ [];
+    }
+
+-- ဘတ်စ်, the word of document 02, E5; with a tone; the same letter twice; on an I and on 104E; and a second final 1004, which is no kinzi
+abbrev pub bus : Example
+bus = with-pair 0x1018 0x1010 0x1005 no-tone 37 17 6 0 0
+
+abbrev pub toned-pair : Example
+toned-pair = with-pair 0x1018 0x1010 0x1005 visarga 37 17 6 0 2
+
+abbrev pub same-pair : Example
+same-pair = with-pair 0x1000 0x1000 0x1000 dot 13 1 1 0 1
+
+abbrev pub pair-i : Example
+pair-i = with-pair 0x1025 0x1000 0x1005 no-tone 46 1 6 4 0
+
+abbrev pub pair-sign : Example
+pair-sign = with-pair 0x104E 0x1004 0x1005 visarga 49 5 6 0 2
+
+abbrev pub nga-pair : Example
+nga-pair = with-pair 0x1000 0x1000 0x1004 no-tone 13 1 5 0 0
+
+-- both finals behind a medial and a vowel, and a syllable with a stacked final after them
+abbrev pub pair-behind-marks : Example
+pair-behind-marks =
+    record {
+      word = 0x1000 ∷ 0x103C ∷ 0x102D ∷ 0x102F ∷ 0x1004 ∷ 0x103A ∷ 0x1005 ∷ 0x103A ∷ 0x1010 ∷ 0x1000 ∷ 0x1039 ∷ 0x1000 ∷ [];
+      row =
+          syllable 0x1000 (group ra false false) vowel-i-u (plain-pair 0x1004 0x1005) no-tone
+          ∷ syllable 0x1010 no-medial no-vowel (stacked 0x1000) no-tone
+          ∷ bare 0x1000
+          ∷ [];
+      records = (0x00 ∷ 2 ∷ 11 ∷ 0 ∷ 5 ∷ 6 ∷ 1 ∷ 0 ∷ []) ∷ (0x10 ∷ 0 ∷ 0 ∷ 0 ∷ 1 ∷ 0 ∷ 2 ∷ 0 ∷ []) ∷ (0x00 ∷ 0 ∷ 0 ∷ 0 ∷ 0 ∷ 0 ∷ 0 ∷ 0 ∷ []) ∷ [];
+      weigh = (13 ∷ 2 ∷ 5 ∷ 6 ∷ 11 ∷ 0 ∷ []) ∷ (29 ∷ 0 ∷ 1 ∷ 0 ∷ 0 ∷ 0 ∷ []) ∷ (13 ∷ 0 ∷ 0 ∷ 0 ∷ 0 ∷ 0 ∷ []) ∷ [];
+      spell =
+          (0x1000 ∷ 0x103C ∷ 0x102D ∷ 0x102F ∷ 0x1004 ∷ 0x103A ∷ 0x1005 ∷ 0x103A ∷ [])
+          ∷ (0x1010 ∷ 0x1000 ∷ 0x103A ∷ [])
+          ∷ (0x1000 ∷ [])
+          ∷ [];
+    }
+
+-- ဘတ်စ်ကား, which begins with `bus`
+abbrev pub bus-car : Example
+bus-car =
+    record {
+      word = 0x1018 ∷ 0x1010 ∷ 0x103A ∷ 0x1005 ∷ 0x103A ∷ 0x1000 ∷ 0x102C ∷ 0x1038 ∷ [];
+      row =
+          syllable 0x1018 no-medial no-vowel (plain-pair 0x1010 0x1005) no-tone
+          ∷ syllable 0x1000 no-medial (vowel-aa false) no-final visarga
+          ∷ [];
+      records = (0x18 ∷ 0 ∷ 0 ∷ 0 ∷ 17 ∷ 6 ∷ 1 ∷ 0 ∷ []) ∷ (0x00 ∷ 0 ∷ 1 ∷ 0 ∷ 0 ∷ 0 ∷ 0 ∷ 2 ∷ []) ∷ [];
+      weigh = (37 ∷ 0 ∷ 17 ∷ 6 ∷ 0 ∷ 0 ∷ []) ∷ (13 ∷ 0 ∷ 0 ∷ 0 ∷ 1 ∷ 2 ∷ []) ∷ [];
+      spell = (0x1018 ∷ 0x1010 ∷ 0x103A ∷ 0x1005 ∷ 0x103A ∷ []) ∷ (0x1000 ∷ 0x102C ∷ 0x1038 ∷ []) ∷ [];
+    }
+
 -- the words of document 01 and the queries that find them, whose rows are rows of 01; 1000 1031 102C 103A is "one syllable"
 abbrev baseExamples : List Example
 baseExamples =
@@ -231,8 +298,8 @@ baseExamples =
     ∷ record {
       word = 0x101E ∷ 0x1019 ∷ 0x102E ∷ 0x1038 ∷ [];
       row = bare 0x101E ∷ syllable 0x1019 no-medial vowel-ii no-final visarga ∷ [];
-      records = (0x1E ∷ 0 ∷ 0 ∷ 0 ∷ 0 ∷ 0 ∷ 0 ∷ []) ∷ (0x19 ∷ 0 ∷ 3 ∷ 0 ∷ 0 ∷ 0 ∷ 2 ∷ []) ∷ [];
-      weigh = (43 ∷ 0 ∷ 0 ∷ 0 ∷ 0 ∷ []) ∷ (38 ∷ 0 ∷ 0 ∷ 3 ∷ 2 ∷ []) ∷ [];
+      records = (0x1E ∷ 0 ∷ 0 ∷ 0 ∷ 0 ∷ 0 ∷ 0 ∷ 0 ∷ []) ∷ (0x19 ∷ 0 ∷ 3 ∷ 0 ∷ 0 ∷ 0 ∷ 0 ∷ 2 ∷ []) ∷ [];
+      weigh = (43 ∷ 0 ∷ 0 ∷ 0 ∷ 0 ∷ 0 ∷ []) ∷ (38 ∷ 0 ∷ 0 ∷ 0 ∷ 3 ∷ 2 ∷ []) ∷ [];
       spell = (0x101E ∷ []) ∷ (0x1019 ∷ 0x102E ∷ 0x1038 ∷ []) ∷ [];
     }
     ∷ university
@@ -241,23 +308,23 @@ baseExamples =
     ∷ record {
       word = 0x1000 ∷ 0x1031 ∷ 0x102C ∷ 0x103A ∷ [];
       row = syllable 0x1000 no-medial (vowel-e-aa-killer false) no-final no-tone ∷ [];
-      records = (0x00 ∷ 0 ∷ 9 ∷ 0 ∷ 0 ∷ 0 ∷ 0 ∷ []) ∷ [];
-      weigh = (13 ∷ 0 ∷ 0 ∷ 9 ∷ 0 ∷ []) ∷ [];
+      records = (0x00 ∷ 0 ∷ 9 ∷ 0 ∷ 0 ∷ 0 ∷ 0 ∷ 0 ∷ []) ∷ [];
+      weigh = (13 ∷ 0 ∷ 0 ∷ 0 ∷ 9 ∷ 0 ∷ []) ∷ [];
       spell = (0x1000 ∷ 0x1031 ∷ 0x102C ∷ 0x103A ∷ []) ∷ [];
     }
     ∷ closed
     ∷ record {
       word = 0x1026 ∷ [];
       row = bare 0x1026 ∷ [];
-      records = (0x26 ∷ 0 ∷ 0 ∷ 0 ∷ 0 ∷ 0 ∷ 0 ∷ []) ∷ [];
-      weigh = (46 ∷ 0 ∷ 0 ∷ 5 ∷ 0 ∷ []) ∷ [];
+      records = (0x26 ∷ 0 ∷ 0 ∷ 0 ∷ 0 ∷ 0 ∷ 0 ∷ 0 ∷ []) ∷ [];
+      weigh = (46 ∷ 0 ∷ 0 ∷ 0 ∷ 5 ∷ 0 ∷ []) ∷ [];
       spell = (0x1026 ∷ []) ∷ [];
     }
     ∷ record {
       word = replicate limit 0x1000;
       row = replicate limit (bare 0x1000);
-      records = replicate limit (0x00 ∷ 0 ∷ 0 ∷ 0 ∷ 0 ∷ 0 ∷ 0 ∷ []);
-      weigh = replicate limit (13 ∷ 0 ∷ 0 ∷ 0 ∷ 0 ∷ []);
+      records = replicate limit (0x00 ∷ 0 ∷ 0 ∷ 0 ∷ 0 ∷ 0 ∷ 0 ∷ 0 ∷ []);
+      weigh = replicate limit (13 ∷ 0 ∷ 0 ∷ 0 ∷ 0 ∷ 0 ∷ []);
       spell = replicate limit (0x1000 ∷ []);
     }
     ∷ great-sa-alone
@@ -265,9 +332,10 @@ baseExamples =
     ∷ plain-ka
     ∷ plain-nga
     ∷ plain-sa
+    ∷ baht
     ∷ []
 
--- the words of document 02, E2, whose rows are not
+-- the words of document 02, E2, whose rows are not, but are rows of before E5
 abbrev finalExamples : List Example
 finalExamples =
     ukka
@@ -282,16 +350,24 @@ finalExamples =
     ∷ nya-i
     ∷ []
 
+-- the words of document 02, E5, whose rows are none of before it
+abbrev pairExamples : List Example
+pairExamples = bus ∷ toned-pair ∷ same-pair ∷ pair-i ∷ pair-sign ∷ nga-pair ∷ pair-behind-marks ∷ bus-car ∷ []
+
 -- the one table of worked words that are readable
 abbrev pub examples : List Example
-examples = baseExamples ++ finalExamples
+examples = baseExamples ++ (finalExamples ++ pairExamples)
 
-abbrev isBase : Example → Bool
-isBase e = isRowOf isBaseSyllable no-final (e .row)
+abbrev isIn : Edition → Example → Bool
+isIn edition e = isRowOf (isSyllableIn edition) no-final (e .row)
 
-base-right : T (every isBase baseExamples && every (λ (e : Example). not (isBase e)) finalExamples)
-unfolding isBaseSyllable
-base-right = tt
+abbrev isOnlySince : Edition → Edition → Example → Bool
+isOnlySince without with e = not (isIn without e) && isIn with e
+
+editions-right : T (every (isIn base) baseExamples && (every (isOnlySince base independent-finals) finalExamples
+    && every (λ (e : Example). not (isIn independent-finals e)) pairExamples))
+unfolding isSyllableIn carriesMarks carriesFinal
+editions-right = tt
 
 abbrev hasForms : Example → Bool
 hasForms e =
@@ -358,6 +434,12 @@ broken =
     -- a plain final 1021, and a final that is no letter
     ∷ (syllable 0x1000 no-medial no-vowel (plain 0x1021) no-tone ∷ [])
     ∷ (syllable 0x1000 no-medial no-vowel (plain 0x1025) no-tone ∷ [])
+    -- a second final that is no final letter, a first that is none, and two finals of a head that carries none
+    ∷ (syllable 0x1000 no-medial no-vowel (plain-pair 0x1000 0x1021) no-tone ∷ [])
+    ∷ (syllable 0x1000 no-medial no-vowel (plain-pair 0x1021 0x1000) no-tone ∷ [])
+    ∷ (syllable 0x1000 no-medial no-vowel (plain-pair 0x1000 0x1025) visarga ∷ [])
+    ∷ (syllable 0x1040 no-medial no-vowel (plain-pair 0x1000 0x1005) no-tone ∷ [])
+    ∷ (syllable 0x104C no-medial no-vowel (plain-pair 0x1000 0x1005) no-tone ∷ [])
     -- a stacked 1004, and a stacked 1021
     ∷ (syllable 0x1000 no-medial no-vowel (stacked 0x1004) no-tone ∷ bare 0x1000 ∷ [])
     ∷ (syllable 0x1000 no-medial no-vowel (stacked 0x1021) no-tone ∷ bare 0x1000 ∷ [])

@@ -3,8 +3,8 @@ pub mod Limits
 pub mod Held
 pub mod Syllable
 pub mod Row
-pub mod Base
 pub mod Record
 pub mod Packed
 pub mod Spelled
 pub mod Weighing
+pub mod Earlier

@@ -10,10 +10,10 @@ limit = 64
 abbrev pub lineLimit : ℕ
 lineLimit = 3 * limit
 
--- "seven bytes" are the record of a syllable
+-- Document 02, E5: "A record gains a second final weight after the first, eight bytes in all"
 abbrev pub recordSize : ℕ
-recordSize = 7
+recordSize = 8
 
--- "Five weights a syllable", a byte of a key each
+-- "Five weights a syllable", and "A key gains a sixth weight": a byte of a key each
 abbrev pub weightCount : ℕ
-weightCount = 5
+weightCount = 6

@@ -1,4 +1,4 @@
--- Document 01, "The syllable", and document 02, E2: what a syllable is, what it asks of its neighbours, and how it is written.
+-- Document 01, "The syllable", and document 02, E2 and E5: what a syllable is, what it asks of its neighbours, and how it is written.
 -- A description: no reader stands here. Assumes nothing.
 use mathlib.Core.Bool.{Bool, true, false, not, _&&_, _||_}
 use mathlib.Core.List.{List, [], _∷_, _++_}
@@ -10,9 +10,11 @@ use Rattle.letters.specs.Weights.{isHead, isFinalLetter}
 
 -- "A plain final is that letter and 103A. A stacked final is a final letter other than 1004 and then 1039. Kinzi is 1004 103A 1039.
 -- 103F is at once a final 101E of the syllable before and the head 101E of its own."
+-- Document 02, E5: "A syllable with a plain final may take a second plain final before its tone."
 pub data Final : Type 0 where
   no-final : Final
   plain : ℕ → Final
+  plain-pair : ℕ → ℕ → Final
   stacked : ℕ → Final
   kinzi : Final
   great-sa : Final
@@ -64,6 +66,7 @@ isNoVowel vowel-u-am = false
 abbrev pub isNoFinal : Final → Bool
 isNoFinal no-final = true
 isNoFinal (plain c) = false
+isNoFinal (plain-pair c d) = false
 isNoFinal (stacked c) = false
 isNoFinal kinzi = false
 isNoFinal great-sa = false
@@ -77,6 +80,7 @@ isNoTone visarga = false
 abbrev pub isClosed : Final → Bool
 isClosed no-final = true
 isClosed (plain c) = true
+isClosed (plain-pair c d) = true
 isClosed (stacked c) = false
 isClosed kinzi = false
 isClosed great-sa = false
@@ -85,6 +89,7 @@ isClosed great-sa = false
 abbrev pub isFinal : Final → Bool
 isFinal no-final = true
 isFinal (plain c) = isFinalLetter c
+isFinal (plain-pair c d) = isFinalLetter c && isFinalLetter d
 isFinal (stacked c) = isFinalLetter c && not (eqb c 0x1004)
 isFinal kinzi = true
 isFinal great-sa = true
@@ -103,6 +108,7 @@ isSyllable (syllable h m v f t) =
 abbrev pub follows : Final → ℕ → Bool
 follows no-final h = true
 follows (plain c) h = true
+follows (plain-pair c d) h = true
 follows (stacked c) h = isFinalLetter h
 follows kinzi h = isFinalLetter h
 follows great-sa h = eqb h 0x101E
@@ -111,6 +117,7 @@ follows great-sa h = eqb h 0x101E
 abbrev pub finalText : Final → List ℕ
 finalText no-final = []
 finalText (plain c) = c ∷ 0x103A ∷ []
+finalText (plain-pair c d) = c ∷ 0x103A ∷ d ∷ 0x103A ∷ []
 finalText (stacked c) = c ∷ 0x1039 ∷ []
 finalText kinzi = 0x1004 ∷ 0x103A ∷ 0x1039 ∷ []
 finalText great-sa = []
@@ -119,6 +126,7 @@ finalText great-sa = []
 abbrev pub headText : Final → ℕ → ℕ
 headText no-final h = h
 headText (plain c) h = h
+headText (plain-pair c d) h = h
 headText (stacked c) h = h
 headText kinzi h = h
 headText great-sa h = 0x103F

@@ -18,13 +18,13 @@ impl Word {
     pub const LINE_LIMIT: usize = 3 * Word::LIMIT;
 
     // The bytes of a syllable's record.
-    pub const RECORD: usize = 7;
+    pub const RECORD: usize = 8;
 
     // The place of the link in a record.
-    pub const LINK: usize = 5;
+    pub const LINK: usize = 6;
 
     // The weights of a syllable, a byte of a key each.
-    pub const WEIGHTS: usize = 5;
+    pub const WEIGHTS: usize = 6;
 
     // The bytes of a key: the weights of as many syllables as a word has values at most.
     pub const KEY: usize = Word::WEIGHTS * Word::LIMIT;
