@@ -9,8 +9,8 @@ use Rattle.letters.specs.Letters.{isConsonant, isKiller, isStacker, isGreatSa}
 use Rattle.letters.specs.Marks.{neither, ya, ra, MedialGroup, group, medialText, Vowel, no-vowel, vowel-aa, vowel-i, vowel-ii, vowel-u, vowel-uu, vowel-e, vowel-ai, vowel-e-aa, vowel-e-aa-killer, vowel-am, vowel-i-u, vowel-u-am, vowelText, ToneMark, no-tone, dot, visarga, toneText}
 use Rattle.letters.specs.Weights.{isHead, isFinalLetter}
 use Rattle.letters.proofs.Tests.{or-left}
-use Rattle.formula.proofs.Lists.{both-left}
-use Rattle.formula.specs.Syllable.{Final, no-final, plain, stacked, kinzi, great-sa, syllable, isFinal, finalText, headText}
+use Rattle.formula.proofs.Lists.{both-left, both-right}
+use Rattle.formula.specs.Syllable.{Final, no-final, plain, plain-pair, stacked, kinzi, great-sa, syllable, isFinal, finalText, headText}
 use Rattle.formula.specs.Row.{Row, isRowAfter, IsRow, partsAfter, parts, joinAfter, join, Gives}
 use Rattle.rows.specs.Begin.{noBeginnings, beginnings, makesFinal, begins, firstValue, localBeginnings}
 use Rattle.rows.proofs.Sound.{apart}
@@ -104,6 +104,10 @@ letter-inside c next rest i f n =
 final-inside : (f : Final) (rest : List ℕ) → T (isFinal f) → IsApart (firstValue rest) → Inside (finalText f) rest
 final-inside no-final rest i a = record { none-begins = refl; is-apart = a }
 final-inside (plain c) rest i a = letter-inside c 0x103A rest i tt refl
+final-inside (plain-pair c d) rest i a =
+    let second = letter-inside d 0x103A rest (both-right (isFinalLetter c) (isFinalLetter d) i) tt refl in
+    then-inside (c ∷ 0x103A ∷ []) (d ∷ 0x103A ∷ []) rest
+    (letter-inside c 0x103A (d ∷ 0x103A ∷ rest) (both-left (isFinalLetter c) (isFinalLetter d) i) tt refl) second
 final-inside (stacked c) rest i a = letter-inside c 0x1039 rest (both-left (isFinalLetter c) _ i) tt refl
 final-inside kinzi rest i a = record { none-begins = refl; is-apart = tt }
 final-inside great-sa rest i a = record { none-begins = refl; is-apart = a }
@@ -112,6 +116,7 @@ final-inside great-sa rest i a = record { none-begins = refl; is-apart = a }
 pub on-head : (P : ℕ → Type 0) (f : Final) (h : ℕ) → P h → P 0x103F → P (headText f h)
 on-head P no-final h p q = p
 on-head P (plain c) h p q = p
+on-head P (plain-pair c d) h p q = p
 on-head P (stacked c) h p q = p
 on-head P kinzi h p q = p
 on-head P great-sa h p q = q

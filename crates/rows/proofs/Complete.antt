@@ -15,9 +15,9 @@ use Rattle.letters.specs.declared.kind.Kind.{Kind}
 use Rattle.letters.specs.declared.kind.Kind.the-variants.{Consonant, IndependentVowel, Medial, VowelMark, Tone, Killer, Stacker, GreatSa, Digit, Stop, Sign, Foreign}
 use Rattle.letters.proofs.Tests.{is-true, either, or-false, or-both-left, or-both-right, pick-true, on-pick}
 use Rattle.formula.proofs.Lists.{both, both-left, both-right}
-use Rattle.formula.specs.Syllable.{Final, no-final, plain, stacked, kinzi, great-sa, Syllable, syllable, bare, headOf, finalOf, carriesMarks, carriesFinal, isNoMedial, isNoVowel, isNoFinal, isNoTone, isClosed, isFinal, takesTone, isSyllable, follows, finalText, headText, part}
+use Rattle.formula.specs.Syllable.{Final, no-final, plain, plain-pair, stacked, kinzi, great-sa, Syllable, syllable, bare, headOf, finalOf, carriesMarks, carriesFinal, isNoMedial, isNoVowel, isNoFinal, isNoTone, isClosed, isFinal, takesTone, isSyllable, follows, finalText, headText, part}
 use Rattle.formula.specs.Row.{Row, isRowAfter, IsRow, joinAfter, join}
-use Rattle.rows.specs.Machine.{when, endOf, KeptOk, admits, stepHead, act, step, andThen, run}
+use Rattle.rows.specs.Machine.{when, endOf, KeptOk, admits, plainAnd, stepHead, act, step, andThen, run}
 use Rattle.rows.proofs.Sound.{apart}
 
 -- runs one after the other
@@ -150,6 +150,7 @@ head-step x a i = head-acts (kindOf x) x a (head-kind x i)
 abbrev pub unGreatSa : Final → Final
 unGreatSa no-final = no-final
 unGreatSa (plain c) = plain c
+unGreatSa (plain-pair c d) = plain-pair c d
 unGreatSa (stacked c) = stacked c
 unGreatSa kinzi = kinzi
 unGreatSa great-sa = no-final
@@ -162,6 +163,7 @@ clear-closed : (a : Row) → T (isClosed (endOf a)) → clear a ≡ a
 clear-closed [] t = refl
 clear-closed (syllable h m v no-final q ∷ a) t = refl
 clear-closed (syllable h m v (plain c) q ∷ a) t = refl
+clear-closed (syllable h m v (plain-pair c d) q ∷ a) t = refl
 clear-closed (syllable h m v (stacked c) q ∷ a) t = absurd t
 clear-closed (syllable h m v kinzi q ∷ a) t = absurd t
 clear-closed (syllable h m v great-sa q ∷ a) t = absurd t
@@ -180,6 +182,7 @@ head-run : (a : Row) (h : ℕ) → KeptOk a → T (isHead h) → T (follows (end
 head-run [] h k i q = head-step h [] i
 head-run (syllable y m v no-final t ∷ a) h k i q = head-step h (syllable y m v no-final t ∷ a) i
 head-run (syllable y m v (plain c) t ∷ a) h k i q = head-step h (syllable y m v (plain c) t ∷ a) i
+head-run (syllable y m v (plain-pair c d) t ∷ a) h k i q = head-step h (syllable y m v (plain-pair c d) t ∷ a) i
 head-run (syllable y m v (stacked c) t ∷ a) h k i q =
     head-step h (syllable y m v (stacked c) t ∷ a) i ∙ when-true (isFinalLetter h) (some (bare h ∷ syllable y m v (stacked c) t ∷ a)) q
 head-run (syllable y m v kinzi t ∷ a) h k i q =
@@ -227,18 +230,28 @@ vowel-run h m vowel-i-u a q = simp (carries (carriesMarks h) q)
 vowel-run h m vowel-u-am a q = simp (carries (carriesMarks h) q)
 
 -- a final letter stands on top as a head until 103A or 1039 shows what it is
-letter-run : (c : ℕ) (a : Row) → endOf a ≡ no-final → T (isFinalLetter c) → step a c ≡ some (bare c ∷ a)
+letter-run : (c : ℕ) (a : Row) → admits (endOf a) c ≡ true → T (isFinalLetter c) → step a c ≡ some (bare c ∷ a)
 letter-run c a e i =
-    ap (λ (k : Kind). act k c a) (consonant-kind c (final-consonant c i)) ∙ ap (λ (f : Final). when (admits f c) (some (bare c ∷ a))) e
+    ap (λ (k : Kind). act k c a) (consonant-kind c (final-consonant c i)) ∙ ap (λ (b : Bool). when b (some (bare c ∷ a))) e
+
+-- and 103A shows that it is a plain one
+plain-run : (c h : ℕ) (m : MedialGroup) (v : Vowel) (f g : Final) (a : Row) → T (carriesFinal h) → T (isFinalLetter c) → admits f c ≡ true
+    → plainAnd c f ≡ some g → run (c ∷ 0x103A ∷ []) (syllable h m v f no-tone ∷ a) ≡ some (syllable h m v g no-tone ∷ a)
+unfolding pick
+plain-run c h m v f g a q i e d =
+    let s : Syllable = syllable h m v f no-tone in
+    then-step c (0x103A ∷ []) (s ∷ a) (bare c ∷ s ∷ a) _ (letter-run c (s ∷ a) e i)
+    (then-step 0x103A [] (bare c ∷ s ∷ a) (syllable h m v g no-tone ∷ a) _ (simp (is-true (carriesFinal h) q, is-true (isFinalLetter c) i, d)) refl)
 
 final-run : (h : ℕ) (m : MedialGroup) (v : Vowel) (f : Final) (a : Row) → T (carriesFinal h || isNoFinal f) → T (isFinal f)
     → run (finalText f) (syllable h m v no-final no-tone ∷ a) ≡ some (syllable h m v (unGreatSa f) no-tone ∷ a)
 unfolding pick
 final-run h m v no-final a q i = refl
-final-run h m v (plain c) a q i =
-    let s : Syllable = syllable h m v no-final no-tone in
-    then-step c (0x103A ∷ []) (s ∷ a) (bare c ∷ s ∷ a) _ (letter-run c (s ∷ a) refl i)
-    (then-step 0x103A [] (bare c ∷ s ∷ a) (syllable h m v (plain c) no-tone ∷ a) _ (simp (carries (carriesFinal h) q, is-true (isFinalLetter c) i)) refl)
+final-run h m v (plain c) a q i = plain-run c h m v no-final (plain c) a (or-false (carriesFinal h) q) i refl refl
+final-run h m v (plain-pair c d) a q i =
+    then-run (c ∷ 0x103A ∷ []) (d ∷ 0x103A ∷ []) (syllable h m v no-final no-tone ∷ a) (syllable h m v (plain c) no-tone ∷ a) _
+    (plain-run c h m v no-final (plain c) a (or-false (carriesFinal h) q) (both-left (isFinalLetter c) (isFinalLetter d) i) refl refl)
+    (plain-run d h m v (plain c) (plain-pair c d) a (or-false (carriesFinal h) q) (both-right (isFinalLetter c) (isFinalLetter d) i) refl refl)
 final-run h m v (stacked c) a q i =
     let s : Syllable = syllable h m v no-final no-tone in
     then-step c (0x1039 ∷ []) (s ∷ a) (bare c ∷ s ∷ a) _ (letter-run c (s ∷ a) refl (both-left (isFinalLetter c) (not (eqb c 0x1004)) i))
@@ -253,11 +266,13 @@ unfolding pick
 tone-run h m v f no-tone a q i = refl
 tone-run h m v no-final dot a q i = simp (carries (carriesFinal h) q)
 tone-run h m v (plain c) dot a q i = simp (carries (carriesFinal h) q)
+tone-run h m v (plain-pair c d) dot a q i = simp (carries (carriesFinal h) q)
 tone-run h m v (stacked c) dot a q i = absurd i
 tone-run h m v kinzi dot a q i = absurd i
 tone-run h m v great-sa dot a q i = absurd i
 tone-run h m v no-final visarga a q i = simp (carries (carriesFinal h) q)
 tone-run h m v (plain c) visarga a q i = simp (carries (carriesFinal h) q)
+tone-run h m v (plain-pair c d) visarga a q i = simp (carries (carriesFinal h) q)
 tone-run h m v (stacked c) visarga a q i = absurd i
 tone-run h m v kinzi visarga a q i = absurd i
 tone-run h m v great-sa visarga a q i = absurd i

@@ -3,5 +3,5 @@ pub mod Complete
 pub mod Viable
 pub mod Begin
 pub mod Admitted
-pub mod Base
+pub mod Earlier
 pub mod Heads

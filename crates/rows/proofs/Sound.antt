@@ -15,9 +15,9 @@ use Rattle.formula.proofs.Classes.{inClass, kind-class, head-of}
 use Rattle.letters.proofs.Tests.{or-left, or-right, or-false}
 use Rattle.formula.proofs.Lists.{both, both-left, both-right, sameList, sameList-equal}
 use Rattle.formula.proofs.Pieces.{no-medial-is, no-vowel-is}
-use Rattle.formula.specs.Syllable.{Final, no-final, plain, stacked, kinzi, great-sa, Syllable, syllable, bare, headOf, finalOf, carriesMarks, carriesFinal, isNoMedial, isNoVowel, isNoFinal, isNoTone, isClosed, isFinal, takesTone, isSyllable, follows, finalText, headText, part}
+use Rattle.formula.specs.Syllable.{Final, no-final, plain, plain-pair, stacked, kinzi, great-sa, Syllable, syllable, bare, headOf, finalOf, carriesMarks, carriesFinal, isNoMedial, isNoVowel, isNoFinal, isNoTone, isClosed, isFinal, takesTone, isSyllable, follows, finalText, headText, part}
 use Rattle.formula.specs.Row.{Row, isRowAfter, IsRow, joinAfter, join, Gives}
-use Rattle.rows.specs.Machine.{firstOf, writtenAs, medialAnd, vowelAnd, toneOf, when, onto, endOf, KeptOk, keptJoin, isNotGreatSa, isOpen, isBare, admits, stepHead, stepMedial, stepVowel, stepTone, stepGreatSa, close, killed, stepKiller, stacks, stepStacker, act, step, andThen, run}
+use Rattle.rows.specs.Machine.{firstOf, writtenAs, medialAnd, vowelAnd, toneOf, when, onto, endOf, KeptOk, keptJoin, isNotGreatSa, isOpen, isBare, admits, stepHead, stepMedial, stepVowel, stepTone, stepGreatSa, plainAnd, stackedAnd, close, killed, stepKiller, stacks, stepStacker, act, step, andThen, run}
 
 -- absent pieces are written with nothing
 pub no-medial-text : (m : MedialGroup) → T (isNoMedial m) → medialText m ≡ []
@@ -29,6 +29,7 @@ no-vowel-text v t = ap vowelText (no-vowel-is v t)
 pub no-final-text : (f : Final) → T (isNoFinal f) → finalText f ≡ []
 no-final-text no-final t = refl
 no-final-text (plain c) t = absurd t
+no-final-text (plain-pair c d) t = absurd t
 no-final-text (stacked c) t = absurd t
 no-final-text kinzi t = absurd t
 no-final-text great-sa t = absurd t
@@ -130,6 +131,7 @@ on-piece a x text values f (some n) w g = g n w
 no-final-not-great : (f : Final) → T (isNoFinal f) → T (isNotGreatSa f)
 no-final-not-great no-final t = tt
 no-final-not-great (plain c) t = tt
+no-final-not-great (plain-pair c d) t = tt
 no-final-not-great (stacked c) t = tt
 no-final-not-great kinzi t = tt
 no-final-not-great great-sa t = t
@@ -137,6 +139,7 @@ no-final-not-great great-sa t = t
 closed-not-great : (f : Final) → T (isClosed f) → T (isNotGreatSa f)
 closed-not-great no-final t = tt
 closed-not-great (plain c) t = tt
+closed-not-great (plain-pair c d) t = tt
 closed-not-great (stacked c) t = tt
 closed-not-great kinzi t = tt
 closed-not-great great-sa t = t
@@ -179,14 +182,6 @@ kinzi-ok : (h : ℕ) (m : MedialGroup) (v : Vowel) (c : ℕ) (t : ToneMark) → 
     → T (isSyllable (syllable h m v kinzi t))
 kinzi-ok h m v c t u q = reclosed h m v (plain c) kinzi t t (carries-final h c t (apart h m v (plain c) t q .closing)) tt u q
 
--- a letter after a syllable with no final is written as itself
-plain-head : (f : Final) (h : ℕ) → T (isNoFinal f) → headText f h ≡ h
-plain-head no-final h t = refl
-plain-head (plain c) h t = refl
-plain-head (stacked c) h t = refl
-plain-head kinzi h t = refl
-plain-head great-sa h t = absurd t
-
 vowel-out : (x : ℕ) (a : Row) → KeptOk a → Out a x (stepVowel x a)
 vowel-out x [] k = tt
 vowel-out x (syllable h m v f t ∷ a) k =
@@ -224,18 +219,43 @@ great-sa-out (syllable h m v f t ∷ a) k =
       tt,
     ))
 
--- the letter h on top is the final g of the syllable before, by the value x
-close-out : (h x : ℕ) (g : Final) (a : Row) → T (isFinal g) → T (isNotGreatSa g) → finalText g ≡ h ∷ x ∷ [] → KeptOk (bare h ∷ a)
-    → Out (bare h ∷ a) x (close g a)
-close-out h x g [] i n e k = tt
-close-out h x g (syllable y m v f t ∷ a) i n e k =
-    on-when (bare h ∷ syllable y m v f t ∷ a) x (carriesFinal y && isOpen f t) _
-    (λ q. let o : Open f t = opened f t (both-right (carriesFinal y) (isOpen f t) q) in
-    let free : T (isNoFinal f) = both-left (isNoFinal f) (isNoTone t) (both-right (carriesFinal y) (isOpen f t) q) in (
-      (k .2 .0, reclosed y m v f g t t (both-left (carriesFinal y) (isOpen f t) q) i (or-right (isClosed g) (isNoTone t) (o .untoned)) (k .2 .1), k .2 .2),
-      simp (e, o .final, o .tone, plain-head f h free, append-nil, append-assoc),
-      n,
-    ))
+-- a final with the letter c and the value x more is one, and written so
+abbrev pub Grown : ℕ → ℕ → Final → Option Final → Type 0
+Grown c x f none = Unit {0}
+Grown c x f (some g) = T (isFinal g) × T (isNotGreatSa g) × (finalText g ≡ finalText f ++ (c ∷ x ∷ [])) × (headText f c ≡ c)
+
+plain-grown : (c : ℕ) → T (isFinalLetter c) → (f : Final) → T (isFinal f) → Grown c 0x103A f (plainAnd c f)
+plain-grown c l no-final i = (l, tt, refl, refl)
+plain-grown c l (plain b) i = (both (isFinalLetter b) (isFinalLetter c) i l, tt, refl, refl)
+plain-grown c l (plain-pair b d) i = tt
+plain-grown c l (stacked b) i = tt
+plain-grown c l kinzi i = tt
+plain-grown c l great-sa i = tt
+
+stacked-grown : (c : ℕ) → T (isFinalLetter c && not (eqb c 0x1004)) → (f : Final) → T (isFinal f) → Grown c 0x1039 f (stackedAnd c f)
+stacked-grown c l no-final i = (l, tt, refl, refl)
+stacked-grown c l (plain b) i = tt
+stacked-grown c l (plain-pair b d) i = tt
+stacked-grown c l (stacked b) i = tt
+stacked-grown c l kinzi i = tt
+stacked-grown c l great-sa i = tt
+
+-- the letter h on top is one more in the final of the syllable before, by the value x
+close-out : (h x : ℕ) (more : Final → Option Final) (a : Row) → ((f : Final) → T (isFinal f) → Grown h x f (more f)) → KeptOk (bare h ∷ a)
+    → Out (bare h ∷ a) x (close more a)
+close-out h x more [] w k = tt
+close-out h x more (syllable y m v f t ∷ a) w k =
+    on-when (bare h ∷ syllable y m v f t ∷ a) x (carriesFinal y && isNoTone t) _ (go (more f) (w f (apart y m v f t (k .2 .1) .final)))
+  where
+    go : (o : Option Final) → Grown h x f o → T (carriesFinal y && isNoTone t)
+        → Out (bare h ∷ syllable y m v f t ∷ a) x (onto (λ (g : Final). syllable y m v g t ∷ a) o)
+    go none r q = tt
+    go (some g) r q =
+        let u : T (isNoTone t) = both-right (carriesFinal y) (isNoTone t) q in (
+          (k .2 .0, reclosed y m v f g t t (both-left (carriesFinal y) (isNoTone t) q) (r .0) (or-right (isClosed g) (isNoTone t) u) (k .2 .1), k .2 .2),
+          simp (r .2, r .3, no-tone-text t u, append-nil, append-assoc),
+          r .1,
+        )
 
 -- a head alone is what it says
 bare-is : (h : ℕ) (m : MedialGroup) (v : Vowel) (f : Final) (t : ToneMark) → T (isBare m v f t) → syllable h m v f t ≡ bare h
@@ -250,8 +270,8 @@ killed-out : (o : Option Vowel) (h : ℕ) (m : MedialGroup) (v : Vowel) (f : Fin
 killed-out none h m v f t a w k =
     on-when (syllable h m v f t ∷ a) 0x103A (isBare m v f t && isFinalLetter h) _
     (λ q. let e = bare-is h m v f t (both-left (isBare m v f t) (isFinalLetter h) q) in
-    top-is (syllable h m v f t) (bare h) a 0x103A (close (plain h) a) e k
-    (close-out h 0x103A (plain h) a (both-right (isBare m v f t) (isFinalLetter h) q) tt refl))
+    top-is (syllable h m v f t) (bare h) a 0x103A (close (plainAnd h) a) e k
+    (close-out h 0x103A (plainAnd h) a (plain-grown h (both-right (isBare m v f t) (isFinalLetter h) q))))
 killed-out (some n) h m v f t a w k =
     on-when (syllable h m v f t ∷ a) 0x103A (carriesMarks h && isOpen f t) _ (λ q. vowel-changed 0x103A h m v f t a k q n w)
 
@@ -265,8 +285,8 @@ stacks-out : (g : Final) (h : ℕ) (m : MedialGroup) (v : Vowel) (t : ToneMark) 
 stacks-out no-final h m v t a k =
     on-when (syllable h m v no-final t ∷ a) 0x1039 (isBare m v no-final t && (isFinalLetter h && not (eqb h 0x1004))) _
     (λ q. let e = bare-is h m v no-final t (both-left (isBare m v no-final t) (isFinalLetter h && not (eqb h 0x1004)) q) in
-    top-is (syllable h m v no-final t) (bare h) a 0x1039 (close (stacked h) a) e k
-    (close-out h 0x1039 (stacked h) a (both-right (isBare m v no-final t) (isFinalLetter h && not (eqb h 0x1004)) q) tt refl))
+    top-is (syllable h m v no-final t) (bare h) a 0x1039 (close (stackedAnd h) a) e k
+    (close-out h 0x1039 (stackedAnd h) a (stacked-grown h (both-right (isBare m v no-final t) (isFinalLetter h && not (eqb h 0x1004)) q))))
 stacks-out (plain c) h m v t a k =
     on-when (syllable h m v (plain c) t ∷ a) 0x1039 (eqb c 0x1004 && isNoTone t) _
     (λ q. let e : c ≡ 0x1004 = eqb→eq c 0x1004 (both-left (eqb c 0x1004) (isNoTone t) q) in
@@ -275,6 +295,7 @@ stacks-out (plain c) h m v t a k =
       grow (keptJoin a) (headText (endOf a) h) _ _ 0x1039 (simp (e, no-tone-text t u, append-nil, append-assoc)),
       tt,
     ))
+stacks-out (plain-pair c d) h m v t a k = tt
 stacks-out (stacked c) h m v t a k = tt
 stacks-out kinzi h m v t a k = tt
 stacks-out great-sa h m v t a k = tt
@@ -287,6 +308,7 @@ stacker-out (syllable h m v f t ∷ a) k = stacks-out f h m v t a k
 admitted : (f : Final) (x : ℕ) → T (admits f x) → T (follows f x) × (headText f x ≡ x)
 admitted no-final x t = (tt, refl)
 admitted (plain c) x t = (tt, refl)
+admitted (plain-pair c d) x t = (tt, refl)
 admitted (stacked c) x t = (t, refl)
 admitted kinzi x t = (t, refl)
 admitted great-sa x t = absurd t

@@ -8,7 +8,7 @@ use native.Mathlib.Omega.{arith}
 use lib.Dec.{T}
 use lib.ListN.{length, getD, take, drop, take-append-drop}
 use lib.Seq.{take-suc, take-take}
-use Rattle.formula.specs.Syllable.{Final, no-final, plain, stacked, kinzi, great-sa, carriesMarks, carriesFinal, bare, isClosed}
+use Rattle.formula.specs.Syllable.{Final, no-final, plain, plain-pair, stacked, kinzi, great-sa, carriesMarks, carriesFinal, bare, isClosed}
 use Rattle.formula.specs.Row.{Row, isRowAfter, joinAfter, join, IsRow, Gives, Viable, LongestViable}
 use Rattle.rows.specs.Machine.{endOf, step, andThen, run}
 use Rattle.rows.proofs.Sound.{RunOut, run-out, row-of, join-of}
@@ -42,6 +42,7 @@ unfinished w a e n r g =
 abbrev finish : Final → Row
 finish no-final = []
 finish (plain c) = []
+finish (plain-pair c d) = []
 finish (stacked c) = bare 0x1000 ∷ []
 finish kinzi = bare 0x1000 ∷ []
 finish great-sa = bare 0x101E ∷ []
@@ -50,6 +51,7 @@ finished : (f : Final) → T (isRowAfter f (finish f))
 unfolding carriesMarks carriesFinal
 finished no-final = tt
 finished (plain c) = tt
+finished (plain-pair c d) = tt
 finished (stacked c) = tt
 finished kinzi = tt
 finished great-sa = tt

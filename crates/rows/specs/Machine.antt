@@ -11,7 +11,7 @@ use Rattle.letters.specs.Marks.{MedialGroup, medialGroups, medialText, Vowel, v
 use Rattle.letters.specs.Weights.{isFinalLetter}
 use Rattle.letters.specs.declared.kind.Kind.{Kind}
 use Rattle.formula.specs.Lists.{sameList}
-use Rattle.formula.specs.Syllable.{Final, no-final, plain, stacked, kinzi, great-sa, Syllable, syllable, bare, headOf, finalOf, carriesMarks, carriesFinal, isNoMedial, isNoVowel, isNoFinal, isNoTone, isClosed, isSyllable, follows, part}
+use Rattle.formula.specs.Syllable.{Final, no-final, plain, plain-pair, stacked, kinzi, great-sa, Syllable, syllable, bare, headOf, finalOf, carriesMarks, carriesFinal, isNoMedial, isNoVowel, isNoFinal, isNoTone, isClosed, isSyllable, follows, part}
 use Rattle.formula.specs.Row.{Row}
 
 abbrev pub firstOf : {A : Type 0} → Bool → A → Option A → Option A
@@ -60,6 +60,7 @@ keptJoin (s ∷ kept) = keptJoin kept ++ part (endOf kept) s
 abbrev pub isNotGreatSa : Final → Bool
 isNotGreatSa no-final = true
 isNotGreatSa (plain c) = true
+isNotGreatSa (plain-pair c d) = true
 isNotGreatSa (stacked c) = true
 isNotGreatSa kinzi = true
 isNotGreatSa great-sa = false
@@ -76,6 +77,7 @@ isBare m v f t = isNoMedial m && (isNoVowel v && isOpen f t)
 abbrev pub admits : Final → ℕ → Bool
 admits no-final x = true
 admits (plain c) x = true
+admits (plain-pair c d) x = true
 admits (stacked c) x = isFinalLetter x
 admits kinzi x = isFinalLetter x
 admits great-sa x = false
@@ -101,14 +103,31 @@ abbrev pub stepGreatSa : Row → Option Row
 stepGreatSa [] = none
 stepGreatSa (syllable h m v f t ∷ kept) = when (carriesFinal h && isOpen f t) (some (bare 0x101E ∷ syllable h m v great-sa t ∷ kept))
 
--- the letter that stood on top is the final g of the syllable before
-abbrev pub close : Final → Row → Option Row
-close g [] = none
-close g (syllable h m v f t ∷ kept) = when (carriesFinal h && isOpen f t) (some (syllable h m v g t ∷ kept))
+-- the final with the plain letter c more, the first or the second; with the stacked letter c more, the only one
+abbrev pub plainAnd : ℕ → Final → Option Final
+plainAnd c no-final = some (plain c)
+plainAnd c (plain b) = some (plain-pair b c)
+plainAnd c (plain-pair b d) = none
+plainAnd c (stacked b) = none
+plainAnd c kinzi = none
+plainAnd c great-sa = none
+
+abbrev pub stackedAnd : ℕ → Final → Option Final
+stackedAnd c no-final = some (stacked c)
+stackedAnd c (plain b) = none
+stackedAnd c (plain-pair b d) = none
+stackedAnd c (stacked b) = none
+stackedAnd c kinzi = none
+stackedAnd c great-sa = none
+
+-- the letter that stood on top is one more in the final of the syllable before
+abbrev pub close : (Final → Option Final) → Row → Option Row
+close more [] = none
+close more (syllable h m v f t ∷ kept) = when (carriesFinal h && isNoTone t) (onto (λ (g : Final). syllable h m v g t ∷ kept) (more f))
 
 -- 103A ends a vowel, or makes the letter on top a final
 abbrev pub killed : Option Vowel → Syllable → Row → Option Row
-killed none (syllable h m v f t) kept = when (isBare m v f t && isFinalLetter h) (close (plain h) kept)
+killed none (syllable h m v f t) kept = when (isBare m v f t && isFinalLetter h) (close (plainAnd h) kept)
 killed (some n) (syllable h m v f t) kept = when (carriesMarks h && isOpen f t) (some (syllable h m n f t ∷ kept))
 
 abbrev pub stepKiller : Row → Option Row
@@ -117,8 +136,9 @@ stepKiller (syllable h m v f t ∷ kept) = killed (vowelAnd 0x103A v) (syllable 
 
 -- 1039 makes the letter on top a stacked final, or a plain 1004 kinzi
 abbrev pub stacks : Final → Syllable → Row → Option Row
-stacks no-final (syllable h m v f t) kept = when (isBare m v f t && (isFinalLetter h && not (eqb h 0x1004))) (close (stacked h) kept)
+stacks no-final (syllable h m v f t) kept = when (isBare m v f t && (isFinalLetter h && not (eqb h 0x1004))) (close (stackedAnd h) kept)
 stacks (plain c) (syllable h m v f t) kept = when (eqb c 0x1004 && isNoTone t) (some (syllable h m v kinzi t ∷ kept))
+stacks (plain-pair c d) s kept = none
 stacks (stacked c) s kept = none
 stacks kinzi s kept = none
 stacks great-sa s kept = none
