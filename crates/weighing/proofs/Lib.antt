@@ -3,3 +3,4 @@ pub mod OrderOfNumbers
 pub mod Passing
 pub mod Laws
 pub mod Prefix
+pub mod Earlier

@@ -3,16 +3,15 @@
 use mathlib.Core.Path.{_≡_, refl, sym, ap, subst, _∙_}
 use mathlib.Core.Bool.{Bool, true, false, _&&_}
 use mathlib.Core.List.{List, [], _∷_, _++_, append-nil}
-use Prim.Native.Nat.{ℕ, _+_, _<_}
+use Prim.Native.Nat.{ℕ, _<_}
 use native.Mathlib.Omega.{arith}
 use borrow.Author.Tests.{eq-eqb, ne-eqb}
 use lib.Dec.{T, eqb}
 use lib.ListN.{length, take, drop}
 use Rattle.letters.specs.Marks.{MedialGroup, Vowel, ToneMark}
-use Rattle.letters.specs.Weights.{headWeight, independentVowelWeight, medialWeight, vowelWeight, toneWeight}
 use Rattle.formula.specs.Syllable.{Final, plain, stacked, kinzi, great-sa, syllable}
 use Rattle.formula.specs.Row.{Row}
-use Rattle.formula.specs.Weighing.{finalWeightOf, weightsOf, weights}
+use Rattle.formula.specs.Weighing.{finalWeightOf, secondFinalWeightOf, weightsOf, weights}
 use Rattle.formula.proofs.Lists.{sameList, isPrefix, isPrefixOfLists, prefix-append, begins-append, prefix-rest, prefix-transitive, sameList-equal, sameList-refl}
 use Rattle.weighing.specs.Order.{orderNumbers, inTurn, orderValues}
 use Rattle.weighing.specs.declared.order.Order.{Order}
@@ -84,29 +83,25 @@ begins-with-itself row = subst (λ (r : Row). T (beginsWith r row)) (append-nil 
 pub begins-transitive : (row query first : Row) → T (beginsWith row query) → T (beginsWith query first) → T (beginsWith row first)
 begins-transitive row query first t u = prefix-transitive sameList sameList-equal (weights first) (weights query) (weights row) u t
 
--- "a plain final in the query thus finds a stacked one": the last final of the query may have any form in the row, where its weight is the same
+-- "a plain final in the query thus finds a stacked one": the last final of the query may have any form in the row, where its weights are the same
 module _ (front rest : Row) (head : ℕ) (medial : MedialGroup) (vowel : Vowel) (tone : ToneMark) where
   abbrev with-final : Final → Row
   with-final final = front ++ (syllable head medial vowel final tone ∷ [])
 
-  pub finals-alike : (asked found : Final) → finalWeightOf asked ≡ finalWeightOf found → T (beginsWith (with-final found ++ rest) (with-final asked))
+  pub finals-alike : (asked found : Final) → finalWeightOf asked ≡ finalWeightOf found → secondFinalWeightOf asked ≡ secondFinalWeightOf found
+      → T (beginsWith (with-final found ++ rest) (with-final asked))
   unfolding weightsOf
-  finals-alike asked found e =
+  finals-alike asked found e d =
       let same : weights (with-final found) ≡ weights (with-final asked) =
-      weights-append front (syllable head medial vowel found tone ∷ [])
-      ∙ ap
-      (λ (w : ℕ).
-      weights front
-      ++ ((headWeight head ∷ medialWeight medial ∷ w ∷ (independentVowelWeight head + vowelWeight vowel) ∷ toneWeight tone ∷ []) ∷ []))
-      (sym e)
-      ∙ sym (weights-append front (syllable head medial vowel asked tone ∷ [])) in
+      weights-append front (syllable head medial vowel found tone ∷ []) ∙ rw (← e, ← d)
+      (sym (weights-append front (syllable head medial vowel asked tone ∷ []))) in
       subst (λ (l : List (List ℕ)). T (isPrefixOfLists l (weights (with-final found ++ rest)))) same (begins-with-first (with-final found) rest)
 
   pub plain-finds-stacked : (letter : ℕ) → T (beginsWith (with-final (stacked letter) ++ rest) (with-final (plain letter)))
-  plain-finds-stacked letter = finals-alike (plain letter) (stacked letter) refl
+  plain-finds-stacked letter = finals-alike (plain letter) (stacked letter) refl refl
 
   pub plain-finds-kinzi : T (beginsWith (with-final kinzi ++ rest) (with-final (plain 0x1004)))
-  plain-finds-kinzi = finals-alike (plain 0x1004) kinzi refl
+  plain-finds-kinzi = finals-alike (plain 0x1004) kinzi refl refl
 
   pub plain-finds-great-sa : T (beginsWith (with-final great-sa ++ rest) (with-final (plain 0x101E)))
-  plain-finds-great-sa = finals-alike (plain 0x101E) great-sa refl
+  plain-finds-great-sa = finals-alike (plain 0x101E) great-sa refl refl

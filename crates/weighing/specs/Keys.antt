@@ -1,4 +1,4 @@
--- Document 01, "Weights": "A key is held in 320 bytes, of which five a syllable are used. The rest are zero".
+-- Document 01, "Weights", and document 02, E5: "A key then needs 384 bytes", of which six a syllable are used. "The rest are zero".
 -- Assumes nothing.
 use mathlib.Core.List.{List, [], _∷_, _++_}
 use Prim.Native.Nat.{ℕ, _*_, _-_}
@@ -7,11 +7,11 @@ use Rattle.formula.specs.Limits.{limit, weightCount}
 use Rattle.formula.specs.Row.{Row}
 use Rattle.formula.specs.Weighing.{weightsOf}
 
--- the bytes of a key that are used: "five a syllable"
+-- the bytes of a key that are used: one for each weight of a syllable, six
 abbrev pub usedBytes : ℕ → ℕ
 usedBytes n = weightCount * n
 
--- "A key is held in 320 bytes"
+-- "A key then needs 384 bytes"
 abbrev pub keyLimit : ℕ
 keyLimit = usedBytes limit
 

@@ -1,3 +1,4 @@
 pub mod Order
 pub mod Keys
 pub mod Prefix
+pub mod Earlier
