@@ -14,7 +14,7 @@ use Rattle.letters.proofs.Picks.{or-no}
 use Rattle.letters.proofs.Tests.{or-left, or-second, is-true}
 use Rattle.formula.proofs.Lists.{both-left, both-right}
 use Rattle.formula.proofs.Pieces.{each-vowel, each-medial}
-use Rattle.formula.specs.Syllable.{Final, no-final, plain, stacked, kinzi, great-sa, syllable, carriesMarks, isNoMedial, isNoVowel, isFinal, finalText, headText}
+use Rattle.formula.specs.Syllable.{Final, no-final, plain, plain-pair, stacked, kinzi, great-sa, syllable, carriesMarks, isNoMedial, isNoVowel, isFinal, finalText, headText}
 use Rattle.formula.specs.Row.{Row, isRowAfter, joinAfter, Gives}
 use Rattle.rows.proofs.Sound.{Parts, apart, no-medial-text, no-vowel-text}
 use Rattle.rows.proofs.Complete.{final-consonant, first}
@@ -81,13 +81,20 @@ letter-quiet h t = is-false (eqb h 0x1025) (not-T (eqb h 0x1025) (λ u. rw (eqb�
 letter-above : (c : ℕ) (values : List ℕ) → T (isConsonant c) → Settled values → Above 16 (c ∷ values)
 letter-above c values t s = quiet-above c values (head-no-mark c (or-left (isConsonant c) _ t)) (letter-quiet c t) s
 
--- a final before what ranks as a tone or above
+-- a plain final before what ranks as a tone or above: it begins with a letter, so another may stand before it
+plain-above : (c : ℕ) (rest : List ℕ) → T (isFinalLetter c) → Above 14 rest → Above 14 (c ∷ 0x103A ∷ rest)
+unfolding isRunMark rank pick climbs
+plain-above c rest t a =
+    let b = letter-above c (0x103A ∷ rest) (final-consonant c t) (piece-above 13 (0x103A ∷ []) 14 rest tt a .settled) in
+    record { settled = b .settled; least = omega (arith, b .least) }
+
+-- and any other
 final-above : (f : Final) (rest : List ℕ) → T (isFinal f) → Above 14 rest → Above 14 (finalText f ++ rest)
 unfolding isRunMark rank pick climbs
 final-above no-final rest t a = a
-final-above (plain c) rest t a =
-    let b = letter-above c (0x103A ∷ rest) (final-consonant c t) (piece-above 13 (0x103A ∷ []) 14 rest tt a .settled) in
-    record { settled = b .settled; least = omega (arith, b .least) }
+final-above (plain c) rest t a = plain-above c rest t a
+final-above (plain-pair c d) rest t a =
+    plain-above c (d ∷ 0x103A ∷ rest) (both-left (isFinalLetter c) (isFinalLetter d) t) (plain-above d rest (both-right (isFinalLetter c) (isFinalLetter d) t) a)
 final-above (stacked c) rest t a =
     let b = letter-above c (0x1039 ∷ rest) (final-consonant c (both-left (isFinalLetter c) _ t)) (quiet-above 0x1039 rest refl refl (a .settled) .settled) in
     record { settled = b .settled; least = omega (arith, b .least) }
@@ -146,6 +153,7 @@ closing-before : (x : ℕ) (f : Final) (t : ToneMark) (rest : List ℕ) → T (i
     → StandsBefore x ((finalText f ++ toneText t) ++ rest)
 closing-before x no-final t rest i n after = tone-before x t rest n after
 closing-before x (plain c) t rest i n after = before-head x c (or-left (isConsonant c) _ (final-consonant c i))
+closing-before x (plain-pair c d) t rest i n after = before-head x c (or-left (isConsonant c) _ (final-consonant c (both-left (isFinalLetter c) (isFinalLetter d) i)))
 closing-before x (stacked c) t rest i n after = before-head x c (or-left (isConsonant c) _ (final-consonant c (both-left (isFinalLetter c) _ i)))
 closing-before x kinzi t rest i n after = before-head x 0x1004 tt
 closing-before x great-sa t rest i n after = tone-before x t rest n after

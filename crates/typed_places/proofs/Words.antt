@@ -19,6 +19,8 @@ words =
     ∷ (0x1025 ∷ 0x1038 ∷ 0x102E ∷ [], 0 ∷ 1 ∷ [])
     ∷ (0x1025 ∷ 0x103A ∷ [], 0 ∷ 1 ∷ [])
     ∷ (0x1025 ∷ 0x102E ∷ 0x102E ∷ [], 0 ∷ 2 ∷ [])
+    -- stored as 1000 1010 103A 1005 103A 1037: marks go behind marks of their own run alone
+    ∷ (0x1000 ∷ 0x1010 ∷ 0x103A ∷ 0x1005 ∷ 0x1037 ∷ 0x103A ∷ [], 0 ∷ 1 ∷ 2 ∷ 3 ∷ 5 ∷ 4 ∷ [])
     -- of equal marks the one typed first stands first
     ∷ (0x1000 ∷ 0x1038 ∷ 0x1038 ∷ 0x1037 ∷ [], 0 ∷ 3 ∷ 1 ∷ 2 ∷ [])
     ∷ []
