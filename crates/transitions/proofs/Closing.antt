@@ -1,6 +1,6 @@
 -- 103A and 1039 end a vowel, make kinzi, or make the letter on top the final of the syllable before, by the state as by the machine.
 -- Assumes nothing.
-use mathlib.Core.Path.{_≡_, refl, sym, subst, _∙_}
+use mathlib.Core.Path.{_≡_, refl, ap, sym, subst, _∙_}
 use mathlib.Core.Bool.{Bool, true, false, not, _&&_, _||_}
 use mathlib.Core.List.{[], _∷_}
 use mathlib.Core.Option.{Option, none, some}
@@ -12,46 +12,65 @@ use Rattle.letters.specs.Weights.{isFinalLetter}
 use Rattle.letters.proofs.Picks.{and-no-right}
 use Rattle.letters.proofs.Tests.{is-true, or-second, or-false}
 use Rattle.formula.proofs.Lists.{both-left, both-right}
-use Rattle.formula.specs.Syllable.{Final, no-final, plain, stacked, kinzi, great-sa, syllable, bare, carriesMarks, carriesFinal, isNoMedial, isNoVowel, isNoTone}
+use Rattle.formula.specs.Syllable.{Final, no-final, plain, plain-pair, stacked, kinzi, great-sa, syllable, bare, carriesMarks, carriesFinal, isNoMedial, isNoVowel, isNoTone}
 use Rattle.formula.specs.Row.{Row}
-use Rattle.rows.specs.Machine.{vowelAnd, when, KeptOk, isOpen, close, killed, stepKiller, stepStacker}
+use Rattle.rows.specs.Machine.{vowelAnd, when, onto, KeptOk, isOpen, plainAnd, stackedAnd, close, killed, stepKiller, stepStacker}
 use Rattle.rows.proofs.Sound.{apart}
-use Rattle.transitions.specs.State.{State, done, plain-final, nga-final, waiting, head-stays, head-closes, head-nga, headState, medialState, vowelState, finalState, toneState, isOpenTop, stateOf}
-use Rattle.transitions.specs.Transition.{Transition, refuse, to, is, isOpenState, onKiller, onStacker, vowelByte, finalBy, Makes, adds-vowel, makes-kinzi, closes, Agrees}
+use Rattle.transitions.specs.State.{State, done, pair-final, plain-final, nga-final, waiting, head-stays, head-second, head-closes, head-nga, Room, no-room, headState, medialState, vowelState, finalState, toneState, roomAfter, roomOnTop, stateOf}
+use Rattle.transitions.specs.Transition.{Transition, refuse, to, is, isOpenState, onKiller, onStacker, vowelByte, finalBy, Makes, adds-vowel, makes-kinzi, closes, closes-second, Agrees}
 use Rattle.transitions.specs.Tables.{same}
 use Rattle.transitions.proofs.Tested.{each-open, same-equal}
 use Rattle.transitions.proofs.Known.{carried, opened, letter-marks, open-state}
 use Rattle.transitions.proofs.Marked.{changed, grown, gained, Follows, if-marked, on-open, refused, shut}
 
--- 103A and 1039 on a head alone: it is the final g of the syllable before, where that is open and the letter may be one
+-- 103A and 1039 on a head alone: it is one more letter in the final of the syllable before, where that has room and the letter may be one
 close-none : (p : Bool) → when p none ≡ none
 close-none true = refl
 close-none false = refl
 
-module _ (x byte : ℕ) where
-  close-after : (p : Bool) (h y : ℕ) (g : Final) (n : MedialGroup) (u : Vowel) (f : Final) (t : ToneMark) (a : Row)
-      → T (carriesFinal y) → T (isOpen f t) → ((s : State) → finalState g s ≡ finalState g done) → (T p → T (isFinalLetter h)) → g ≡ finalBy x h
-      → Agrees x byte (pick p (to 0 0 (finalState g done)) refuse) (bare h ∷ syllable y n u f t ∷ a) (when p (some (syllable y n u g t ∷ a)))
-  unfolding pick
-  close-after true h y g n u no-final no-tone a c o e l q =
-      let made : Final → Type 0 = λ (k : Final). Makes x byte 0 0 (bare h ∷ syllable y n u no-final no-tone ∷ a) (syllable y n u k no-tone ∷ a) in
-      (syllable y n u g no-tone ∷ a, refl, sym (e _) ∙ carried (carriesFinal y) _ c, subst made (sym q) (closes (l tt)))
-  close-after false h y g n u f t a c o e l q = refl
+room-toned : (f : Final) (t : ToneMark) → T (not (isNoTone t)) → roomAfter f t ≡ no-room
+room-toned no-final dot e = refl
+room-toned no-final visarga e = refl
+room-toned (plain c) dot e = refl
+room-toned (plain c) visarga e = refl
+room-toned (plain-pair c d) t e = refl
+room-toned (stacked c) t e = refl
+room-toned kinzi t e = refl
+room-toned great-sa t e = refl
 
-  module _ (moved : State → Transition) (h : ℕ) (g : Final) (p : Bool) (stays : moved head-stays ≡ refuse)
-      (moves : moved (headState true h) ≡ pick p (to 0 0 (finalState g done)) refuse) (only : (s : State) → finalState g s ≡ finalState g done)
-      (letter : T p → T (isFinalLetter h)) (named : g ≡ finalBy x h) where
-    close-followed : (a : Row) → Agrees x byte (moved (headState (isOpenTop a) h)) (bare h ∷ a) (when p (close g a))
+module _ (x byte : ℕ) (moved : State → Transition) (h : ℕ) where
+  -- what the letter makes of a final without a tone, by the state that it has after it
+  abbrev Closes : Bool → Final → Option Final → Type 0
+  Closes p f none = moved (headState (roomAfter f no-tone) h) ≡ refuse
+  Closes p f (some g) =
+      (moved (headState (roomAfter f no-tone) h) ≡ pick p (to 0 0 (finalState g done)) refuse) × ((s : State) → finalState g s ≡ finalState g done)
+      × (T p → (y : ℕ) (n : MedialGroup) (u : Vowel) (a : Row) → Makes x byte 0 0 (bare h ∷ syllable y n u f no-tone ∷ a) (syllable y n u g no-tone ∷ a))
+
+  close-untoned : (p : Bool) (o : Option Final) (y : ℕ) (n : MedialGroup) (u : Vowel) (f : Final) (a : Row) → T (carriesFinal y) → Closes p f o
+      → Agrees x byte (moved (headState (roomAfter f no-tone) h)) (bare h ∷ syllable y n u f no-tone ∷ a)
+      (when p (onto (λ (g : Final). syllable y n u g no-tone ∷ a) o))
+  unfolding pick
+  close-untoned p none y n u f a c e = refused x byte _ _ _ e (close-none p)
+  close-untoned true (some g) y n u f a c e =
+      rw (e .0) (syllable y n u g no-tone ∷ a, refl, sym (e .1 _) ∙ carried (carriesFinal y) _ c, e .2 tt y n u a)
+  close-untoned false (some g) y n u f a c e = rw (e .0) refl
+
+  module _ (more : Final → Option Final) (p : Bool) (stays : moved head-stays ≡ refuse) (each : (f : Final) → Closes p f (more f)) where
+    toned : (f : Final) (t : ToneMark) → T (not (isNoTone t)) → moved (headState (roomAfter f t) h) ≡ refuse
+    toned f t e = ap (λ (room : Room). moved (headState room h)) (room-toned f t e) ∙ stays
+
+    close-followed : (a : Row) → Agrees x byte (moved (headState (roomOnTop a) h)) (bare h ∷ a) (when p (close more a))
+    unfolding pick
     close-followed [] = refused x byte _ (bare h ∷ []) (when p none) stays (close-none p)
-    close-followed (syllable y n u f t ∷ a) = go (carriesFinal y && isOpen f t) refl
+    close-followed (syllable y n u f t ∷ a) = go (carriesFinal y) refl t
       where
-        go : (b : Bool) → (carriesFinal y && isOpen f t) ≡ b
-            → Agrees x byte (moved (headState b h)) (bare h ∷ syllable y n u f t ∷ a) (when p (when b (some (syllable y n u g t ∷ a))))
-        go true e =
-            let i : T (carriesFinal y && isOpen f t) = subst T (sym e) tt in
-            rw moves
-            (close-after p h y g n u f t a (both-left (carriesFinal y) (isOpen f t) i) (both-right (carriesFinal y) (isOpen f t) i) only letter named)
-        go false e = refused x byte _ (bare h ∷ syllable y n u f t ∷ a) (when p none) stays (close-none p)
+        go : (c : Bool) → carriesFinal y ≡ c → (t : ToneMark)
+            → Agrees x byte (moved (headState (pick c (roomAfter f t) no-room) h)) (bare h ∷ syllable y n u f t ∷ a)
+            (when p (when (c && isNoTone t) (onto (λ (g : Final). syllable y n u g t ∷ a) (more f))))
+        go true e no-tone = close-untoned p (more f) y n u f a (subst T (sym e) tt) (each f)
+        go true e dot = refused x byte _ _ _ (toned f dot tt) (close-none p)
+        go true e visarga = refused x byte _ _ _ (toned f visarga tt) (close-none p)
+        go false e t = refused x byte _ _ _ stays (close-none p)
 
 killer-stays : onKiller head-stays ≡ refuse
 unfolding pick
@@ -63,6 +82,11 @@ killer-moves true true = refl
 killer-moves true false = refl
 killer-moves false q = refl
 
+killer-moves-second : (f : Bool) → onKiller (pick f head-second head-stays) ≡ pick f (to 0 0 pair-final) refuse
+unfolding pick
+killer-moves-second true = refl
+killer-moves-second false = refl
+
 stacker-stays : onStacker head-stays ≡ refuse
 unfolding pick
 stacker-stays = refl
@@ -72,6 +96,11 @@ unfolding pick
 stacker-moves true true = refl
 stacker-moves true false = refl
 stacker-moves false q = refl
+
+stacker-moves-not : (f : Bool) → onStacker (pick f head-second head-stays) ≡ refuse
+unfolding pick
+stacker-moves-not true = refl
+stacker-moves-not false = refl
 
 -- neither closes anything where the last syllable is not open, or carries no marks
 no-letter : (h : ℕ) → carriesMarks h ≡ false → isFinalLetter h ≡ false
@@ -94,9 +123,9 @@ killerRight m v s =
     || (grown vowelByte v (vowelAnd 0x103A v)
     && same (onKiller (vowelState v (medialState m s))) (changed vowelByte v (λ (n : Vowel). vowelState n (medialState m s)) (vowelAnd 0x103A v)))
 
-killer-right : (m : MedialGroup) (v : Vowel) (b : Bool) (h : ℕ) → T (killerRight m v (headState b h))
+killer-right : (m : MedialGroup) (v : Vowel) (room : Room) (h : ℕ) → T (killerRight m v (headState room h))
 unfolding pick
-killer-right m v b h = each-open killerRight tt m v b h
+killer-right m v room h = each-open killerRight tt m v room h
 
 not-bare : (n u l : Bool) → (n && u) ≡ false → ((n && (u && true)) && l) ≡ false
 not-bare true true l e = absurd (subst T e tt)
@@ -105,7 +134,7 @@ not-bare false u l e = refl
 
 killed-marked : (x h : ℕ) (m : MedialGroup) (v : Vowel) (a : Row) (o : Option Vowel) → T (carriesMarks h) → (isNoMedial m && isNoVowel v) ≡ false
     → T (grown vowelByte v o)
-    → Agrees x 3 (changed vowelByte v (λ (n : Vowel). vowelState n (medialState m (headState (isOpenTop a) h))) o)
+    → Agrees x 3 (changed vowelByte v (λ (n : Vowel). vowelState n (medialState m (headState (roomOnTop a) h))) o)
     (syllable h m v no-final no-tone ∷ a) (killed o (syllable h m v no-final no-tone) a)
 killed-marked x h m v a none c e t = rw (not-bare (isNoMedial m) (isNoVowel v) (isFinalLetter h) e) refl
 killed-marked x h m v a (some n) c e t =
@@ -125,19 +154,32 @@ bare-cases P m v at-bare at-rest = go (isNoMedial m && isNoVowel v) refl
     go false e = at-rest e
 
 module _ (x : ℕ) (y : x ≡ 0x103A) where
-  killer-named : (h : ℕ) → plain h ≡ finalBy x h
+  killer-named : (h : ℕ) → finalBy x h ≡ plain h
   unfolding pick
   killer-named h = rw y refl
+
+  killer-closes : (h : ℕ) (f : Final) → Closes x 3 onKiller h (isFinalLetter h) f (plainAnd h f)
+  unfolding pick
+  killer-closes h no-final = (
+    killer-moves (isFinalLetter h) (eqb h 0x1004),
+    λ s. refl,
+    λ l i n u a. subst (λ (g : Final). Makes x 3 0 0 (bare h ∷ syllable i n u no-final no-tone ∷ a) (syllable i n u g no-tone ∷ a)) (killer-named h)
+        (closes l),
+  )
+  killer-closes h (plain b) = (killer-moves-second (isFinalLetter h), λ s. refl, λ l i n u a. closes-second y l)
+  killer-closes h (plain-pair b d) = killer-stays
+  killer-closes h (stacked b) = killer-stays
+  killer-closes h kinzi = killer-stays
+  killer-closes h great-sa = killer-stays
 
   killer-open : (h : ℕ) (m : MedialGroup) (v : Vowel) (f : Final) (t : ToneMark) (a : Row) → T (carriesMarks h) → T (isOpen f t)
       → Follows x 3 onKiller stepKiller (syllable h m v f t ∷ a)
   killer-open h m v no-final no-tone a c o =
       bare-cases (λ (n : MedialGroup). λ (u : Vowel). Follows x 3 onKiller stepKiller (syllable h n u no-final no-tone ∷ a))
       m v
-      (on-open x 3 onKiller _ h (group neither false false) no-vowel a (λ (b : Bool). when (isFinalLetter h) (close (plain h) a)) c refl
-      (close-followed x 3 onKiller h (plain h) (isFinalLetter h) killer-stays (killer-moves (isFinalLetter h) (eqb h 0x1004)) (λ s. refl)
-      (λ l. l) (killer-named h) a))
-      (λ e. let r = or-second (isNoMedial m && isNoVowel v) _ e (killer-right m v (isOpenTop a) h) in
+      (on-open x 3 onKiller _ h (group neither false false) no-vowel a (λ (b : Bool). when (isFinalLetter h) (close (plainAnd h) a)) c refl
+      (close-followed x 3 onKiller h (plainAnd h) (isFinalLetter h) killer-stays (killer-closes h) a))
+      (λ e. let r = or-second (isNoMedial m && isNoVowel v) _ e (killer-right m v (roomOnTop a) h) in
       on-open x 3 onKiller _ h m v a (λ (b : Bool). killed (vowelAnd 0x103A v) (syllable h m v no-final no-tone) a) c
       (same-equal _ _ (both-right (grown vowelByte v (vowelAnd 0x103A v)) _ r))
       (killed-marked x h m v a (vowelAnd 0x103A v) c e (both-left (grown vowelByte v (vowelAnd 0x103A v)) _ r)))
@@ -159,9 +201,27 @@ killer-followed x y (syllable h m v f t ∷ a) k =
 abbrev stackerRight : MedialGroup → Vowel → State → Bool
 stackerRight m v s = (isNoMedial m && isNoVowel v) || same (onStacker (vowelState v (medialState m s))) refuse
 
-stacker-right : (m : MedialGroup) (v : Vowel) (b : Bool) (h : ℕ) → T (stackerRight m v (headState b h))
+stacker-right : (m : MedialGroup) (v : Vowel) (room : Room) (h : ℕ) → T (stackerRight m v (headState room h))
 unfolding pick
-stacker-right m v b h = each-open stackerRight tt m v b h
+stacker-right m v room h = each-open stackerRight tt m v room h
+
+stacker-named : (x : ℕ) → x ≡ 0x1039 → (h : ℕ) → finalBy x h ≡ stacked h
+unfolding pick
+stacker-named x y h = rw y refl
+
+stacker-closes : (x : ℕ) → x ≡ 0x1039 → (h : ℕ) (f : Final) → Closes x 2 onStacker h (isFinalLetter h && not (eqb h 0x1004)) f (stackedAnd h f)
+unfolding pick
+stacker-closes x y h no-final = (
+  stacker-moves (isFinalLetter h) (eqb h 0x1004),
+  λ s. refl,
+  λ l i n u a. subst (λ (g : Final). Makes x 2 0 0 (bare h ∷ syllable i n u no-final no-tone ∷ a) (syllable i n u g no-tone ∷ a)) (stacker-named x y h)
+      (closes (both-left (isFinalLetter h) (not (eqb h 0x1004)) l)),
+)
+stacker-closes x y h (plain b) = stacker-moves-not (isFinalLetter h)
+stacker-closes x y h (plain-pair b d) = stacker-stays
+stacker-closes x y h (stacked b) = stacker-stays
+stacker-closes x y h kinzi = stacker-stays
+stacker-closes x y h great-sa = stacker-stays
 
 stacker-open : (x : ℕ) → x ≡ 0x1039 → (h : ℕ) (m : MedialGroup) (v : Vowel) (a : Row) → T (carriesMarks h)
     → Follows x 2 onStacker stepStacker (syllable h m v no-final no-tone ∷ a)
@@ -170,18 +230,18 @@ stacker-open x y h m v a c =
     bare-cases (λ (n : MedialGroup). λ (u : Vowel). Follows x 2 onStacker stepStacker (syllable h n u no-final no-tone ∷ a))
     m v
     (on-open x 2 onStacker _ h (group neither false false) no-vowel a
-    (λ (b : Bool). when (isFinalLetter h && not (eqb h 0x1004)) (close (stacked h) a)) c refl
-    (close-followed x 2 onStacker h (stacked h) (isFinalLetter h && not (eqb h 0x1004)) stacker-stays
-    (stacker-moves (isFinalLetter h) (eqb h 0x1004)) (λ s. refl) (both-left (isFinalLetter h) (not (eqb h 0x1004))) (rw y refl) a))
+    (λ (b : Bool). when (isFinalLetter h && not (eqb h 0x1004)) (close (stackedAnd h) a)) c refl
+    (close-followed x 2 onStacker h (stackedAnd h) (isFinalLetter h && not (eqb h 0x1004)) stacker-stays (stacker-closes x y h) a))
     (λ e. on-open x 2 onStacker refuse h m v a (λ (b : Bool). stepStacker (syllable h m v no-final no-tone ∷ a)) c
-    (same-equal _ _ (or-second (isNoMedial m && isNoVowel v) _ e (stacker-right m v (isOpenTop a) h)))
+    (same-equal _ _ (or-second (isNoMedial m && isNoVowel v) _ e (stacker-right m v (roomOnTop a) h)))
     (rw (not-bare (isNoMedial m) (isNoVowel v) (isFinalLetter h && not (eqb h 0x1004)) e) refl))
 
--- and after a tone, a stacked final, kinzi or 103F
-stack-refused : (c : Bool) (t : ToneMark) (s : State) → T (is waiting s || is done s) → onStacker (pick c (toneState t s) done) ≡ refuse
+-- and after a tone, two finals, a stacked final, kinzi or 103F
+stack-refused : (c : Bool) (t : ToneMark) (s : State) → T (is waiting s || (is done s || is pair-final s)) → onStacker (pick c (toneState t s) done) ≡ refuse
 unfolding pick
 stack-refused true no-tone waiting i = refl
 stack-refused true no-tone done i = refl
+stack-refused true no-tone pair-final i = refl
 stack-refused true dot s i = refl
 stack-refused true visarga s i = refl
 stack-refused false t s i = refl
@@ -224,7 +284,7 @@ unfolding pick
 stacker-followed x y [] k = refused x 2 (onStacker done) [] none (stack-refused true no-tone done tt) refl
 stacker-followed x y (syllable h m v no-final t ∷ a) k =
     if-marked x 2 onStacker stepStacker h m v no-final t a (k .1) refl
-    (toned-refused (carriesFinal h) t _ (opened m v (isOpenTop a) h))
+    (toned-refused (carriesFinal h) t _ (opened m v (roomOnTop a) h))
     (λ e. rw (no-closing (carriesMarks h) (isNoTone t) (isNoMedial m) (isNoVowel v) (isFinalLetter h && not (eqb h 0x1004)) e
     (λ i. rw (no-letter h i) refl)) refl)
     (stack-open t)
@@ -234,6 +294,7 @@ stacker-followed x y (syllable h m v no-final t ∷ a) k =
     stack-open no-tone c o = stacker-open x y h m v a c
 stacker-followed x y (syllable h m v (plain c) t ∷ a) k =
     kinzi-followed x (carriesFinal h) h m v c t a (or-false (carriesFinal h) (apart h m v (plain c) t (k .1) .closing)) refl
+stacker-followed x y (syllable h m v (plain-pair c d) t ∷ a) k = refused x 2 _ _ none (stack-refused (carriesFinal h) t pair-final tt) refl
 stacker-followed x y (syllable h m v (stacked c) t ∷ a) k = refused x 2 _ _ none (stack-refused (carriesFinal h) t waiting tt) refl
 stacker-followed x y (syllable h m v kinzi t ∷ a) k = refused x 2 _ _ none (stack-refused (carriesFinal h) t waiting tt) refl
 stacker-followed x y (syllable h m v great-sa t ∷ a) k = refused x 2 _ _ none (stack-refused (carriesFinal h) t done tt) refl

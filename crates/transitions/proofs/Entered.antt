@@ -8,7 +8,7 @@ use Prim.Native.Nat.{ℕ, zero, suc, _+_, _*_, _/_, _%_, _^_, _≤_, _<_}
 use native.Mathlib.Decide.{decLt}
 use native.Mathlib.Nat.{le-of-suc-le-suc, not-suc-le-zero}
 use native.Mathlib.Omega.{arith}
-use lib.Dec.{T, eqb, leb, eqb→eq, leb→le}
+use lib.Dec.{T, eqb, eqb→eq}
 use lib.ListN.{length, getD}
 use borrow.Author.Tests.{ne-eqb}
 use Rattle.letters.specs.Choice.{pick}
@@ -23,8 +23,8 @@ use Rattle.formula.proofs.Lists.{both-left, both-right}
 use Rattle.formula.specs.Syllable.{carriesMarks, carriesFinal}
 use Rattle.formula.specs.Row.{Row}
 use Rattle.rows.specs.Machine.{endOf, KeptOk, isNotGreatSa, step}
-use Rattle.transitions.specs.State.{State, done, plain-final, nga-final, waiting, head-stays, head-closes, head-nga, after-ya-ra, after-wa, after-ha, with-e, with-e-aa, with-i, with-u, with-vowel, stateOf, stateNumber}
-use Rattle.transitions.specs.Transition.{Transition, refuse, to, transition, byteOf, beginsBy, Makes, begins, begins-great-sa, adds-medial, adds-vowel, adds-tone, makes-kinzi, closes, Agrees}
+use Rattle.transitions.specs.State.{State, done, pair-final, plain-final, nga-final, waiting, head-stays, head-second, head-closes, head-nga, after-ya-ra, after-wa, after-ha, with-e, with-e-aa, with-i, with-u, with-vowel, stateOf, stateNumber, stateCount}
+use Rattle.transitions.specs.Transition.{Transition, refuse, to, transition, byteOf, beginsBy, Makes, begins, begins-great-sa, adds-medial, adds-vowel, adds-tone, makes-kinzi, closes, closes-second, Agrees}
 use Rattle.transitions.specs.Tables.{stateAt, entry, amountOf, entryOf, gainOf, classIn, classOf, examples, rulesAt, rulesIn, rulesOf, nextBy, gainBy}
 use Rattle.transitions.proofs.Tested.{numbered}
 use Rattle.transitions.proofs.Followed.{followed}
@@ -81,32 +81,32 @@ abbrev gainIn : ℕ → ℕ → ℕ
 gainIn class q = gainBy q (rulesIn class)
 
 ruleRight : ℕ → Bool
-ruleRight x = upTo (λ (q : ℕ). eqb (entryIn (classOf x) q) (entryOf q x) && (eqb (entryOf q x) 96 || eqb (gainIn (classOf x) q) (gainOf q x))) 15
+ruleRight x = upTo (λ (q : ℕ). eqb (entryIn (classOf x) q) (entryOf q x) && (eqb (entryOf q x) 96 || eqb (gainIn (classOf x) q) (gainOf q x))) stateCount
 
 tested : (x : ℕ) → 0x1000 ≤ x → x ≤ 0x104F → T (ruleRight x)
 unfolding ruleRight entryOf gainOf classOf rulesIn pick carriesMarks carriesFinal
 tested x l h = on-chart ruleRight tt x l h
 
-refusing : (q : ℕ) → q < 15 → T (eqb (entryIn 3 q) 96)
+refusing : (q : ℕ) → q < stateCount → T (eqb (entryIn 3 q) 96)
 unfolding rulesIn pick
-refusing q h = below (λ (k : ℕ). eqb (entryIn 3 k) 96) 15 tt q h
+refusing q h = below (λ (k : ℕ). eqb (entryIn 3 k) 96) stateCount tt q h
 
-tested-at : (q x : ℕ) → q < 15 → 0x1000 ≤ x → x ≤ 0x104F
+tested-at : (q x : ℕ) → q < stateCount → 0x1000 ≤ x → x ≤ 0x104F
     → T (eqb (entryIn (classOf x) q) (entryOf q x) && (eqb (entryOf q x) 96 || eqb (gainIn (classOf x) q) (gainOf q x)))
 unfolding ruleRight
 tested-at q x h l u =
-    below (λ (k : ℕ). eqb (entryIn (classOf x) k) (entryOf k x) && (eqb (entryOf k x) 96 || eqb (gainIn (classOf x) k) (gainOf k x))) 15
+    below (λ (k : ℕ). eqb (entryIn (classOf x) k) (entryOf k x) && (eqb (entryOf k x) 96 || eqb (gainIn (classOf x) k) (gainOf k x))) stateCount
     (tested x l u) q h
 
 -- what the rules of a value say at a state is what the value does there
-pub next-entry : (q x : ℕ) → q < 15 → nextBy q (rulesOf x) ≡ entryOf q x
+pub next-entry : (q x : ℕ) → q < stateCount → nextBy q (rulesOf x) ≡ entryOf q x
 next-entry q x h =
     chart-or-foreign (λ (y : ℕ). entryIn (classOf y) q ≡ entryOf q y)
     (λ y l u. eqb→eq (entryIn (classOf y) q) (entryOf q y) (both-left (eqb (entryIn (classOf y) q) (entryOf q y)) _ (tested-at q y h l u)))
     (λ y e. ap (λ (k : ℕ). entryIn k q) (foreign-class y e) ∙ eqb→eq (entryIn 3 q) 96 (refusing q h) ∙ sym (foreign-entry q y e)) x
 
 -- and so is what it adds
-pub next-gain : (q x : ℕ) → q < 15 → (entryOf q x ≡ 96 → ⊥) → gainBy q (rulesOf x) ≡ gainOf q x
+pub next-gain : (q x : ℕ) → q < stateCount → (entryOf q x ≡ 96 → ⊥) → gainBy q (rulesOf x) ≡ gainOf q x
 next-gain q x h n =
     chart-or-foreign (λ (y : ℕ). (entryOf q y ≡ 96 → ⊥) → gainIn (classOf y) q ≡ gainOf q y)
     (λ y l u m. eqb→eq (gainIn (classOf y) q) (gainOf q y)
@@ -115,13 +115,13 @@ next-gain q x h n =
 
 -- what a value that is read says by itself: whether it begins a syllable
 tells : ℕ → Bool
-tells x = upTo (λ (q : ℕ). eqb (entryOf q x) 96 || same (beginsBy x) (eqb (entryOf q x / 32) 2)) 15
+tells x = upTo (λ (q : ℕ). eqb (entryOf q x) 96 || same (beginsBy x) (eqb (entryOf q x / 32) 2)) stateCount
 
 tells-tested : (x : ℕ) → 0x1000 ≤ x → x ≤ 0x104F → T (tells x)
 unfolding tells entryOf beginsBy pick carriesMarks carriesFinal
 tells-tested x l h = on-chart tells tt x l h
 
-pub begins-told : (q x : ℕ) → q < 15 → (entryOf q x ≡ 96 → ⊥) → beginsBy x ≡ eqb (entryOf q x / 32) 2
+pub begins-told : (q x : ℕ) → q < stateCount → (entryOf q x ≡ 96 → ⊥) → beginsBy x ≡ eqb (entryOf q x / 32) 2
 unfolding tells
 begins-told q x h n =
     chart-or-foreign (λ (y : ℕ). (entryOf q y ≡ 96 → ⊥) → beginsBy y ≡ eqb (entryOf q y / 32) 2)
@@ -130,7 +130,7 @@ begins-told q x h n =
     (λ y e m. absurd (m (foreign-entry q y e))) x n
   where
     told-at : (y : ℕ) → 0x1000 ≤ y → y ≤ 0x104F → T (eqb (entryOf q y) 96 || same (beginsBy y) (eqb (entryOf q y / 32) 2))
-    told-at y l u = below (λ (k : ℕ). eqb (entryOf k y) 96 || same (beginsBy y) (eqb (entryOf k y / 32) 2)) 15 (tells-tested y l u) q h
+    told-at y l u = below (λ (k : ℕ). eqb (entryOf k y) 96 || same (beginsBy y) (eqb (entryOf k y / 32) 2)) stateCount (tells-tested y l u) q h
 
 pub makes-length : {x byte d a : ℕ} {kept b : Row} → Makes x byte d a kept b → length b + 1 ≡ length kept + d
 makes-length (begins h) = omega arith
@@ -140,6 +140,7 @@ makes-length (adds-vowel e) = omega arith
 makes-length (adds-tone e) = omega arith
 makes-length makes-kinzi = omega arith
 makes-length (closes l) = omega arith
+makes-length (closes-second y l) = omega arith
 
 -- what an entry that is no refusal says of the machine's step: the row after it, its state and what was made of the row before
 pub record Moves (x e gain : ℕ) (kept : Row) (o : Option Row) : Type 0 where
@@ -155,22 +156,24 @@ pub record Enters (x e gain : ℕ) (kept : Row) (o : Option Row) : Type 0 where
   pub refuses : e ≡ 96 → o ≡ none
   pub moves : (e ≡ 96 → ⊥) → Moves x e gain kept o
 
-pub state-small : (s : State) → T (leb (stateNumber s) 14)
-state-small done = tt
-state-small plain-final = tt
-state-small nga-final = tt
-state-small waiting = tt
-state-small head-stays = tt
-state-small head-closes = tt
-state-small head-nga = tt
-state-small after-ya-ra = tt
-state-small after-wa = tt
-state-small after-ha = tt
-state-small with-e = tt
-state-small with-e-aa = tt
-state-small with-i = tt
-state-small with-u = tt
-state-small with-vowel = tt
+pub state-small : (s : State) → stateNumber s < stateCount
+state-small done = omega arith
+state-small pair-final = omega arith
+state-small plain-final = omega arith
+state-small nga-final = omega arith
+state-small waiting = omega arith
+state-small head-stays = omega arith
+state-small head-second = omega arith
+state-small head-closes = omega arith
+state-small head-nga = omega arith
+state-small after-ya-ra = omega arith
+state-small after-wa = omega arith
+state-small after-ha = omega arith
+state-small with-e = omega arith
+state-small with-e-aa = omega arith
+state-small with-i = omega arith
+state-small with-u = omega arith
+state-small with-vowel = omega arith
 
 small-change : {x byte d a : ℕ} {kept b : Row} → Makes x byte d a kept b → d ≤ 2
 small-change (begins h) = omega arith
@@ -180,13 +183,14 @@ small-change (adds-vowel e) = omega arith
 small-change (adds-tone e) = omega arith
 small-change makes-kinzi = omega arith
 small-change (closes l) = omega arith
+small-change (closes-second y l) = omega arith
 
 enters-by : (x : ℕ) (t : Transition) (e gain : ℕ) (kept : Row) (o : Option Row) → e ≡ entry t → gain ≡ amountOf t * 2 ^ (8 * byteOf (kindOf x))
     → ((e ≡ 96 → ⊥) → beginsBy x ≡ eqb (e / 32) 2) → Agrees x (byteOf (kindOf x)) t kept o → Enters x e gain kept o
 enters-by x refuse e gain kept o q g b a = record { refuses = λ _. a; moves = λ n. absurd (n q) }
 enters-by x (to d m s) e gain kept o q g b a =
     let l : d ≤ 2 = small-change (a .3) in
-    let k : stateNumber s ≤ 14 = leb→le _ 14 (state-small s) in
+    let k : stateNumber s < stateCount = state-small s in
     let r : e % 32 ≡ stateNumber s = omega arith in
     let p : e / 32 ≡ d = omega arith in
     record {
@@ -211,4 +215,4 @@ enters x kept k n state e =
     enters-by x (transition (kindOf x) x (stateOf kept)) (entryOf state x) (gainOf state x) kept (step kept x)
     (ap (λ (t : State). entry (transition (kindOf x) x t)) s)
     (ap (λ (t : State). amountOf (transition (kindOf x) x t) * 2 ^ (8 * byteOf (kindOf x))) s)
-    (begins-told state x (let h : stateNumber (stateOf kept) ≤ 14 = leb→le _ 14 (state-small (stateOf kept)) in omega arith)) (followed x kept k n)
+    (begins-told state x (let h : stateNumber (stateOf kept) < stateCount = state-small (stateOf kept) in omega arith)) (followed x kept k n)

@@ -1,6 +1,6 @@
 -- The transition of the state is the machine's step: the same refusals, the state of the new row, and what it makes of the row.
 -- Assumes nothing.
-use mathlib.Core.Path.{_≡_, refl, ap, sym, _∙_}
+use mathlib.Core.Path.{_≡_, refl, sym, _∙_}
 use mathlib.Core.Bool.{Bool, true, false, not, _&&_}
 use mathlib.Core.List.{[], _∷_}
 use mathlib.Core.Option.{Option, none, some}
@@ -16,30 +16,35 @@ use Rattle.letters.specs.declared.kind.Kind.the-variants.{Consonant, Independen
 use Rattle.letters.proofs.Picks.{and-no-right}
 use Rattle.formula.proofs.Classes.{inClass, kind-class, head-of, within-bounds}
 use Rattle.formula.proofs.Lists.{both-left, both-right}
-use Rattle.formula.specs.Syllable.{Final, no-final, plain, stacked, kinzi, great-sa, syllable, bare, carriesMarks, carriesFinal, isNoTone, isClosed}
+use Rattle.formula.specs.Syllable.{Final, no-final, plain, plain-pair, stacked, kinzi, great-sa, syllable, bare, carriesMarks, carriesFinal, isNoTone, isClosed}
 use Rattle.formula.specs.Row.{Row}
 use Rattle.rows.specs.Machine.{toneOf, when, onto, endOf, KeptOk, isNotGreatSa, admits, stepHead, stepTone, stepGreatSa, act, step}
-use Rattle.transitions.specs.State.{State, done, head-stays, headState, begunState, toneState, isOpenTop, stateOf}
-use Rattle.transitions.specs.Transition.{refuse, to, isOpenState, takesHead, onHead, onTone, onGreatSa, transition, byteOf, begins, begins-great-sa, adds-tone, Agrees}
+use Rattle.transitions.specs.State.{State, done, head-stays, Room, no-room, headState, begunState, toneState, roomOnTop, stateOf}
+use Rattle.transitions.specs.Transition.{refuse, to, takesHead, roomAt, onHead, onTone, onGreatSa, transition, byteOf, begins, begins-great-sa, adds-tone, Agrees}
 use Rattle.transitions.proofs.Tested.{in-class}
-use Rattle.transitions.proofs.Known.{admits-is, known, open-is}
+use Rattle.transitions.proofs.Known.{admits-is, known, room-is}
 use Rattle.transitions.proofs.Marked.{Follows, medial-followed, vowel-followed}
 use Rattle.transitions.proofs.Closing.{killer-followed, stacker-followed}
 
-pushed : (x byte : ℕ) (kept : Row) (p q o : Bool) → q ≡ p → o ≡ isOpenTop kept → T (isHead x)
-    → Agrees x byte (pick p (to 2 0 (pick (carriesFinal x) (begunState o x) done)) refuse) kept (when q (some (bare x ∷ kept)))
+pushed : (x byte : ℕ) (kept : Row) (p q : Bool) (room : Room) → q ≡ p → room ≡ roomOnTop kept → T (isHead x)
+    → Agrees x byte (pick p (to 2 0 (pick (carriesFinal x) (begunState room x) done)) refuse) kept (when q (some (bare x ∷ kept)))
 unfolding pick
-pushed x byte kept true q o e i h = rw (e, i) (bare x ∷ kept, refl, refl, begins h)
-pushed x byte kept false q o e i h = rw e refl
+pushed x byte kept true q room e i h = rw (e, i) (bare x ∷ kept, refl, refl, begins h)
+pushed x byte kept false q room e i h = rw e refl
 
 head-followed : (x byte : ℕ) (kept : Row) → T (isHead x) → KeptOk kept → T (isNotGreatSa (endOf kept)) → Follows x byte (onHead x) (stepHead x) kept
 head-followed x byte kept h k n =
-    pushed x byte kept (takesHead x (stateOf kept)) (admits (endOf kept) x) (isOpenState (stateOf kept)) (admits-is x kept k n) (open-is kept) h
+    pushed x byte kept (takesHead x (stateOf kept)) (admits (endOf kept) x) (roomAt (stateOf kept)) (admits-is x kept k n) (room-is kept) h
 
 -- 103F
 great-sa-shut : (y h : ℕ) (m : MedialGroup) (v : Vowel) (t : ToneMark) (a : Row)
-    → headState (isOpenTop (syllable h m v great-sa t ∷ a)) y ≡ head-stays
-great-sa-shut y h m v t a = ap (λ (b : Bool). headState b y) (and-no-right (carriesFinal h) false refl)
+    → headState (roomOnTop (syllable h m v great-sa t ∷ a)) y ≡ head-stays
+unfolding pick
+great-sa-shut y h m v t a = go (carriesFinal h)
+  where
+    go : (c : Bool) → headState (pick c no-room no-room) y ≡ head-stays
+    go true = refl
+    go false = refl
 
 module _ (x byte : ℕ) (y : x ≡ 0x103F) where
   great-sa-on : (p q : Bool) (h : ℕ) (m : MedialGroup) (v : Vowel) (t : ToneMark) (a : Row) → p ≡ q
@@ -60,6 +65,7 @@ module _ (x byte : ℕ) (y : x ≡ 0x103F) where
   great-sa-followed [] = refl
   great-sa-followed (syllable h m v no-final t ∷ a) = great-sa-on _ _ h m v t a (known h m v no-final t a .0)
   great-sa-followed (syllable h m v (plain c) t ∷ a) = great-sa-no _ (carriesFinal h) _ _ (known h m v (plain c) t a .0)
+  great-sa-followed (syllable h m v (plain-pair c d) t ∷ a) = great-sa-no _ (carriesFinal h) _ _ (known h m v (plain-pair c d) t a .0)
   great-sa-followed (syllable h m v (stacked c) t ∷ a) = great-sa-no _ (carriesFinal h) _ _ (known h m v (stacked c) t a .0)
   great-sa-followed (syllable h m v kinzi t ∷ a) = great-sa-no _ (carriesFinal h) _ _ (known h m v kinzi t a .0)
   great-sa-followed (syllable h m v great-sa t ∷ a) = great-sa-no _ (carriesFinal h) _ _ (known h m v great-sa t a .0)

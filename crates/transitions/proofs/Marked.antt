@@ -18,7 +18,7 @@ use Rattle.formula.specs.Syllable.{Final, no-final, syllable, carriesMarks, car
 use Rattle.formula.specs.Row.{Row}
 use Rattle.rows.specs.Machine.{medialAnd, vowelAnd, when, onto, KeptOk, isOpen, stepMedial, stepVowel}
 use Rattle.formula.proofs.Classes.{within-bounds, mark-bounds}
-use Rattle.transitions.specs.State.{State, done, plain-final, nga-final, waiting, with-vowel, headState, medialState, vowelState, isOpenTop, stateOf}
+use Rattle.transitions.specs.State.{State, done, pair-final, plain-final, nga-final, waiting, with-vowel, Room, headState, medialState, vowelState, roomOnTop, stateOf}
 use Rattle.transitions.specs.Transition.{Transition, refuse, to, isOpenState, onMedial, onVowel, onKiller, vowelByte, Makes, adds-medial, adds-vowel, Agrees}
 use Rattle.transitions.specs.Tables.{same}
 use Rattle.transitions.proofs.Tested.{each-open, everywhere, in-class, same-equal}
@@ -53,6 +53,7 @@ pub record Shut (x : ℕ) (s : State) : Type 0 where
 pub shut : (x : ℕ) (s : State) → T (not (isOpenState s)) → Shut x s
 unfolding pick
 shut x done t = record { medial = refl; vowel = refl; killer = refl }
+shut x pair-final t = record { medial = refl; vowel = refl; killer = refl }
 shut x plain-final t = record { medial = refl; vowel = refl; killer = refl }
 shut x nga-final t = record { medial = refl; vowel = refl; killer = refl }
 shut x waiting t = record { medial = refl; vowel = refl; killer = refl }
@@ -101,7 +102,7 @@ module _ (x byte : ℕ) (moved : State → Transition) (step : Row → Option Ro
 
 -- what is shown of the state of an open syllable and of what the machine does where the head carries marks
 pub on-open : (x byte : ℕ) (moved : State → Transition) (u : Transition) (h : ℕ) (m : MedialGroup) (v : Vowel) (a : Row) (o : Bool → Option Row)
-    → T (carriesMarks h) → moved (vowelState v (medialState m (headState (isOpenTop a) h))) ≡ u
+    → T (carriesMarks h) → moved (vowelState v (medialState m (headState (roomOnTop a) h))) ≡ u
     → Agrees x byte u (syllable h m v no-final no-tone ∷ a) (o true)
     → Agrees x byte (moved (stateOf (syllable h m v no-final no-tone ∷ a))) (syllable h m v no-final no-tone ∷ a) (o (carriesMarks h))
 on-open x byte moved u h m v a o c e g =
@@ -116,20 +117,20 @@ medialRight x m v s =
     && same (onMedial x (vowelState v (medialState m s)))
     (pick (isNoVowel v && true) (changed medialSet m (λ (n : MedialGroup). vowelState v (medialState n s)) (medialAnd x m)) refuse)
 
-medial-right : (x : ℕ) (m : MedialGroup) (v : Vowel) (b : Bool) (h : ℕ) → T (isMedial x) → T (medialRight x m v (headState b h))
+medial-right : (x : ℕ) (m : MedialGroup) (v : Vowel) (room : Room) (h : ℕ) → T (isMedial x) → T (medialRight x m v (headState room h))
 unfolding pick
-medial-right x m v b h i =
+medial-right x m v room h i =
     let l = within-bounds 0x103B 0x103E x i in
-    each-open (medialRight x) (in-class isMedial (λ (y : ℕ). everywhere (medialRight y)) tt x i (omega arith)) m v b h
+    each-open (medialRight x) (in-class isMedial (λ (y : ℕ). everywhere (medialRight y)) tt x i (omega arith)) m v room h
 
 medial-open : (x h : ℕ) (m : MedialGroup) (v : Vowel) (f : Final) (t : ToneMark) (a : Row) → T (isMedial x) → T (carriesMarks h) → T (isOpen f t)
     → Follows x 1 (onMedial x) (stepMedial x) (syllable h m v f t ∷ a)
 medial-open x h m v no-final no-tone a i c o =
-    let r = medial-right x m v (isOpenTop a) h i in
+    let r = medial-right x m v (roomOnTop a) h i in
     on-open x 1 (onMedial x) _ h m v a
     (λ (b : Bool). when (b && (isNoVowel v && true)) (onto (λ (n : MedialGroup). syllable h n v no-final no-tone ∷ a) (medialAnd x m))) c
     (same-equal _ _ (both-right (grown medialSet m (medialAnd x m)) _ r))
-    (changed-agrees x 1 medialSet m (λ (n : MedialGroup). vowelState v (medialState n (headState (isOpenTop a) h)))
+    (changed-agrees x 1 medialSet m (λ (n : MedialGroup). vowelState v (medialState n (headState (roomOnTop a) h)))
     (λ (n : MedialGroup). syllable h n v no-final no-tone ∷ a)
     (syllable h m v no-final no-tone ∷ a) (isNoVowel v && true) (medialAnd x m) (λ n. open-state h n v a c) (λ n e. adds-medial e)
     (both-left (grown medialSet m (medialAnd x m)) _ r))
@@ -151,20 +152,20 @@ vowelRight x m v s =
     grown vowelByte v (vowelAnd x v)
     && same (onVowel x (vowelState v (medialState m s))) (changed vowelByte v (λ (n : Vowel). vowelState n (medialState m s)) (vowelAnd x v))
 
-vowel-right : (x : ℕ) (m : MedialGroup) (v : Vowel) (b : Bool) (h : ℕ) → T (isVowelMark x) → T (vowelRight x m v (headState b h))
+vowel-right : (x : ℕ) (m : MedialGroup) (v : Vowel) (room : Room) (h : ℕ) → T (isVowelMark x) → T (vowelRight x m v (headState room h))
 unfolding pick
-vowel-right x m v b h i =
+vowel-right x m v room h i =
     let l = mark-bounds x i in
-    each-open (vowelRight x) (in-class isVowelMark (λ (y : ℕ). everywhere (vowelRight y)) tt x i (omega arith)) m v b h
+    each-open (vowelRight x) (in-class isVowelMark (λ (y : ℕ). everywhere (vowelRight y)) tt x i (omega arith)) m v room h
 
 vowel-open : (x h : ℕ) (m : MedialGroup) (v : Vowel) (f : Final) (t : ToneMark) (a : Row) → T (isVowelMark x) → T (carriesMarks h) → T (isOpen f t)
     → Follows x 3 (onVowel x) (stepVowel x) (syllable h m v f t ∷ a)
 unfolding pick
 vowel-open x h m v no-final no-tone a i c o =
-    let r = vowel-right x m v (isOpenTop a) h i in
+    let r = vowel-right x m v (roomOnTop a) h i in
     on-open x 3 (onVowel x) _ h m v a (λ (b : Bool). when (b && true) (onto (λ (n : Vowel). syllable h m n no-final no-tone ∷ a) (vowelAnd x v))) c
     (same-equal _ _ (both-right (grown vowelByte v (vowelAnd x v)) _ r))
-    (changed-agrees x 3 vowelByte v (λ (n : Vowel). vowelState n (medialState m (headState (isOpenTop a) h)))
+    (changed-agrees x 3 vowelByte v (λ (n : Vowel). vowelState n (medialState m (headState (roomOnTop a) h)))
     (λ (n : Vowel). syllable h m n no-final no-tone ∷ a)
     (syllable h m v no-final no-tone ∷ a) true (vowelAnd x v) (λ n. open-state h m n a c) (λ n e. adds-vowel e)
     (both-left (grown vowelByte v (vowelAnd x v)) _ r))

@@ -2,6 +2,7 @@
 -- Assumes nothing.
 use mathlib.Core.Path.{_≡_, refl, ap, sym, _∙_}
 use mathlib.Core.Bool.{Bool, true, false, not, _&&_, _||_}
+use mathlib.Core.List.{List, [], _∷_}
 use Prim.Native.Nat.{ℕ, _+_, _≤_}
 use lib.Dec.{T, eqb, eqb→eq}
 use Rattle.letters.specs.Choice.{pick}
@@ -9,19 +10,21 @@ use Rattle.letters.specs.Marks.{MedialGroup, medialGroups, Vowel, vowels}
 use Rattle.letters.specs.Weights.{isFinalLetter}
 use Rattle.letters.proofs.Counted.{on-chart}
 use Rattle.letters.proofs.Table.{upTo}
-use Rattle.formula.proofs.Lists.{both-left, both-right, every}
+use Rattle.formula.proofs.Lists.{both-left, both-right, every, every-all, All}
 use Rattle.formula.proofs.Pieces.{each-vowel, each-medial}
-use Rattle.transitions.specs.State.{State, done, plain-final, nga-final, waiting, head-stays, head-closes, head-nga, after-ya-ra, after-wa, after-ha, with-e, with-e-aa, with-i, with-u, with-vowel, headState, stateNumber}
+use Rattle.transitions.specs.State.{State, done, pair-final, plain-final, nga-final, waiting, head-stays, head-second, head-closes, head-nga, after-ya-ra, after-wa, after-ha, with-e, with-e-aa, with-i, with-u, with-vowel, Room, any-final, second-final, no-room, headState, stateNumber}
 use Rattle.transitions.specs.Transition.{Transition, refuse, to}
 use Rattle.transitions.specs.Tables.{stateAt, same}
 
 -- a state is known by its number
 pub numbered : (s : State) → stateAt (stateNumber s) ≡ s
 numbered done = refl
+numbered pair-final = refl
 numbered plain-final = refl
 numbered nga-final = refl
 numbered waiting = refl
 numbered head-stays = refl
+numbered head-second = refl
 numbered head-closes = refl
 numbered head-nga = refl
 numbered after-ya-ra = refl
@@ -33,31 +36,42 @@ numbered with-i = refl
 numbered with-u = refl
 numbered with-vowel = refl
 
--- a test that passes at each state of the list passes at any state, and so for the states of heads
-each-head : (f : State → Bool) → T (f head-stays && (f head-closes && f head-nga)) → (b : Bool) (h : ℕ) → T (f (headState b h))
-unfolding pick
-each-head f t false h = both-left (f head-stays) _ t
-each-head f t true h = go (isFinalLetter h) (eqb h 0x1004)
-  where
-    rest : T (f head-closes && f head-nga)
-    rest = both-right (f head-stays) (f head-closes && f head-nga) t
+-- the states of heads, and that a test which passes at each of the list passes at any
+abbrev heads : List State
+heads = head-stays ∷ head-second ∷ head-closes ∷ head-nga ∷ []
 
-    go : (p q : Bool) → T (f (pick p (pick q head-nga head-closes) head-stays))
-    go true true = both-right (f head-closes) (f head-nga) rest
-    go true false = both-left (f head-closes) (f head-nga) rest
-    go false q = both-left (f head-stays) _ t
+each-head : (f : State → Bool) → T (every f heads) → (room : Room) (h : ℕ) → T (f (headState room h))
+unfolding pick
+each-head f t room h = go room
+  where
+    each : All (λ (s : State). T (f s)) heads
+    each = every-all f (λ (s : State). T (f s)) (λ (s : State). λ (q : T (f s)). q) heads t
+
+    second : (p : Bool) → T (f (pick p head-second head-stays))
+    second true = each .1 .0
+    second false = each .0
+
+    first : (p q : Bool) → T (f (pick p (pick q head-nga head-closes) head-stays))
+    first true true = each .1 .1 .1 .0
+    first true false = each .1 .1 .0
+    first false q = each .0
+
+    go : (room : Room) → T (f (headState room h))
+    go any-final = first (isFinalLetter h) (eqb h 0x1004)
+    go second-final = second (isFinalLetter h)
+    go no-room = each .0
 
 module _ (f : MedialGroup → Vowel → State → Bool) where
   -- the test passes at each medial group and vowel on each head
   abbrev pub atHeads : MedialGroup → Vowel → Bool
-  atHeads m v = f m v head-stays && (f m v head-closes && f m v head-nga)
+  atHeads m v = every (f m v) heads
 
   abbrev pub everywhere : Bool
   everywhere = every (λ (m : MedialGroup). every (atHeads m) vowels) medialGroups
 
-  pub each-open : T everywhere → (m : MedialGroup) (v : Vowel) (b : Bool) (h : ℕ) → T (f m v (headState b h))
-  each-open t m v b h =
-      each-head (f m v) (each-vowel (atHeads m) (each-medial (λ (n : MedialGroup). every (atHeads n) vowels) t m) v) b h
+  pub each-open : T everywhere → (m : MedialGroup) (v : Vowel) (room : Room) (h : ℕ) → T (f m v (headState room h))
+  each-open t m v room h =
+      each-head (f m v) (each-vowel (atHeads m) (each-medial (λ (n : MedialGroup). every (atHeads n) vowels) t m) v) room h
 
 -- a test that passes at each value of a class on the chart
 pub in-class : (class f : ℕ → Bool) → T (upTo (λ (k : ℕ). not (class (0x1000 + k)) || f (0x1000 + k)) 80) → (x : ℕ) → T (class x)

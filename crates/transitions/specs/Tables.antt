@@ -9,7 +9,7 @@ use Rattle.letters.specs.Choice.{pick}
 use Rattle.letters.specs.Letters.{kindOf}
 use Rattle.letters.specs.declared.kind.Kind.{Kind}
 use Rattle.letters.specs.declared.kind.Kind.the-variants.{Consonant, IndependentVowel, Medial, VowelMark, Tone, Killer, Stacker, GreatSa, Digit, Stop, Sign, Foreign}
-use Rattle.transitions.specs.State.{State, done, plain-final, nga-final, waiting, head-stays, head-closes, head-nga, after-ya-ra, after-wa, after-ha, with-e, with-e-aa, with-i, with-u, with-vowel, stateNumber}
+use Rattle.transitions.specs.State.{State, done, pair-final, plain-final, nga-final, waiting, head-stays, head-second, head-closes, head-nga, after-ya-ra, after-wa, after-ha, with-e, with-e-aa, with-i, with-u, with-vowel, stateNumber}
 use Rattle.transitions.specs.Transition.{Transition, refuse, to, transition, byteOf}
 use Rattle.transitions.specs.declared.tables.Rules.{Rules}
 
@@ -17,10 +17,12 @@ use Rattle.transitions.specs.declared.tables.Rules.{Rules}
 abbrev pub states : List State
 states =
     done
+    ∷ pair-final
     ∷ plain-final
     ∷ nga-final
     ∷ waiting
     ∷ head-stays
+    ∷ head-second
     ∷ head-closes
     ∷ head-nga
     ∷ after-ya-ra

@@ -12,9 +12,9 @@ use Rattle.letters.specs.Kinds.{byKind}
 use Rattle.letters.specs.Marks.{MedialGroup, Vowel, ToneMark}
 use Rattle.letters.specs.Weights.{isHead, isFinalLetter, medialSet, vowelWeight, vowelTall, toneWeight}
 use Rattle.letters.specs.declared.kind.Kind.{Kind}
-use Rattle.formula.specs.Syllable.{Final, no-final, plain, stacked, kinzi, great-sa, syllable, bare, carriesFinal}
+use Rattle.formula.specs.Syllable.{Final, no-final, plain, plain-pair, stacked, kinzi, great-sa, syllable, bare, carriesFinal}
 use Rattle.formula.specs.Row.{Row}
-use Rattle.transitions.specs.State.{State, done, plain-final, nga-final, waiting, head-stays, head-closes, head-nga, after-ya-ra, after-wa, after-ha, with-e, with-e-aa, with-i, with-u, with-vowel, begunState, stateOf, stateNumber}
+use Rattle.transitions.specs.State.{State, done, pair-final, plain-final, nga-final, waiting, head-stays, head-second, head-closes, head-nga, after-ya-ra, after-wa, after-ha, with-e, with-e-aa, with-i, with-u, with-vowel, Room, any-final, second-final, no-room, begunState, stateOf, stateNumber}
 
 -- a value is refused; or what becomes of the number of syllables, 0 for one fewer, 1 for as many, 2 for one more; what is added to a byte of
 -- the last syllable; and the state after it
@@ -44,9 +44,13 @@ takesHead x state = not (is waiting state) || isFinalLetter x
 abbrev pub takesMedial : ℕ → State → Bool
 takesMedial x state = isHeadState state || ((is after-ya-ra state && leb 0x103D x) || (is after-wa state && eqb x 0x103E))
 
--- what is open takes a tone, and so does a plain final
+-- what is open takes a tone, and so do one plain final and two
 abbrev pub takesToneState : State → Bool
-takesToneState state = isOpenState state || among plain-final nga-final state
+takesToneState state = isOpenState state || among pair-final nga-final state
+
+-- what is open takes a final, and one plain final takes a second
+abbrev pub roomAt : State → Room
+roomAt state = pick (isOpenState state) any-final (pick (among plain-final nga-final state) second-final no-room)
 
 abbrev pub medialAfter : ℕ → State
 medialAfter x = pick (eqb x 0x103E) after-ha (pick (eqb x 0x103D) after-wa after-ya-ra)
@@ -67,7 +71,7 @@ markWeight x = pick (leb x 0x102C) 1 (pick (eqb x 0x1036) 10 (x - 0x102D + 2))
 
 -- a letter, an I, N, P or S begins a syllable
 abbrev pub onHead : ℕ → State → Transition
-onHead x state = pick (takesHead x state) (to 2 0 (pick (carriesFinal x) (begunState (isOpenState state) x) done)) refuse
+onHead x state = pick (takesHead x state) (to 2 0 (pick (carriesFinal x) (begunState (roomAt state) x) done)) refuse
 
 abbrev pub onMedial : ℕ → State → Transition
 onMedial x state = pick (takesMedial x state) (to 1 (medialBit x) (medialAfter x)) refuse
@@ -82,10 +86,12 @@ onVowel x state =
 abbrev pub onTone : ℕ → State → Transition
 onTone x state = pick (takesToneState state) (to 1 (x - 0x1036) done) refuse
 
--- 103A makes the letter a plain final of the syllable before, or ends the vowel 1031 AA 103A, which makes 8 of weight to 9
+-- 103A makes the letter a plain final of the syllable before, its first or its second, or ends the vowel 1031 AA 103A, which makes 8 of weight to 9
 abbrev pub onKiller : State → Transition
 onKiller state =
-    pick (is head-closes state) (to 0 0 plain-final) (pick (is head-nga state) (to 0 0 nga-final) (pick (is with-e-aa state) (to 1 1 with-vowel) refuse))
+    pick (is head-closes state) (to 0 0 plain-final)
+    (pick (is head-nga state) (to 0 0 nga-final)
+    (pick (is head-second state) (to 0 0 pair-final) (pick (is with-e-aa state) (to 1 1 with-vowel) refuse)))
 
 -- 1039 makes the letter a stacked final of the syllable before, or a plain 1004 kinzi, whose link is 1 more
 abbrev pub onStacker : State → Transition
@@ -119,7 +125,7 @@ byteOf kind = byKind (record { head = 0; medial = 1; vowel = 3; tone = 4; killer
 abbrev pub vowelByte : Vowel → ℕ
 vowelByte v = vowelWeight v + 16 * vowelTall v
 
--- 103A makes a letter a plain final, and 1039 a stacked one
+-- 103A makes a letter a plain final of a syllable without one, and 1039 a stacked one
 abbrev pub finalBy : ℕ → ℕ → Final
 finalBy x c = pick (eqb x 0x1039) (stacked c) (plain c)
 
@@ -143,6 +149,8 @@ pub data Makes (x : ℕ) : ℕ → ℕ → ℕ → Row → Row → Type 0 where
       → Makes x 2 1 0x40 (syllable h m v (plain 0x1004) t ∷ kept) (syllable h m v kinzi t ∷ kept)
   closes : {byte c h : ℕ} {m : MedialGroup} {v : Vowel} {t : ToneMark} {kept : Row} → T (isFinalLetter c)
       → Makes x byte 0 0 (bare c ∷ syllable h m v no-final t ∷ kept) (syllable h m v (finalBy x c) t ∷ kept)
+  closes-second : {byte b c h : ℕ} {m : MedialGroup} {v : Vowel} {t : ToneMark} {kept : Row} → x ≡ 0x103A → T (isFinalLetter c)
+      → Makes x byte 0 0 (bare c ∷ syllable h m v (plain b) t ∷ kept) (syllable h m v (plain-pair b c) t ∷ kept)
 
 -- the transition by x takes the row kept to o
 abbrev pub Agrees : ℕ → ℕ → Transition → Row → Option Row → Type 0
