@@ -10,11 +10,12 @@ use Rattle.letters.specs.Weights.{isFinalLetter, finalNumber, medialSet, vowelW
 use Rattle.formula.proofs.Classes.{within-bounds, head-bounds}
 use Rattle.formula.proofs.Lists.{both-left, both-right}
 use Rattle.formula.proofs.Pieces.{each-vowel, each-medial}
-use Rattle.formula.specs.Syllable.{Final, no-final, plain, stacked, kinzi, great-sa, Syllable, syllable, isFinal, isSyllable}
-use Rattle.formula.specs.Record.{finalNumberOf, linkOf}
-use Rattle.formula.specs.Packed.{packed}
+use Rattle.formula.specs.Syllable.{Final, no-final, plain, plain-pair, stacked, kinzi, great-sa, Syllable, syllable, isFinal, isSyllable}
+use Rattle.formula.specs.Record.{finalNumberOf, secondFinalNumberOf, linkOf}
+use Rattle.formula.specs.Packed.{secondLinkOf, packed}
 use Rattle.rows.proofs.Sound.{apart}
-use Rattle.syllables.specs.Parts.{headPart, medialPart, finalPart, linkPart, vowelPart, tallPart, tonePart}
+use Rattle.syllables.specs.Window.{packedLimit}
+use Rattle.syllables.specs.Parts.{headPart, medialPart, finalPart, linkPart, vowelPart, tallPart, tonePart, secondFinalPart}
 
 medial-small : (m : MedialGroup) → medialSet m ≤ 15
 medial-small m = leb→le _ 15 (each-medial (λ (n : MedialGroup). leb (medialSet n) 15) tt m)
@@ -32,12 +33,18 @@ tone-small visarga = omega arith
 letter-small : (c : ℕ) → T (isFinalLetter c) → finalNumber c ≤ 33
 letter-small c t = let b = within-bounds 0x1000 0x1020 c t in omega arith
 
-final-small : (f : Final) → T (isFinal f) → (finalNumberOf f ≤ 33) × (linkOf f ≤ 3)
-final-small no-final t = (omega arith, omega arith)
-final-small (plain c) t = (letter-small c t, omega arith)
-final-small (stacked c) t = (letter-small c (both-left (isFinalLetter c) _ t), omega arith)
-final-small kinzi t = (omega arith, omega arith)
-final-small great-sa t = (omega arith, omega arith)
+final-small : (f : Final) → T (isFinal f) → (finalNumberOf f ≤ 33) × (linkOf f ≤ 3) × (secondFinalNumberOf f ≤ 33) × (secondLinkOf f ≤ 1)
+final-small no-final t = (omega arith, omega arith, omega arith, omega arith)
+final-small (plain c) t = (letter-small c t, omega arith, omega arith, omega arith)
+final-small (plain-pair c d) t = (
+  letter-small c (both-left (isFinalLetter c) (isFinalLetter d) t),
+  omega arith,
+  letter-small d (both-right (isFinalLetter c) (isFinalLetter d) t),
+  omega arith,
+)
+final-small (stacked c) t = (letter-small c (both-left (isFinalLetter c) _ t), omega arith, omega arith, omega arith)
+final-small kinzi t = (omega arith, omega arith, omega arith, omega arith)
+final-small great-sa t = (omega arith, omega arith, omega arith, omega arith)
 
 -- each part of a syllable as its bytes have it
 pub record Parted (s : Syllable) (h : ℕ) (m : MedialGroup) (v : Vowel) (f : Final) (t : ToneMark) : Type 0 where
@@ -48,9 +55,10 @@ pub record Parted (s : Syllable) (h : ℕ) (m : MedialGroup) (v : Vowel) (f : Fi
   pub vowel : vowelPart (packed s) ≡ vowelWeight v
   pub tall : tallPart (packed s) ≡ vowelTall v
   pub tone : tonePart (packed s) ≡ toneWeight t
+  pub second-letter : secondFinalPart (packed s) ≡ secondFinalNumberOf f
 
 module _ (h : ℕ) (m : MedialGroup) (v : Vowel) (f : Final) (t : ToneMark) (i : T (isSyllable (syllable h m v f t))) where
-  pub packed-small : packed (syllable h m v f t) < 0x300000000
+  pub packed-small : packed (syllable h m v f t) < packedLimit
   unfolding packed
   packed-small =
       let p = apart h m v f t i in
@@ -78,4 +86,5 @@ module _ (h : ℕ) (m : MedialGroup) (v : Vowel) (f : Final) (t : ToneMark) (i :
         vowel = omega arith;
         tall = omega arith;
         tone = omega arith;
+        second-letter = omega arith;
       }

@@ -21,3 +21,6 @@ tallPart packed = packed / 0x10000000 % 0x10
 
 abbrev pub tonePart : ℕ → ℕ
 tonePart packed = packed / 0x100000000 % 0x100
+
+abbrev pub secondFinalPart : ℕ → ℕ
+secondFinalPart packed = packed / 0x1000000000000 % 0x40

@@ -1,6 +1,6 @@
 // The parts of a packed syllable.
 ghost use mathlib.Core.Path.{_≡_};
-ghost use Rattle.syllables.specs.Parts.{headPart, medialPart, finalPart, linkPart, vowelPart, tallPart, tonePart};
+ghost use Rattle.syllables.specs.Parts.{headPart, medialPart, finalPart, linkPart, vowelPart, tallPart, tonePart, secondFinalPart};
 
 // The head minus 1000.
 pub fn head(packed: u64) -> u8
@@ -47,4 +47,11 @@ pub fn tone(packed: u64) -> u8
     ensures { λ r. ⌜ r ≡ tonePart packed ⌝ }
 {
     (packed / 0x100000000 % 0x100) as u8
+}
+
+// The number of the second final's letter; 0 where there is none.
+pub fn second_letter(packed: u64) -> u8
+    ensures { λ r. ⌜ r ≡ secondFinalPart packed ⌝ }
+{
+    (packed / 0x1000000000000 % 0x40) as u8
 }

@@ -4,7 +4,8 @@ use mathlib.Core.Path.{_≡_, refl, ap, _∙_}
 use Prim.Native.Nat.{ℕ}
 use native.Mathlib.Omega.{arith}
 use borrow.Author.Needs.{needs}
-use Rattle.syllables.specs.Window.{linkBy, lastKept}
+use Rattle.syllables.specs.Parts.{headPart}
+use Rattle.syllables.specs.Window.{finalAdded, addedBy, lastKept}
 use Rattle.syllables.proofs.Moved.{after-gain, after-head, one-more, none-more}
 use Rattle.syllables.proofs.window.window_after.Statement.{statement}
 use Rattle.syllables.proofs.window.window_after.Tie as tie
@@ -37,31 +38,39 @@ returns c =
 link-by-requires : tie.Need-link-by-requires
 link-by-requires c κs = search needs
 
-add-t14 : tie.Need-add-t14
-add-t14 c = let r = c .before .before .before .pre .room in omega arith
+final-added-requires : tie.Need-final-added-requires
+final-added-requires c κs = c .link-by .ensures .1
 
-sub-t15 : tie.Need-sub-t15
-sub-t15 c = let l = c .before .before .before .pre .some-left in omega arith
+add-t15 : tie.Need-add-t15
+add-t15 c = let r = c .before .before .before .before .pre .room in omega arith
+
+sub-t16 : tie.Need-sub-t16
+sub-t16 c = let l = c .before .before .before .before .pre .some-left in omega arith
 
 last-kept-requires : tie.Need-last-kept-requires
-last-kept-requires c κs = (c .before .before .before .pre .closing (no-more (c .before)), c .link-by .ensures .1)
+last-kept-requires c κs =
+    let e = c .before .before in
+    (e .before .before .pre .closing (no-more e), c .final-added .ensures .1)
 
--- the last syllable that is kept, by the value's link
-kept : (c : tie.After-last-kept) → let a = c .before .before .before .before .args in
-    c .last-kept .result ≡ lastKept (a .change) (linkBy (a .x)) (a .window)
+-- the last syllable that is kept, by what the value makes of the last head
+kept : (c : tie.After-last-kept) → let a = c .before .before .before .before .before .args in
+    c .last-kept .result ≡ lastKept (a .change) (addedBy (a .x) (a .window)) (a .window)
 kept c =
-    let a = c .before .before .before .before .args in
-    c .last-kept .ensures ∙ ap (λ (n : ℕ). lastKept (a .change) n (a .window)) (c .before .link-by .ensures .0)
+    let f = c .before in
+    let a = f .before .before .before .before .args in
+    c .last-kept .ensures
+    ∙ ap (λ (n : ℕ). lastKept (a .change) n (a .window))
+    (f .final-added .ensures .0 ∙ ap (finalAdded (a .window .before) (headPart (a .window .last))) (f .before .link-by .ensures .0))
 
 add-t17 : tie.Need-add-t17
 add-t17 c =
-    let e = c .before .before in
+    let e = c .before .before .before in
     let f = e .before .before .pre .gains (no-more e) in
     omega (arith, kept c)
 
 returns-2 : tie.Need-returns-2
 returns-2 c =
-    let e = c .before .before in
+    let e = c .before .before .before in
     let a = e .before .before .args in
     after-gain (a .window) (a .change) (a .gain) (a .x) _ _ (no-more e) (kept c) refl
 
@@ -75,8 +84,9 @@ window-after-spec =
     closed-by-requires
     returns
     link-by-requires
-    add-t14
-    sub-t15
+    final-added-requires
+    add-t15
+    sub-t16
     last-kept-requires
     add-t17
     returns-2)
