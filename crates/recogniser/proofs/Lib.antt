@@ -5,5 +5,5 @@ pub mod Walking
 pub mod Determined
 pub mod Words
 pub mod Decided
-pub mod Base
+pub mod Earlier
 pub mod Beginnings

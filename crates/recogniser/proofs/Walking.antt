@@ -6,11 +6,11 @@ use mathlib.Core.Option.{none, some}
 use Prim.Native.Nat.{ℕ, _+_, _-_, _/_, _%_, _≤_, _<_}
 use native.Mathlib.Numerals.{add-one}
 use native.Mathlib.Omega.{arith}
-use lib.Dec.{eqb, leb→le}
+use lib.Dec.{eqb}
 use lib.ListN.{length, getD, take}
 use Rattle.rows.specs.Machine.{step, run}
 use Rattle.rows.proofs.Viable.{goes-on}
-use Rattle.transitions.specs.State.{stateOf, stateNumber}
+use Rattle.transitions.specs.State.{waiting, stateOf, stateNumber, stateCount}
 use Rattle.transitions.specs.Tables.{entryOf, gainOf}
 use Rattle.transitions.proofs.Known.{waiting-is}
 use Rattle.transitions.proofs.Entered.{Moves, makes-length, Enters, state-small, enters}
@@ -22,8 +22,8 @@ pub walk-start : (word : List ℕ) → Walked word 0 0 0
 walk-start word = record { kept = []; came = refl; state-is = refl; count-is = refl }
 
 module _ (word : List ℕ) (at state count : ℕ) (w : Walked word at state count) where
-  pub state-bound : state < 15
-  state-bound = let l : stateNumber (stateOf (w .kept)) ≤ 14 = leb→le _ 14 (state-small (stateOf (w .kept))) in omega (arith, w .state-is)
+  pub state-bound : state < stateCount
+  state-bound = let l : stateNumber (stateOf (w .kept)) < stateCount = state-small (stateOf (w .kept)) in omega (arith, w .state-is)
 
   pub count-within : count ≤ at
   count-within = let l = count-bound word at (w .kept) (w .came) in omega (arith, w .count-is)
@@ -61,7 +61,7 @@ module _ (word : List ℕ) (at state count : ℕ) (w : Walked word at state coun
           let l = counted in
           record { kept = moved .after; came = moved-on; state-is = moved .state-is; count-is = omega (arith, w .count-is) }
 
-pub walk-halted : (word : List ℕ) (at state count : ℕ) → WalkStopped word at state count → Halted word at (eqb state 3) count
+pub walk-halted : (word : List ℕ) (at state count : ℕ) → WalkStopped word at state count → Halted word at (eqb state (stateNumber waiting)) count
 walk-halted word at state count s =
     let w = s .walked in
     let k = kept-right word at (w .kept) (w .came) in
@@ -70,7 +70,7 @@ walk-halted word at state count s =
       within = s .within;
       kept = w .kept;
       came = w .came;
-      waits-is = ap (λ (n : ℕ). eqb n 3) (w .state-is) ∙ waiting-is (w .kept) (k .0) (k .2 tt);
+      waits-is = ap (λ (n : ℕ). eqb n (stateNumber waiting)) (w .state-is) ∙ waiting-is (w .kept) (k .0) (k .2 tt);
       count-is = w .count-is;
       refused = s .refused;
     }

@@ -123,6 +123,18 @@ starred =
     ∷ (0x104A ∷ 0x1037 ∷ [], refused 3 1)
     -- what 1025 103A is stored as
     ∷ (0x1009 ∷ 0x103A ∷ [], refused 3 1)
+    -- document 02, E5: two finals at most, the second plain and before the tone, with no kinzi and no 103F after it
+    ∷ (0x1000 ∷ 0x1000 ∷ 0x103A ∷ 0x1005 ∷ 0x103A ∷ 0x1019 ∷ 0x103A ∷ [], refused 3 6)
+    ∷ (0x1000 ∷ 0x1000 ∷ 0x103A ∷ 0x1004 ∷ 0x103A ∷ 0x1039 ∷ [], refused 3 5)
+    ∷ (0x1000 ∷ 0x1000 ∷ 0x103A ∷ 0x1005 ∷ 0x1039 ∷ [], refused 3 4)
+    ∷ (0x1000 ∷ 0x1000 ∷ 0x103A ∷ 0x1005 ∷ 0x103A ∷ 0x103F ∷ [], refused 3 5)
+    ∷ (0x1000 ∷ 0x1000 ∷ 0x103A ∷ 0x1021 ∷ 0x103A ∷ [], refused 3 4)
+    -- what 1000 1010 1037 103A 1005 103A is stored as, a tone between the finals
+    ∷ (0x1000 ∷ 0x1010 ∷ 0x103A ∷ 0x1037 ∷ 0x1005 ∷ 0x103A ∷ [], refused 3 5)
+    -- a second final after a stacked one, kinzi or 103F
+    ∷ (0x1000 ∷ 0x1000 ∷ 0x1039 ∷ 0x1005 ∷ 0x103A ∷ [], refused 3 4)
+    ∷ (0x1000 ∷ 0x1004 ∷ 0x103A ∷ 0x1039 ∷ 0x1005 ∷ 0x103A ∷ [], refused 3 5)
+    ∷ (0x1000 ∷ 0x103F ∷ 0x103A ∷ [], refused 3 2)
     ∷ [])
 
 -- the row that was kept has these weights and spelled syllables

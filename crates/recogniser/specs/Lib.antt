@@ -1,4 +1,4 @@
 pub mod Answer
-pub mod Base
+pub mod Earlier
 pub mod Walked
 pub mod Concluded

@@ -14,7 +14,7 @@ ghost use Rattle.recogniser.specs.Answer.{Answers, RowTest};
 ghost use Rattle.recogniser.specs.Walked.{WalkStopped};
 
 // The state of a row whose last final waits for a letter.
-const WAITING: usize = 3;
+const WAITING: usize = 4;
 
 // The values before `at` are read, and the one at `at` is refused, unless it is the end.
 pub struct Walk {
