@@ -31,12 +31,13 @@ read (syllable h m v f t) q =
     let own : 0x1000 + (h - 0x1000) ≡ h = omega arith in
     record {
       passes =
-          test-passes _ _ _ _ _ _ _
+          test-passes _ _ _ _ _ _ _ _
           (record {
             head-test = rw own (p .head);
             medial-test = medial-read m .passes;
             vowel-test = vowel-read v .passes;
             final-test = final-read f (p .final) .passes;
+            second-final-test = final-read f (p .final) .second-passes;
             tone-test = both (leb (toneWeight t) 2) (leb (linkOf f) 1 || eqb (toneWeight t) 0) (tone-read t .passes) (rw (← final-closed f, ← tone-read t .absent) (p .tone));
             marks-test = rw (own, ← medial-read m .absent, ← vowel-read v .absent) (p .marks);
             closing-test = rw (own, ← final-absent f, ← tone-read t .absent) (p .closing);
@@ -58,27 +59,28 @@ decoded bytes size t =
     let vowel = getD bytes 2 0 in
     let tall = getD bytes 3 0 in
     let letter = getD bytes 4 0 in
+    let second = getD bytes 5 0 in
     let link = getD bytes linkPlace 0 in
-    let tone = getD bytes 6 0 in
-    let p = tested head medial vowel tall letter link tone t in
-    let final = final-numbers letter link (p .final-test) in
+    let tone = getD bytes 7 0 in
+    let p = tested head medial vowel tall letter second link tone t in
+    let final = final-numbers letter second link (p .final-test) (p .second-final-test) in
     let vowels = vowel-weighs vowel tall (p .vowel-test) in
     let medials = medial-weighs medial (p .medial-test) in
     let tones = tone-weighs tone (both-left (leb tone 2) _ (p .tone-test)) in
     record {
       is =
-          together (0x1000 + head) (medialOfWeight medial) (vowelOfWeight vowel (eqb tall 1)) (finalOfNumbers letter link) (toneOfWeight tone)
+          together (0x1000 + head) (medialOfWeight medial) (vowelOfWeight vowel (eqb tall 1)) (finalOfNumbers letter second link) (toneOfWeight tone)
           (record {
             head = p .head-test;
             marks = rw (medial-read (medialOfWeight medial) .absent, vowel-read (vowelOfWeight vowel (eqb tall 1)) .absent, medials, vowels .0) (p .marks-test);
-            closing = rw (final-absent (finalOfNumbers letter link), tone-read (toneOfWeight tone) .absent, final .linked, tones) (p .closing-test);
+            closing = rw (final-absent (finalOfNumbers letter second link), tone-read (toneOfWeight tone) .absent, final .linked, tones) (p .closing-test);
             final = final .is;
             tone =
-                rw (final-closed (finalOfNumbers letter link), tone-read (toneOfWeight tone) .absent, final .linked, tones)
+                rw (final-closed (finalOfNumbers letter second link), tone-read (toneOfWeight tone) .absent, final .linked, tones)
                 (both-right (leb tone 2) _ (p .tone-test));
           });
       records =
           let own : 0x1000 + head - 0x1000 ≡ head = omega arith in
-          rw (own, medials, vowels .0, vowels .1, final .numbered, final .linked, tones) (all-of recordSize bytes size);
+          rw (own, medials, vowels .0, vowels .1, final .numbered, final .second-numbered, final .linked, tones) (all-of recordSize bytes size);
       linked = final .linked;
     }

@@ -3,35 +3,36 @@
 use mathlib.Core.Path.{_≡_, refl, ap}
 use mathlib.Core.Bool.{Bool, true, false, not, _&&_, _||_}
 use mathlib.Core.List.{[], _∷_}
-use Prim.Native.Nat.{ℕ, _+_, _-_, _≤_, _<_}
+use Prim.Native.Nat.{ℕ, zero, suc, _+_, _≤_, _<_}
 use native.Mathlib.Omega.{arith}
 use lib.Dec.{T, eqb, leb, eqb→eq, leb→le}
 use borrow.Author.Tests.{eq-eqb, ne-eqb, le-leb}
 use Rattle.letters.specs.Choice.{pick}
 use Rattle.letters.proofs.Table.{below}
 use Rattle.letters.specs.Marks.{neither, ya, ra, MedialGroup, group, Vowel, no-vowel, vowel-aa, vowel-i, vowel-ii, vowel-u, vowel-uu, vowel-e, vowel-ai, vowel-e-aa, vowel-e-aa-killer, vowel-am, vowel-i-u, vowel-u-am, ToneMark, no-tone, dot, visarga}
-use Rattle.letters.specs.Weights.{isHead, isFinalLetter, medialWeight, vowelWeight, vowelTall, toneWeight}
-use Rattle.letters.proofs.Tests.{either, implies, implied}
+use Rattle.letters.specs.Weights.{isHead, isFinalLetter, medialWeight, vowelWeight, vowelTall, finalNumber, toneWeight}
+use Rattle.letters.proofs.Tests.{of-true, either, implies, implied}
 use Rattle.formula.proofs.Classes.{head-bounds}
 use Rattle.formula.proofs.Lists.{both, both-left, both-right}
-use Rattle.formula.specs.Syllable.{Final, no-final, plain, stacked, kinzi, great-sa, carriesMarks, carriesFinal, isNoMedial, isNoVowel, isNoFinal, isNoTone, isClosed, isFinal}
-use Rattle.formula.specs.Record.{finalNumberOf, linkOf}
-use Rattle.rows.proofs.Complete.{low, high}
-use Rattle.syllable_text.specs.Decode.{medialOfWeight, vowelOfWeight, finalOfNumbers, toneOfWeight}
-use Rattle.syllable_text.specs.Record.{isVowelNumbers, isFinalNumbers, isToneNumber, isRecord}
+use Rattle.formula.specs.Syllable.{Final, no-final, plain, plain-pair, stacked, kinzi, great-sa, carriesMarks, carriesFinal, isNoMedial, isNoVowel, isNoFinal, isNoTone, isClosed, isFinal}
+use Rattle.formula.specs.Record.{finalNumberOf, secondFinalNumberOf, linkOf}
+use Rattle.rows.proofs.Complete.{low, high, inside}
+use Rattle.syllable_text.specs.Decode.{medialOfWeight, vowelOfWeight, letterOfNumber, plainOfNumbers, finalOfNumbers, toneOfWeight}
+use Rattle.syllable_text.specs.Record.{isVowelNumbers, isFinalNumbers, isSecondFinalNumber, isToneNumber, isRecord}
 use Rattle.syllable_text.proofs.Bytes.{on-pairs}
 
 -- the parts of `isRecord`
-pub record Tested (head medial vowel tall letter link tone : ℕ) : Type 0 where
+pub record Tested (head medial vowel tall letter second link tone : ℕ) : Type 0 where
   pub head-test : T (isHead (0x1000 + head))
   pub medial-test : T (leb medial 11)
   pub vowel-test : T (isVowelNumbers vowel tall)
   pub final-test : T (isFinalNumbers letter link)
+  pub second-final-test : T (isSecondFinalNumber second link)
   pub tone-test : T (isToneNumber link tone)
   pub marks-test : T (carriesMarks (0x1000 + head) || (eqb medial 0 && eqb vowel 0))
   pub closing-test : T (carriesFinal (0x1000 + head) || (eqb link 0 && eqb tone 0))
 
-module _ (head medial vowel tall letter link tone : ℕ) where
+module _ (head medial vowel tall letter second link tone : ℕ) where
   -- the tests of `isRecord`, each with those before it
   abbrev upToMedial : Bool
   upToMedial = isHead (0x1000 + head) && leb medial 11
@@ -42,8 +43,11 @@ module _ (head medial vowel tall letter link tone : ℕ) where
   abbrev upToFinal : Bool
   upToFinal = upToVowel && isFinalNumbers letter link
 
+  abbrev upToSecondFinal : Bool
+  upToSecondFinal = upToFinal && isSecondFinalNumber second link
+
   abbrev upToTone : Bool
-  upToTone = upToFinal && isToneNumber link tone
+  upToTone = upToSecondFinal && isToneNumber link tone
 
   abbrev marks : Bool
   marks = carriesMarks (0x1000 + head) || (eqb medial 0 && eqb vowel 0)
@@ -51,12 +55,13 @@ module _ (head medial vowel tall letter link tone : ℕ) where
   abbrev closing : Bool
   closing = carriesFinal (0x1000 + head) || (eqb link 0 && eqb tone 0)
 
-  pub tested : T (isRecord (head ∷ medial ∷ vowel ∷ tall ∷ letter ∷ link ∷ tone ∷ [])) → Tested head medial vowel tall letter link tone
+  pub tested : T (isRecord (head ∷ medial ∷ vowel ∷ tall ∷ letter ∷ second ∷ link ∷ tone ∷ [])) → Tested head medial vowel tall letter second link tone
   unfolding isRecord
   tested t =
       let with-marks : T (upToTone && marks) = both-left (upToTone && marks) closing t in
       let with-tone : T upToTone = both-left upToTone marks with-marks in
-      let with-final : T upToFinal = both-left upToFinal (isToneNumber link tone) with-tone in
+      let with-second-final : T upToSecondFinal = both-left upToSecondFinal (isToneNumber link tone) with-tone in
+      let with-final : T upToFinal = both-left upToFinal (isSecondFinalNumber second link) with-second-final in
       let with-vowel : T upToVowel = both-left upToVowel (isFinalNumbers letter link) with-final in
       let with-medial : T upToMedial = both-left upToMedial (isVowelNumbers vowel tall) with-vowel in
       record {
@@ -64,18 +69,20 @@ module _ (head medial vowel tall letter link tone : ℕ) where
         medial-test = both-right (isHead (0x1000 + head)) (leb medial 11) with-medial;
         vowel-test = both-right upToMedial (isVowelNumbers vowel tall) with-vowel;
         final-test = both-right upToVowel (isFinalNumbers letter link) with-final;
-        tone-test = both-right upToFinal (isToneNumber link tone) with-tone;
+        second-final-test = both-right upToFinal (isSecondFinalNumber second link) with-second-final;
+        tone-test = both-right upToSecondFinal (isToneNumber link tone) with-tone;
         marks-test = both-right upToTone marks with-marks;
         closing-test = both-right (upToTone && marks) closing t;
       }
 
-  pub test-passes : Tested head medial vowel tall letter link tone → T (isRecord (head ∷ medial ∷ vowel ∷ tall ∷ letter ∷ link ∷ tone ∷ []))
+  pub test-passes : Tested head medial vowel tall letter second link tone → T (isRecord (head ∷ medial ∷ vowel ∷ tall ∷ letter ∷ second ∷ link ∷ tone ∷ []))
   unfolding isRecord
   test-passes p =
       let with-medial : T upToMedial = both (isHead (0x1000 + head)) (leb medial 11) (p .head-test) (p .medial-test) in
       let with-vowel : T upToVowel = both upToMedial (isVowelNumbers vowel tall) with-medial (p .vowel-test) in
       let with-final : T upToFinal = both upToVowel (isFinalNumbers letter link) with-vowel (p .final-test) in
-      let with-tone : T upToTone = both upToFinal (isToneNumber link tone) with-final (p .tone-test) in
+      let with-second-final : T upToSecondFinal = both upToFinal (isSecondFinalNumber second link) with-final (p .second-final-test) in
+      let with-tone : T upToTone = both upToSecondFinal (isToneNumber link tone) with-second-final (p .tone-test) in
       both (upToTone && marks) closing (both upToTone marks with-tone (p .marks-test)) (p .closing-test)
 
 -- a head's value is at least 1000
@@ -159,36 +166,59 @@ vowel-weighs n tall t =
     let flag = eqb (vowelTall (vowelOfWeight n (eqb tall 1))) tall in
     (eqb→eq _ n (both-left weight flag right), eqb→eq _ tall (both-right weight flag right))
 
--- a final by its letter's number and its link
-pub record FinalRead (f : Final) : Type 0 where
-  pub back : finalOfNumbers (finalNumberOf f) (linkOf f) ≡ f
-  pub passes : T (isFinalNumbers (finalNumberOf f) (linkOf f))
+-- a final letter by its number
+record LetterRead (c : ℕ) : Type 0 where
+  pub back : letterOfNumber (finalNumber c) ≡ c
+  pub least : leb 1 (finalNumber c) ≡ true
+  pub most : leb (finalNumber c) 33 ≡ true
+  pub some : eqb (finalNumber c) 0 ≡ false
 
-pub final-read : (f : Final) → T (isFinal f) → FinalRead f
-unfolding finalOfNumbers isFinalNumbers pick
-final-read no-final t = record { back = refl; passes = tt }
-final-read (plain c) t =
+letter-read : (c : ℕ) → T (isFinalLetter c) → LetterRead c
+letter-read c t =
     let least : 0x1000 ≤ c = low 0x1000 0x1020 c t in
     let most : c ≤ 0x1020 = high 0x1000 0x1020 c t in
     record {
-      back = ap plain (let e : 0x0FFF + (c - 0x1000 + 1) ≡ c = omega arith in e);
-      passes = simp (le-leb 1 (c - 0x1000 + 1) (omega arith), le-leb (c - 0x1000 + 1) 33 (omega arith)) tt;
+      back = omega arith;
+      least = le-leb 1 (finalNumber c) (omega arith);
+      most = le-leb (finalNumber c) 33 (omega arith);
+      some = ne-eqb (finalNumber c) 0 (λ e. omega arith);
+    }
+
+-- a final by its letters' numbers and its link
+pub record FinalRead (f : Final) : Type 0 where
+  pub back : finalOfNumbers (finalNumberOf f) (secondFinalNumberOf f) (linkOf f) ≡ f
+  pub passes : T (isFinalNumbers (finalNumberOf f) (linkOf f))
+  pub second-passes : T (isSecondFinalNumber (secondFinalNumberOf f) (linkOf f))
+
+pub final-read : (f : Final) → T (isFinal f) → FinalRead f
+unfolding finalOfNumbers plainOfNumbers isFinalNumbers isSecondFinalNumber pick
+final-read no-final t = record { back = refl; passes = tt; second-passes = tt }
+final-read (plain c) t =
+    let letter = letter-read c t in
+    record { back = ap plain (letter .back); passes = simp (letter .least, letter .most) tt; second-passes = tt }
+final-read (plain-pair c d) t =
+    let letter = letter-read c (both-left (isFinalLetter c) (isFinalLetter d) t) in
+    let second = letter-read d (both-right (isFinalLetter c) (isFinalLetter d) t) in
+    record {
+      back = rw (second .some) (λ i. plain-pair (letter .back i) (second .back i));
+      passes = simp (letter .least, letter .most) tt;
+      second-passes = of-true (leb (finalNumber d) 33) (second .most);
     }
 final-read (stacked c) t =
-    let letter : T (isFinalLetter c) = both-left (isFinalLetter c) (not (eqb c 0x1004)) t in
-    let least : 0x1000 ≤ c = low 0x1000 0x1020 c letter in
-    let most : c ≤ 0x1020 = high 0x1000 0x1020 c letter in
+    let letter = letter-read c (both-left (isFinalLetter c) (not (eqb c 0x1004)) t) in
     let other : c ≡ 0x1004 → ⊥ = λ e. (rw (eq-eqb c 0x1004 e) at (both-right (isFinalLetter c) (not (eqb c 0x1004)) t)) in
     record {
-      back = rw (ne-eqb (c - 0x1000 + 1) 5 (λ e. other (omega arith))) (ap stacked (let e : 0x0FFF + (c - 0x1000 + 1) ≡ c = omega arith in e));
-      passes = simp (le-leb 1 (c - 0x1000 + 1) (omega arith), le-leb (c - 0x1000 + 1) 33 (omega arith)) tt;
+      back = rw (ne-eqb (finalNumber c) 5 (λ e. other (omega (arith, letter .back)))) (ap stacked (letter .back));
+      passes = simp (letter .least, letter .most) tt;
+      second-passes = tt;
     }
-final-read kinzi t = record { back = refl; passes = tt }
-final-read great-sa t = record { back = refl; passes = tt }
+final-read kinzi t = record { back = refl; passes = tt; second-passes = tt }
+final-read great-sa t = record { back = refl; passes = tt; second-passes = tt }
 
 pub final-absent : (f : Final) → isNoFinal f ≡ eqb (linkOf f) 0
 final-absent no-final = refl
 final-absent (plain c) = refl
+final-absent (plain-pair c d) = refl
 final-absent (stacked c) = refl
 final-absent kinzi = refl
 final-absent great-sa = refl
@@ -196,15 +226,22 @@ final-absent great-sa = refl
 pub final-closed : (f : Final) → isClosed f ≡ leb (linkOf f) 1
 final-closed no-final = refl
 final-closed (plain c) = refl
+final-closed (plain-pair c d) = refl
 final-closed (stacked c) = refl
 final-closed kinzi = refl
 final-closed great-sa = refl
 
--- numbers that pass the test are those of a final
+-- numbers that pass the tests are those of a final; first where there is no second
+pub record FinalNumbers (letter second link : ℕ) : Type 0 where
+  pub numbered : finalNumberOf (finalOfNumbers letter second link) ≡ letter
+  pub second-numbered : secondFinalNumberOf (finalOfNumbers letter second link) ≡ second
+  pub linked : linkOf (finalOfNumbers letter second link) ≡ link
+  pub is : T (isFinal (finalOfNumbers letter second link))
+
 finalRight : ℕ → ℕ → Bool
 finalRight letter link =
-    implies (isFinalNumbers letter link)
-    ((eqb (finalNumberOf (finalOfNumbers letter link)) letter && eqb (linkOf (finalOfNumbers letter link)) link) && isFinal (finalOfNumbers letter link))
+    let final = finalOfNumbers letter 0 link in
+    implies (isFinalNumbers letter link) ((eqb (finalNumberOf final) letter && eqb (secondFinalNumberOf final) 0 && eqb (linkOf final) link) && isFinal final)
 
 final-bounds : (letter link : ℕ) → T (isFinalNumbers letter link) → (letter < 34) × (link < 4)
 unfolding isFinalNumbers
@@ -222,24 +259,44 @@ final-bounds letter link t =
     (λ e. let a : link ≡ 3 = eqb→eq link 3 (both-left (eqb link 3) (eqb letter 31) e) in
     let b : letter ≡ 31 = eqb→eq letter 31 (both-right (eqb link 3) (eqb letter 31) e) in (omega arith, omega arith)) t
 
-pub record FinalNumbers (letter link : ℕ) : Type 0 where
-  pub numbered : finalNumberOf (finalOfNumbers letter link) ≡ letter
-  pub linked : linkOf (finalOfNumbers letter link) ≡ link
-  pub is : T (isFinal (finalOfNumbers letter link))
-
-pub final-numbers : (letter link : ℕ) → T (isFinalNumbers letter link) → FinalNumbers letter link
-unfolding finalRight finalOfNumbers isFinalNumbers pick
-final-numbers letter link t =
+one-final-numbers : (letter link : ℕ) → T (isFinalNumbers letter link) → FinalNumbers letter 0 link
+unfolding finalRight finalOfNumbers plainOfNumbers isFinalNumbers pick
+one-final-numbers letter link t =
     let bounds = final-bounds letter link t in
+    let final = finalOfNumbers letter 0 link in
     let right = implied (isFinalNumbers letter link) _ (on-pairs finalRight 34 4 tt letter link (bounds .0) (bounds .1)) t in
-    let number = eqb (finalNumberOf (finalOfNumbers letter link)) letter in
-    let linking = eqb (linkOf (finalOfNumbers letter link)) link in
-    let numbers = both-left (number && linking) (isFinal (finalOfNumbers letter link)) right in
+    let number = eqb (finalNumberOf final) letter in
+    let absent = eqb (secondFinalNumberOf final) 0 in
+    let linking = eqb (linkOf final) link in
+    let numbers = both-left (number && absent && linking) (isFinal final) right in
     record {
-      numbered = eqb→eq _ letter (both-left number linking numbers);
-      linked = eqb→eq _ link (both-right number linking numbers);
-      is = both-right (number && linking) (isFinal (finalOfNumbers letter link)) right;
+      numbered = eqb→eq _ letter (both-left number absent (both-left (number && absent) linking numbers));
+      second-numbered = eqb→eq _ 0 (both-right number absent (both-left (number && absent) linking numbers));
+      linked = eqb→eq _ link (both-right (number && absent) linking numbers);
+      is = both-right (number && absent && linking) (isFinal final) right;
     }
+
+-- a second final is a letter, and the first is plain
+second-final-plain : (second link : ℕ) → (second ≡ 0 → ⊥) → T (isSecondFinalNumber second link) → (link ≡ 1) × (second ≤ 33)
+unfolding isSecondFinalNumber pick
+second-final-plain second link some t = go (eqb link 1) refl t
+  where
+    go : (b : Bool) → eqb link 1 ≡ b → T (pick b (leb second 33) (eqb second 0)) → (link ≡ 1) × (second ≤ 33)
+    go true e u = (eqb→eq link 1 (of-true (eqb link 1) e), leb→le second 33 u)
+    go false e u = absurd (some (eqb→eq second 0 u))
+
+pub final-numbers : (letter second link : ℕ) → T (isFinalNumbers letter link) → T (isSecondFinalNumber second link) → FinalNumbers letter second link
+unfolding finalOfNumbers plainOfNumbers pick
+final-numbers letter zero link t u = one-final-numbers letter link t
+final-numbers letter (suc number) link t u =
+    let second = suc number in
+    let not-none : second ≡ 0 → ⊥ = λ e. omega arith in
+    let some : eqb second 0 ≡ false = ne-eqb second 0 not-none in
+    let is-plain = second-final-plain second link not-none u in
+    let first = one-final-numbers letter 1 (rw (is-plain .0) at t) in
+    let letters : T (isFinalLetter (letterOfNumber letter) && isFinalLetter (letterOfNumber second)) =
+    both (isFinalLetter (letterOfNumber letter)) (isFinalLetter (letterOfNumber second)) (first .is) (inside 0x1000 0x1020 (letterOfNumber second) (omega arith) (omega (arith, is-plain .1))) in
+    rw (is-plain .0) (record { numbered = rw some (first .numbered); second-numbered = rw some (omega arith); linked = rw some; is = rw some letters })
 
 -- a tone by its weight
 pub record ToneRead (t : ToneMark) : Type 0 where

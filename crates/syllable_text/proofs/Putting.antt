@@ -38,7 +38,7 @@ put-first before at value inside = record {
 module _ (before between : List ℕ) (at : ℕ) (values : List ℕ) (middle : ℕ) (p : PartPut before between at values middle) where
   module _ (text : Text) (more : List ℕ) (holds : text ≡ textOf more) (fits : at + length values + length more ≤ length before) where
     -- there is room for a text behind what is put
-    pub room-behind : length more ≤ 3 → Room (length between) middle text
+    pub room-behind : length more ≤ 4 → Room (length between) middle text
     room-behind few =
         text-room text more (length between) middle holds few (omega (arith, p .behind-it, ap length (p .put), overwritten-length before at values (omega arith)))
 

@@ -1,4 +1,4 @@
--- The texts of a syllable's parts are of at most three values, and written one behind the other they are the part.
+-- The texts of a syllable's parts are of at most four values, and written one behind the other they are the part.
 -- Assumes nothing.
 use mathlib.Core.Path.{_≡_, ap, sym, _∙_}
 use mathlib.Core.Bool.{Bool, true, false}
@@ -8,7 +8,7 @@ use native.Mathlib.Omega.{arith}
 use lib.ListN.{length, take, drop, replicate, length-append}
 use lib.Seq.{length-take-le, take-append-seam, take-at, drop-at, drop-drop, paste}
 use Rattle.letters.specs.Marks.{YaRa, neither, ya, ra, MedialGroup, group, optional, yaRaText, medialText, Vowel, no-vowel, vowel-aa, vowel-i, vowel-ii, vowel-u, vowel-uu, vowel-e, vowel-ai, vowel-e-aa, vowel-e-aa-killer, vowel-am, vowel-i-u, vowel-u-am, vowelText, ToneMark, no-tone, dot, visarga, toneText}
-use Rattle.formula.specs.Syllable.{Final, no-final, plain, stacked, kinzi, great-sa, finalText}
+use Rattle.formula.specs.Syllable.{Final, no-final, plain, plain-pair, stacked, kinzi, great-sa, finalText}
 use Rattle.syllable_text.specs.Text.{textOf, Room}
 use Rattle.syllable_text.specs.Part.{overwritten}
 use Rattle.syllable_text.specs.declared.text.Text.{Text}
@@ -41,14 +41,15 @@ vowel-short vowel-am = omega arith
 vowel-short vowel-i-u = omega arith
 vowel-short vowel-u-am = omega arith
 
-pub final-short : (f : Final) → length (finalText f) ≤ 3
+pub final-short : (f : Final) → length (finalText f) ≤ 4
 final-short no-final = omega arith
 final-short (plain c) = omega arith
+final-short (plain-pair c d) = omega arith
 final-short (stacked c) = omega arith
 final-short kinzi = omega arith
 final-short great-sa = omega arith
 
-pub tone-short : (t : ToneMark) → length (toneText t) ≤ 3
+pub tone-short : (t : ToneMark) → length (toneText t) ≤ 1
 tone-short no-tone = omega arith
 tone-short dot = omega arith
 tone-short visarga = omega arith
@@ -59,10 +60,10 @@ unfolding textOf
 text-count text values e = ap (λ (t : Text). t .count) e
 
 -- there is room for a text where there is room for its values
-pub text-room : (text : Text) (values : List ℕ) (size at : ℕ) → text ≡ textOf values → length values ≤ 3 → at + length values ≤ size → Room size at text
+pub text-room : (text : Text) (values : List ℕ) (size at : ℕ) → text ≡ textOf values → length values ≤ 4 → at + length values ≤ size → Room size at text
 unfolding textOf
 text-room text values size at e few fits =
-    rw e (record { short = few; held = omega (arith, length-append values (replicate (3 - length values) 0)); fits = fits })
+    rw e (record { short = few; held = omega (arith, length-append values (replicate (4 - length values) 0)); fits = fits })
 
 -- a text that holds these values, as it is put
 pub put-text : (before : List ℕ) (at : ℕ) (text : Text) (values : List ℕ) → text ≡ textOf values

@@ -30,4 +30,4 @@ pub record PartPut (before after : List ℕ) (at : ℕ) (part : List ℕ) (behin
 -- the size of a syllable's part, whatever stands before it; so small that a sum of two fits
 pub record PartSize (bytes : List ℕ) (size : ℕ) : Type 0 where
   pub counted : size ≡ length (part no-final (syllableOf bytes))
-  pub small : size ≤ 13
+  pub small : size ≤ 12

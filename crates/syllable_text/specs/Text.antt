@@ -1,4 +1,4 @@
--- A text of at most three values as the code holds it, and as it is written.
+-- A text of at most four values as the code holds it, and as it is written.
 -- Assumes nothing.
 use mathlib.Core.Path.{_≡_}
 use mathlib.Core.List.{List, _++_}
@@ -9,11 +9,11 @@ use Rattle.syllable_text.specs.declared.text.Text.{Text}
 
 -- the values, and zeros behind them
 unfoldable pub textOf : List ℕ → Text
-textOf values = record { values = values ++ replicate (3 - length values) 0; count = length values }
+textOf values = record { values = values ++ replicate (4 - length values) 0; count = length values }
 
--- the text has at most three values, and so many places follow in an output of this length
+-- the text has at most four values, and so many places follow in an output of this length
 pub record Room (size at : ℕ) (text : Text) : Type 0 where
-  pub short : text .count ≤ 3
+  pub short : text .count ≤ 4
   pub held : text .count ≤ length (text .values)
   pub fits : at + text .count ≤ size
 

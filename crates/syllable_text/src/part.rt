@@ -12,8 +12,8 @@ pub fn part_size(next: [u8; Word::RECORD]) -> usize
 {
     let medial = text::medial_text(next[1]);
     let vowel = text::vowel_text(next[2], next[3]);
-    let last = text::final_text(next[4], next[Word::LINK]);
-    let tone = text::tone_text(next[6]);
+    let last = text::final_text(next[4], next[5], next[Word::LINK]);
+    let tone = text::tone_text(next[7]);
     1 + medial.count + vowel.count + last.count + tone.count
 }
 
@@ -28,7 +28,7 @@ pub fn put_part(output: &mut [u16], at: usize, link: u8, next: [u8; Word::RECORD
     let tone_at = text::put(
         output,
         final_at,
-        text::final_text(next[4], next[Word::LINK]),
+        text::final_text(next[4], next[5], next[Word::LINK]),
     );
-    text::put(output, tone_at, text::tone_text(next[6]))
+    text::put(output, tone_at, text::tone_text(next[7]))
 }

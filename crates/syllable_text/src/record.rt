@@ -1,4 +1,4 @@
-// The tests on one record, as document 01, "Syllable records", has them: head, medial weight, vowel weight, tall, final number, link, tone weight.
+// The tests on one record, whose bytes are head, medial weight, vowel weight, tall, final number, second final number, link and tone weight.
 use formula::Word;
 ghost use mathlib.Core.Path.{_≡_};
 ghost use Prim.Native.Nat.{_+_, _≤_};
@@ -7,7 +7,7 @@ ghost use Rattle.formula.specs.Limits.{recordSize};
 ghost use Rattle.letters.specs.Letters.{isIndependentVowel};
 ghost use Rattle.letters.specs.Weights.{isHead};
 ghost use Rattle.formula.specs.Syllable.{carriesMarks, carriesFinal};
-ghost use Rattle.syllable_text.specs.Record.{isVowelNumbers, isFinalNumbers, isToneNumber, linkAdmits, isRecord, mayFollow};
+ghost use Rattle.syllable_text.specs.Record.{isVowelNumbers, isFinalNumbers, isSecondFinalNumber, isToneNumber, linkAdmits, isRecord, mayFollow};
 
 // The record that begins at a place.
 pub fn record_at(records: &[u8], at: usize) -> [u8; Word::RECORD]
@@ -22,6 +22,7 @@ pub fn record_at(records: &[u8], at: usize) -> [u8; Word::RECORD]
         records[at + 4],
         records[at + 5],
         records[at + 6],
+        records[at + 7],
     ]
 }
 
@@ -40,11 +41,12 @@ fn is_record(bytes: [u8; Word::RECORD]) -> bool
     let medial = bytes[1];
     let vowel = bytes[2];
     let link = bytes[Word::LINK];
-    let tone = bytes[6];
+    let tone = bytes[7];
     is_head(head)
         & (medial <= 11)
         & is_vowel(vowel, bytes[3])
         & is_final(bytes[4], link)
+        & is_second_final(bytes[5], link)
         & is_tone(link, tone)
         & (carries_marks(head) | ((medial == 0) & (vowel == 0)))
         & (carries_final(head) | ((link == 0) & (tone == 0)))
@@ -92,6 +94,13 @@ fn is_final(letter: u8, link: u8) -> bool
     ((link == 0) & (letter == 0))
         | ((1 <= link) & (link <= 2) & (1 <= letter) & (letter <= 33))
         | ((link == 3) & (letter == 31))
+}
+
+// Whether there is such a second final: none, or a letter where the first is plain.
+fn is_second_final(letter: u8, link: u8) -> bool
+    ensures { λ r. ⌜ r ≡ isSecondFinalNumber letter link ⌝ }
+{
+    if link == 1 { letter <= 33 } else { letter == 0 }
 }
 
 // Whether there is such a tone, and the link takes it.

@@ -1,4 +1,4 @@
-// The values that the numbers of a record stand for: of each part of a syllable at most three.
+// The values that the numbers of a record stand for: of each part of a syllable at most four.
 use memory::copies::put_values;
 ghost use mathlib.Core.Path.{_≡_};
 ghost use mathlib.Core.List.{[], _∷_};
@@ -7,7 +7,7 @@ ghost use lib.Dec.{eqb};
 ghost use lib.ListN.{length};
 ghost use Rattle.letters.specs.Marks.{medialText, vowelText, toneText, aaText};
 ghost use Rattle.formula.specs.Syllable.{finalText};
-ghost use Rattle.syllable_text.specs.Decode.{medialOfWeight, vowelOfWeight, finalOfNumbers, toneOfWeight};
+ghost use Rattle.syllable_text.specs.Decode.{medialOfWeight, vowelOfWeight, letterOfNumber, plainOfNumbers, finalOfNumbers, toneOfWeight};
 ghost use Rattle.syllable_text.specs.Text.{textOf, Room, PutRight};
 ghost use Rattle.syllable_text.specs.Part.{headAfter};
 
@@ -38,7 +38,7 @@ const KINZI_LETTER: u8 = 5;
 
 // The first `count` of `values`; the others are zero.
 pub struct Text {
-    pub values: [u16; 3],
+    pub values: [u16; 4],
     pub count: usize,
 }
 
@@ -47,7 +47,7 @@ impl Text {
         ensures { λ r. ⌜ r ≡ textOf [] ⌝ }
     {
         Self {
-            values: [0, 0, 0],
+            values: [0, 0, 0, 0],
             count: 0,
         }
     }
@@ -56,7 +56,7 @@ impl Text {
         ensures { λ r. ⌜ r ≡ textOf (first ∷ []) ⌝ }
     {
         Self {
-            values: [first, 0, 0],
+            values: [first, 0, 0, 0],
             count: 1,
         }
     }
@@ -65,7 +65,7 @@ impl Text {
         ensures { λ r. ⌜ r ≡ textOf (first ∷ second ∷ []) ⌝ }
     {
         Self {
-            values: [first, second, 0],
+            values: [first, second, 0, 0],
             count: 2,
         }
     }
@@ -74,8 +74,17 @@ impl Text {
         ensures { λ r. ⌜ r ≡ textOf (first ∷ second ∷ third ∷ []) ⌝ }
     {
         Self {
-            values: [first, second, third],
+            values: [first, second, third, 0],
             count: 3,
+        }
+    }
+
+    fn four(first: u16, second: u16, third: u16, fourth: u16) -> Self
+        ensures { λ r. ⌜ r ≡ textOf (first ∷ second ∷ third ∷ fourth ∷ []) ⌝ }
+    {
+        Self {
+            values: [first, second, third, fourth],
+            count: 4,
         }
     }
 }
@@ -140,23 +149,41 @@ pub(crate) fn vowel_text(weight: u8, tall: u8) -> Text
     }
 }
 
-// The final of a letter's number and a link; a great sa is written with the next head.
-pub(crate) fn final_text(letter: u8, link: u8) -> Text
-    ensures { λ r. ⌜ r ≡ textOf (finalText (finalOfNumbers letter link)) ⌝ }
+// The final of its letters' numbers and a link; a great sa is written with the next head.
+pub(crate) fn final_text(letter: u8, second_final: u8, link: u8) -> Text
+    ensures { λ r. ⌜ r ≡ textOf (finalText (finalOfNumbers letter «second_final» link)) ⌝ }
 {
-    let value = 0x0FFF + letter as u16;
     match link {
-        1 => Text::two(value, KILLER),
-        2 => stacked_text(letter, value),
+        1 => plain_text(letter, second_final),
+        2 => stacked_text(letter),
         _ => Text::none(),
     }
 }
 
-// The letter of a number, stacked.
-fn stacked_text(letter: u8, value: u16) -> Text
-    requires { ⌜ value ≡ 0x0FFF + letter ⌝ }
-    ensures { λ r. ⌜ r ≡ textOf (finalText (finalOfNumbers letter 2)) ⌝ }
+// The letter of a final's number.
+fn letter_value(number: u8) -> u16
+    ensures { λ r. ⌜ r ≡ letterOfNumber number ⌝ }
 {
+    0x0FFF + number as u16
+}
+
+// A plain letter, or two where the second's number is not 0.
+fn plain_text(letter: u8, second_final: u8) -> Text
+    ensures { λ r. ⌜ r ≡ textOf (finalText (plainOfNumbers letter «second_final»)) ⌝ }
+{
+    let first = letter_value(letter);
+    if second_final == 0 {
+        Text::two(first, KILLER)
+    } else {
+        Text::four(first, KILLER, letter_value(second_final), KILLER)
+    }
+}
+
+// The letter of a number, stacked.
+fn stacked_text(letter: u8) -> Text
+    ensures { λ r. ⌜ r ≡ textOf (finalText (finalOfNumbers letter 0 2)) ⌝ }
+{
+    let value = letter_value(letter);
     if letter == KINZI_LETTER {
         Text::three(value, KILLER, STACKER)
     } else {

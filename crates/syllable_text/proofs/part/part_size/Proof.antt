@@ -1,9 +1,10 @@
--- `syllable_text::part::part_size` meets its contract: the counts of the four texts are the lengths of what they hold, each at most three.
+-- `syllable_text::part::part_size` meets its contract: the counts of the four texts are the lengths of what they hold, and those are small.
 -- Assumes nothing.
 use Prim.Native.Nat.{_≤_}
 use native.Mathlib.Omega.{arith}
 use lib.Dec.{eqb}
 use lib.ListN.{getD, length-append}
+use Rattle.formula.specs.Record.{linkPlace}
 use Rattle.syllable_text.specs.Decode.{medialOfWeight, vowelOfWeight, finalOfNumbers, toneOfWeight, syllableOf}
 use Rattle.syllable_text.proofs.Texts.{medial-short, vowel-short, final-short, tone-short, text-count}
 use borrow.Author.Needs.{needs}
@@ -31,6 +32,9 @@ array-read-final-text c = search needs
 array-read-final-text-2 : tie.Need-array-read-final-text-2
 array-read-final-text-2 c = search needs
 
+array-read-final-text-3 : tie.Need-array-read-final-text-3
+array-read-final-text-3 c = search needs
+
 final-text-requires : tie.Need-final-text-requires
 final-text-requires c κs = search needs
 
@@ -47,11 +51,13 @@ medial c = rw (text-count _ _ (c .medial-text .ensures)) (medial-short (medialOf
 vowel : (c : tie.After-vowel-text) → c .vowel-text .result .count ≤ 3
 vowel c = rw (text-count _ _ (c .vowel-text .ensures)) (vowel-short (vowelOfWeight (getD (c .before .before .args .t1) 2 0) (eqb (getD (c .before .before .args .t1) 3 0) 1)))
 
-final : (c : tie.After-final-text) → c .final-text .result .count ≤ 3
-final c = rw (text-count _ _ (c .final-text .ensures)) (final-short (finalOfNumbers (getD (c .before .before .before .args .t1) 4 0) (getD (c .before .before .before .args .t1) 5 0)))
+final : (c : tie.After-final-text) → c .final-text .result .count ≤ 4
+final c =
+    let bytes = c .before .before .before .args .t1 in
+    rw (text-count _ _ (c .final-text .ensures)) (final-short (finalOfNumbers (getD bytes 4 0) (getD bytes 5 0) (getD bytes linkPlace 0)))
 
-tone : (c : tie.After-tone-text) → c .tone-text .result .count ≤ 3
-tone c = rw (text-count _ _ (c .tone-text .ensures)) (tone-short (toneOfWeight (getD (c .before .before .before .before .args .t1) 6 0)))
+tone : (c : tie.After-tone-text) → c .tone-text .result .count ≤ 1
+tone c = rw (text-count _ _ (c .tone-text .ensures)) (tone-short (toneOfWeight (getD (c .before .before .before .before .args .t1) 7 0)))
 
 add-result : tie.Need-add-result
 add-result c = omega (arith, medial (c .before .before .before .before))
@@ -96,6 +102,7 @@ part-size-spec =
     vowel-text-requires
     array-read-final-text
     array-read-final-text-2
+    array-read-final-text-3
     final-text-requires
     array-read-tone-text
     tone-text-requires

@@ -8,6 +8,7 @@ use lib.ListN.{length, getD, set, length-append}
 use denote.Ref.{now}
 use Rattle.letters.specs.Marks.{medialText, vowelText, toneText}
 use Rattle.formula.specs.Syllable.{finalText}
+use Rattle.formula.specs.Record.{linkPlace}
 use Rattle.syllable_text.specs.Decode.{medialOfWeight, vowelOfWeight, finalOfNumbers, toneOfWeight, syllableOf}
 use Rattle.syllable_text.specs.Part.{headAfter, partAfter, PartPut}
 use Rattle.syllable_text.proofs.Texts.{medial-short, vowel-short, final-short, tone-short}
@@ -27,10 +28,10 @@ abbrev vowel : tie.Start → List ℕ
 vowel c = vowelText (vowelOfWeight (getD (c .args .t4) 2 0) (eqb (getD (c .args .t4) 3 0) 1))
 
 abbrev final : tie.Start → List ℕ
-final c = finalText (finalOfNumbers (getD (c .args .t4) 4 0) (getD (c .args .t4) 5 0))
+final c = finalText (finalOfNumbers (getD (c .args .t4) 4 0) (getD (c .args .t4) 5 0) (getD (c .args .t4) linkPlace 0))
 
 abbrev tone : tie.Start → List ℕ
-tone c = toneText (toneOfWeight (getD (c .args .t4) 6 0))
+tone c = toneText (toneOfWeight (getD (c .args .t4) 7 0))
 
 -- there is room for them all
 room : (c : tie.Start) → c .args .at + (1 + length (medial c) + length (vowel c) + length (final c) + length (tone c)) ≤ length (now (c .args .output))
@@ -118,7 +119,7 @@ medial-text-requires c κs = search needs
 put-requires : tie.Need-put-requires
 put-requires c κs =
     let start = c .before .before .before .before in
-    room-behind _ _ _ _ _ (headed (c .before .before)) (c .medial-text .result) (medial start) (c .medial-text .ensures) (omega (arith, room start)) (medial-short (medialOfWeight (getD (start .args .t4) 1 0)))
+    room-behind _ _ _ _ _ (headed (c .before .before)) (c .medial-text .result) (medial start) (c .medial-text .ensures) (omega (arith, room start)) (omega (arith, medial-short (medialOfWeight (getD (start .args .t4) 1 0))))
 
 array-read-vowel-text : tie.Need-array-read-vowel-text
 array-read-vowel-text c = search needs
@@ -132,7 +133,7 @@ vowel-text-requires c κs = search needs
 put-requires-2 : tie.Need-put-requires-2
 put-requires-2 c κs =
     let start = c .before .before .before .before .before .before .before .before .before in
-    room-behind _ _ _ _ _ (with-medial (c .before .before .before .before)) (c .vowel-text .result) (vowel start) (c .vowel-text .ensures) (omega (arith, room start)) (vowel-short (vowelOfWeight (getD (start .args .t4) 2 0) (eqb (getD (start .args .t4) 3 0) 1)))
+    room-behind _ _ _ _ _ (with-medial (c .before .before .before .before)) (c .vowel-text .result) (vowel start) (c .vowel-text .ensures) (omega (arith, room start)) (omega (arith, vowel-short (vowelOfWeight (getD (start .args .t4) 2 0) (eqb (getD (start .args .t4) 3 0) 1))))
 
 array-read-final-text : tie.Need-array-read-final-text
 array-read-final-text c = search needs
@@ -140,13 +141,16 @@ array-read-final-text c = search needs
 array-read-final-text-2 : tie.Need-array-read-final-text-2
 array-read-final-text-2 c = search needs
 
+array-read-final-text-3 : tie.Need-array-read-final-text-3
+array-read-final-text-3 c = search needs
+
 final-text-requires : tie.Need-final-text-requires
 final-text-requires c κs = search needs
 
 put-requires-3 : tie.Need-put-requires-3
 put-requires-3 c κs =
     let start = c .before .before .before .before .before .before .before .before .before .before .before .before .before .before in
-    room-behind _ _ _ _ _ (with-vowel (c .before .before .before .before)) (c .final-text .result) (final start) (c .final-text .ensures) (omega (arith, room start, length-append (medial start) (vowel start))) (final-short (finalOfNumbers (getD (start .args .t4) 4 0) (getD (start .args .t4) 5 0)))
+    room-behind _ _ _ _ _ (with-vowel (c .before .before .before .before)) (c .final-text .result) (final start) (c .final-text .ensures) (omega (arith, room start, length-append (medial start) (vowel start))) (final-short (finalOfNumbers (getD (start .args .t4) 4 0) (getD (start .args .t4) 5 0) (getD (start .args .t4) linkPlace 0)))
 
 array-read-tone-text : tie.Need-array-read-tone-text
 array-read-tone-text c = search needs
@@ -157,7 +161,7 @@ tone-text-requires c κs = search needs
 put-requires-4 : tie.Need-put-requires-4
 put-requires-4 c κs =
     let start = c .before .before .before .before .before .before .before .before .before .before .before .before .before .before .before .before .before .before .before in
-    room-behind _ _ _ _ _ (with-final (c .before .before .before .before)) (c .tone-text .result) (tone start) (c .tone-text .ensures) (omega (arith, room start, length-append (medial start) (vowel start), length-append (medial start ++ vowel start) (final start))) (tone-short (toneOfWeight (getD (start .args .t4) 6 0)))
+    room-behind _ _ _ _ _ (with-final (c .before .before .before .before)) (c .tone-text .result) (tone start) (c .tone-text .ensures) (omega (arith, room start, length-append (medial start) (vowel start), length-append (medial start ++ vowel start) (final start))) (omega (arith, tone-short (toneOfWeight (getD (start .args .t4) 7 0))))
 
 -- the pieces are the part
 all : (c : tie.After-put4)
@@ -189,6 +193,7 @@ put-part-spec =
     put-requires-2
     array-read-final-text
     array-read-final-text-2
+    array-read-final-text-3
     final-text-requires
     put-requires-3
     array-read-tone-text

@@ -35,6 +35,12 @@ array-read-is-final c = search needs
 is-final-requires : tie.Need-is-final-requires
 is-final-requires c κs = search needs
 
+array-read-is-second-final : tie.Need-array-read-is-second-final
+array-read-is-second-final c = search needs
+
+is-second-final-requires : tie.Need-is-second-final-requires
+is-second-final-requires c κs = search needs
+
 is-tone-requires : tie.Need-is-tone-requires
 is-tone-requires c κs = search needs
 
@@ -48,12 +54,14 @@ returns : tie.Need-returns
 unfolding isRecord
 returns c =
     let tones = c .before .before in
-    let finals = tones .before in
+    let second-finals = tones .before in
+    let finals = second-finals .before in
     let vowels = finals .before in
     rw (
       ← vowels .before .is-head .ensures,
       ← vowels .is-vowel .ensures,
       ← finals .is-final .ensures,
+      ← second-finals .is-second-final .ensures,
       ← tones .is-tone .ensures,
       ← c .before .carries-marks .ensures,
       ← c .carries-final .ensures,
@@ -73,6 +81,8 @@ is-record-spec =
     is-vowel-requires
     array-read-is-final
     is-final-requires
+    array-read-is-second-final
+    is-second-final-requires
     is-tone-requires
     carries-marks-requires
     carries-final-requires

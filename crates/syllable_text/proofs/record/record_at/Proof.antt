@@ -47,8 +47,14 @@ add-t20 c = search needs
 shared-slice-read-t22 : tie.Need-shared-slice-read-t22
 shared-slice-read-t22 c = search needs
 
+add-t23 : tie.Need-add-t23
+add-t23 c = search needs
+
+shared-slice-read-t25 : tie.Need-shared-slice-read-t25
+shared-slice-read-t25 c = search needs
+
 returns : tie.Need-returns
-returns c = let at-start = c .before .before .before .before .before .before .before in piece-at (recordSize - 1) (now (at-start .args .records)) (at-start .args .at) (at-start .pre)
+returns c = let at-start = c .before .before .before .before .before .before .before .before in piece-at (recordSize - 1) (now (at-start .args .records)) (at-start .args .at) (at-start .pre)
 
 pub record-at-spec : {M : Type 1} → statement M
 record-at-spec =
@@ -67,4 +73,6 @@ record-at-spec =
     shared-slice-read-t19
     add-t20
     shared-slice-read-t22
+    add-t23
+    shared-slice-read-t25
     returns)

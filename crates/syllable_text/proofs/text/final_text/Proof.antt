@@ -19,11 +19,8 @@ unfolding pick
 unwritten true = refl
 unwritten false = refl
 
-add-value : tie.Need-add-value
-add-value c = search needs
-
-two-requires : tie.Need-two-requires
-two-requires c κs = search needs
+plain-text-requires : tie.Need-plain-text-requires
+plain-text-requires c κs = search needs
 
 stacked-text-requires : tie.Need-stacked-text-requires
 stacked-text-requires c κs = search needs
@@ -33,7 +30,7 @@ none-requires c κs = search needs
 
 returns : tie.Need-returns
 unfolding finalOfNumbers pick
-returns c = rw (c .before .match .keys1) (c .two .ensures)
+returns c = rw (c .before .match .keys1) (c .plain-text .ensures)
 
 returns-2 : tie.Need-returns-2
 unfolding finalOfNumbers pick
@@ -48,8 +45,7 @@ pub final-text-spec : {M : Type 1} → statement M
 final-text-spec =
     tie.close
     (tie.spec
-    add-value
-    two-requires
+    plain-text-requires
     stacked-text-requires
     none-requires
     returns
