@@ -11,7 +11,7 @@ use lib.ListN.{length, getD, take, drop, length-append, length-drop, drop-of-len
 use lib.Seq.{length-take-le, drop-drop}
 use Rattle.letters.specs.Choice.{pick}
 use Rattle.formula.proofs.Lists.{both-left, both-right}
-use Rattle.formula.specs.Syllable.{Final, no-final, plain, stacked, kinzi, great-sa, Syllable, syllable, finalOf, part}
+use Rattle.formula.specs.Syllable.{Final, no-final, plain, plain-pair, stacked, kinzi, great-sa, Syllable, syllable, finalOf, part}
 use Rattle.formula.specs.Row.{Row, joinAfter, join}
 use Rattle.formula.specs.Limits.{recordSize}
 use Rattle.formula.specs.Record.{linkOf, linkPlace}
@@ -29,6 +29,7 @@ part-after : (f : Final) (s : Syllable) → partAfter (linkOf f) s ≡ part f s
 unfolding partAfter headAfter pick
 part-after no-final (syllable h m v g t) = refl
 part-after (plain c) (syllable h m v g t) = refl
+part-after (plain-pair c d) (syllable h m v g t) = refl
 part-after (stacked c) (syllable h m v g t) = refl
 part-after kinzi (syllable h m v g t) = refl
 part-after great-sa (syllable h m v g t) = refl

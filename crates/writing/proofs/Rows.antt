@@ -12,7 +12,7 @@ use Rattle.letters.specs.Weights.{isFinalLetter}
 use Rattle.formula.proofs.Lists.{both, both-left, both-right}
 use Rattle.formula.proofs.Records.{record-length}
 use Rattle.formula.specs.Limits.{recordSize}
-use Rattle.formula.specs.Syllable.{Final, no-final, plain, stacked, kinzi, great-sa, syllable, finalOf, isSyllable, follows}
+use Rattle.formula.specs.Syllable.{Final, no-final, plain, plain-pair, stacked, kinzi, great-sa, syllable, finalOf, isSyllable, follows}
 use Rattle.formula.specs.Row.{Row, isRowAfter}
 use Rattle.formula.specs.Record.{linkOf, recordOf, linkPlace, recordBytes}
 use Rattle.rows.proofs.Sound.{apart}
@@ -33,6 +33,7 @@ pub link-admits : (f : Final) (h : ℕ) → linkAdmits (linkOf f) h ≡ follows 
 unfolding linkAdmits
 link-admits no-final h = refl
 link-admits (plain c) h = refl
+link-admits (plain-pair c d) h = refl
 link-admits (stacked c) h = or-false (isFinalLetter h)
 link-admits kinzi h = or-false (isFinalLetter h)
 link-admits great-sa h = refl

@@ -1,4 +1,4 @@
--- Document 01, "Syllable records": the tests that tell the records of a row from other bytes, and the row that they are read as.
+-- Document 01, "Syllable records", and document 02, E5: the tests that tell the records of a row from other bytes, and the row that they are read as.
 -- Assumes nothing.
 use mathlib.Core.Bool.{Bool, _&&_}
 use mathlib.Core.List.{List, [], _∷_, map}
@@ -16,7 +16,7 @@ abbrev pub firstRecords : ℕ → List ℕ → List (List ℕ)
 firstRecords zero bytes = []
 firstRecords (suc count) bytes = take recordSize bytes ∷ firstRecords count (drop recordSize bytes)
 
--- "a lent list of bytes, seven a syllable in word order": the records
+-- "a writer's row has eight bytes a syllable", in word order: the records
 unfoldable pub recordsOf : List ℕ → List (List ℕ)
 recordsOf bytes = firstRecords (length bytes / recordSize) bytes
 
@@ -29,6 +29,6 @@ abbrev pub eachFollows : ℕ → List (List ℕ) → Bool
 eachFollows link [] = leb link 1
 eachFollows link (next ∷ records) = mayFollow link next && eachFollows (getD next linkPlace 0) records
 
--- the bytes are the records of a row after a syllable with the link; "a list whose length is no multiple of seven is no such row"
+-- the bytes are the records of a row after a syllable with the link; a list whose length is no multiple of eight is no such row
 unfoldable pub areRecords : ℕ → List ℕ → Bool
 areRecords link bytes = eqb (length bytes % recordSize) 0 && eachFollows link (recordsOf bytes)

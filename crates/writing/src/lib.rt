@@ -1,4 +1,4 @@
-// The writer: the word that a row of syllable records gives, seven bytes a syllable in word order.
+// The writer: the word that a row of syllable records gives, eight bytes a syllable in word order.
 use refusals::Counted;
 use refusals::Refusal;
 ghost use Rattle.refusals.specs.Outcome.{outcomeOf};
