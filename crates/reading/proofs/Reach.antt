@@ -13,9 +13,9 @@ use Rattle.formula.specs.Syllable.{no-final, great-sa, Syllable, syllable, bare
 use Rattle.formula.specs.Row.{Row}
 use Rattle.formula.specs.Packed.{packed, unread}
 use Rattle.formula.specs.declared.Window.{Window}
-use Rattle.rows.specs.Machine.{endOf, keptJoin, step, run}
+use Rattle.rows.specs.Machine.{endOf, KeptOk, keptJoin, step, run}
 use Rattle.transitions.specs.Tables.{entryOf, gainOf}
-use Rattle.transitions.specs.Transition.{Makes, begins, begins-great-sa, adds-medial, adds-vowel, adds-tone, makes-kinzi, closes}
+use Rattle.transitions.specs.Transition.{Makes, begins, begins-great-sa, adds-medial, adds-vowel, adds-tone, makes-kinzi, closes, closes-second}
 use Rattle.transitions.proofs.Entered.{Moves, makes-length}
 use Rattle.syllables.specs.Window.{windowAfter, Fit, WindowOf}
 use Rattle.syllables.proofs.Moved.{closed-final, window-moves, window-fits}
@@ -96,6 +96,7 @@ stays l k (adds-vowel e) n o = changed _ _ _ l k (λ t. t) o
 stays l k (adds-tone e) n o = changed _ _ _ l k (λ t. t) o
 stays l k makes-kinzi n o = changed _ _ _ l k (λ t. absurd t) o
 stays {x} l k (closes {c = c} i) n o = closed _ _ _ _ l k tt (closed-final x c) o
+stays l k (closes-second y i) n o = closed _ _ _ _ l k tt (λ t. t) o
 
 module _ (at : ℕ) (w : Window) where
   -- a syllable begins: the one before it is finished
@@ -148,6 +149,7 @@ module _ (at : ℕ) (w : Window) where
   begun l k (adds-tone i) e r j v o = let no : ⊥ = omega arith in absurd no
   begun l k makes-kinzi e r j v o = let no : ⊥ = omega arith in absurd no
   begun l k (closes i) e r j v o = let no : ⊥ = omega arith in absurd no
+  begun l k (closes-second y i) e r j v o = let no : ⊥ = omega arith in absurd no
 
 -- nothing read yet
 pub at-start : (word : List ℕ) → Reached word 0 0 unread (replicate limit 0) (replicate limit 0)
@@ -183,15 +185,18 @@ module _ (word : List ℕ) (at state : ℕ) (w : Window) (l k : List ℕ) (r : R
   came : run (take (at + 1) word) [] ≡ some (move .after)
   came = moved-on word at state (w .count) (r .walked) entry e inside q
 
+  kept-ok : KeptOk (r .walked .kept)
+  kept-ok = kept-right word at (r .walked .kept) (r .walked .came) .0
+
   -- the numbers of the window fit
   pub turn-fits : Fit (entry / 32) gain (getD word at 0) w
   turn-fits =
-      window-fits w (move .makes) gain (g ∙ move .gain-is) (move .begins-is) (kept-right word at (r .walked .kept) (r .walked .came) .0)
+      window-fits w (move .makes) gain (g ∙ move .gain-is) (move .begins-is) kept-ok
       (kept-right word (at + 1) (move .after) came .0) (let b = count-fits word at state w l k r in omega (arith, r .window-of .count)) (r .window-of)
 
   module _ (v : Window) (f : v ≡ windowAfter (entry / 32) gain (getD word at 0) w) where
     window-is : WindowOf (move .after) v
-    window-is = rw f (window-moves w (move .makes) gain (g ∙ move .gain-is) (r .window-of))
+    window-is = rw f (window-moves w (move .makes) gain (g ∙ move .gain-is) kept-ok (r .window-of))
 
     reached : (m n : List ℕ) → ArraysOf (move .after) m n → Reached word (at + 1) (entry % 32) v m n
     reached m n o =

@@ -27,7 +27,7 @@ pub bytes-packed : (s : Syllable) → T (isSyllable s) → bytesBy (packed s) �
 unfolding recordOf bytesBy medialWeightBy
 bytes-packed (syllable h m v f t) i =
     let p = parted h m v f t i in
-    rw (p .head, p .medials, p .vowel, p .tall, p .letter, p .link, p .tone, medial-written m)
+    rw (p .head, p .medials, p .vowel, p .tall, p .letter, p .second-letter, p .link, p .tone, medial-written m)
 
 -- the bytes of a syllable of a row, by number
 bytes-at : (f : Final) (row : Row) → T (isRowAfter f row) → (rest : List ℕ) (k d : ℕ) → k < length row

@@ -1,4 +1,4 @@
--- The record of a syllable by number (document 01, "Syllable records"), by the formula alone.
+-- The record of a syllable by number (document 01, "Syllable records", and document 02, E5), by the formula alone.
 -- Assumes nothing.
 use mathlib.Core.Path.{_≡_}
 use mathlib.Core.List.{List, [], _∷_}
@@ -11,13 +11,13 @@ use Rattle.formula.specs.Row.{Row, Gives}
 use Rattle.formula.specs.Record.{recordOf}
 use Rattle.refusals.specs.Refusal.{numberOf, placeOf}
 use Rattle.refusals.specs.Outcome.{Outcome, accepts, accepts-both, absent, refuses}
-use Rattle.syllables.specs.Parts.{headPart, medialPart, finalPart, linkPart, vowelPart, tallPart, tonePart}
+use Rattle.syllables.specs.Parts.{headPart, medialPart, finalPart, linkPart, vowelPart, tallPart, tonePart, secondFinalPart}
 use Rattle.recogniser.specs.Answer.{Admissible, RefusedWith}
 use Rattle.reading.specs.declared.records.RecordAnswer.{RecordAnswer}
 use Rattle.reading.specs.declared.records.RecordAnswer.the-variants.{Found, NoSyllable, Refused}
 use Rattle.reading.specs.declared.records.SyllableRecord.{SyllableRecord}
 
--- a record that is found tells how many bytes it has, "seven bytes by value"
+-- a record that is found tells how many bytes it has, "eight bytes in all", by value
 abbrev pub recordOutcomeOf : RecordAnswer → Outcome
 recordOutcomeOf Found = accepts recordSize
 recordOutcomeOf NoSyllable = absent
@@ -34,7 +34,7 @@ pub record HasRecord (word : List ℕ) (number : ℕ) (bytes : List ℕ) : Type 
   pub below : number < length row
   pub is : bytes ≡ recordOf (getD row number (bare 0x1000))
 
--- "the answer tells whether there is such a syllable, and if not, the seven bytes are 0"
+-- "the answer tells whether there is such a syllable, and if not," the bytes "are 0"
 pub record NoRecord (word : List ℕ) (number : ℕ) (bytes : List ℕ) : Type 0 where
   pub admissible : Admissible word
   pub row : Row
@@ -69,6 +69,7 @@ bytesBy packed =
     ∷ vowelPart packed
     ∷ tallPart packed
     ∷ finalPart packed
+    ∷ secondFinalPart packed
     ∷ linkPart packed
     ∷ tonePart packed
     ∷ []

@@ -14,7 +14,7 @@ pub enum RecordAnswer {
     Refused(Refusal),
 }
 
-// Seven bytes, and whether there is such a syllable; zeros where there is none.
+// Eight bytes, and whether there is such a syllable; zeros where there is none.
 pub struct SyllableRecord {
     pub answer: RecordAnswer,
     pub bytes: [u8; Word::RECORD],
@@ -37,6 +37,7 @@ pub fn bytes_of(packed: u64) -> [u8; Word::RECORD]
         parts::vowel(packed),
         parts::tall(packed),
         parts::letter(packed),
+        parts::second_letter(packed),
         parts::link(packed),
         parts::tone(packed),
     ]

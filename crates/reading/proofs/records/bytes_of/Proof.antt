@@ -23,6 +23,9 @@ tall-requires c κs = search needs
 letter-requires : tie.Need-letter-requires
 letter-requires c κs = search needs
 
+second-letter-requires : tie.Need-second-letter-requires
+second-letter-requires c κs = search needs
+
 link-requires : tie.Need-link-requires
 link-requires c κs = search needs
 
@@ -43,6 +46,7 @@ bytes-of-spec =
     vowel-requires
     tall-requires
     letter-requires
+    second-letter-requires
     link-requires
     tone-requires
     returns)

@@ -2,10 +2,11 @@
 -- values read. The measure is what is left of the word. Assumes nothing.
 use mathlib.Core.Path.{_≡_, ap, _∙_}
 use mathlib.Core.Logic.{⊎-elim}
-use Prim.Native.Nat.{_-_, _/_, _≤_}
+use Prim.Native.Nat.{_-_, _/_, _≤_, _<_}
 use native.Mathlib.Omega.{arith}
 use borrow.Author.Needs.{needs}
 use lib.ListN.{length, getD}
+use Rattle.transitions.specs.State.{stateCount}
 use Rattle.transitions.specs.Tables.{entryOf, gainOf, nextBy, gainBy}
 use Rattle.transitions.proofs.Entered.{next-entry, next-gain}
 use Rattle.syllables.specs.Window.{Fit}
@@ -38,7 +39,7 @@ rules-of-requires : tie.Need-rules-of-requires Inv-loop μ-loop
 rules-of-requires c κs = search needs
 
 -- the state is one of the table's
-state-small : (c : tie.At-loop Inv-loop μ-loop) → c .loop .state ≤ 14
+state-small : (c : tie.At-loop Inv-loop μ-loop) → c .loop .state < stateCount
 state-small c =
     let b = state-bound (c .before .before .before .args .word .now) (c .loop .at) (c .loop .state) (c .loop .window .count) (c .loop .inv .1 .walked) in
     omega arith
