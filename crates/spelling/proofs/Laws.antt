@@ -9,9 +9,9 @@ use lib.Dec.{T}
 use lib.ListN.{length, getD, take, drop, length-append}
 use lib.Seq.{take-at, drop-append-seam}
 use Rattle.formula.proofs.Lists.{both}
-use Rattle.formula.specs.Syllable.{Final, no-final, plain, stacked, kinzi, great-sa, Syllable, syllable, bare, finalOf, isClosed, isSyllable, part}
+use Rattle.formula.specs.Syllable.{Final, no-final, plain, plain-pair, stacked, kinzi, great-sa, Syllable, syllable, bare, finalOf, isClosed, isSyllable, part}
 use Rattle.formula.specs.Row.{Row, isRowAfter, IsRow, Gives}
-use Rattle.formula.specs.Record.{finalNumberOf}
+use Rattle.formula.specs.Record.{finalNumberOf, secondFinalNumberOf}
 use Rattle.formula.specs.Spelled.{spelledOf, spelled}
 use Rattle.rows.proofs.Complete.{first}
 use Rattle.recogniser.specs.Answer.{Reads}
@@ -24,23 +24,34 @@ use Rattle.spelling.proofs.Plains.{plain-syllable, plain-part, spelled-
 abbrev pub withFinal : Syllable → Final → Syllable
 withFinal (syllable h m v f t) g = syllable h m v g t
 
--- the word is one syllable with the same head, medial group, vowel and tone, and with a final of the same letter
+-- the word is one syllable with the same head, medial group, vowel and tone, and with a final of the same letters
 pub record Alone (s : Syllable) (word : List ℕ) : Type 0 where
   pub final : Final
   pub letter : finalNumberOf final ≡ finalNumberOf (finalOf s)
+  pub second-letter : secondFinalNumberOf final ≡ secondFinalNumberOf (finalOf s)
   pub gives : Gives (withFinal s final ∷ []) word
   pub reads : Reads word 1
 
 plain-letter : (f : Final) → finalNumberOf (plainFinal f) ≡ finalNumberOf f
 plain-letter no-final = refl
 plain-letter (plain c) = refl
+plain-letter (plain-pair c d) = refl
 plain-letter (stacked c) = refl
 plain-letter kinzi = refl
 plain-letter great-sa = refl
 
+plain-second-letter : (f : Final) → secondFinalNumberOf (plainFinal f) ≡ secondFinalNumberOf f
+plain-second-letter no-final = refl
+plain-second-letter (plain c) = refl
+plain-second-letter (plain-pair c d) = refl
+plain-second-letter (stacked c) = refl
+plain-second-letter kinzi = refl
+plain-second-letter great-sa = refl
+
 plain-closes : (f : Final) → T (isClosed (plainFinal f))
 plain-closes no-final = tt
 plain-closes (plain c) = tt
+plain-closes (plain-pair c d) = tt
 plain-closes (stacked c) = tt
 plain-closes kinzi = tt
 plain-closes great-sa = tt
@@ -56,6 +67,7 @@ spelled-alone (syllable h m v f t) is =
     record {
       final = plainFinal f;
       letter = plain-letter f;
+      second-letter = plain-second-letter f;
       gives = gives;
       reads = row-reads (plainOf s ∷ []) (spelledOf s) gives (omega (arith, spelled-small s));
     }

@@ -5,4 +5,4 @@ pub mod Determined
 pub mod Laws
 pub mod Longest
 pub mod RoundTrip
-pub mod Base
+pub mod Earlier

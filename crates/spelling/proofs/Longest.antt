@@ -8,7 +8,7 @@ use lib.Dec.{T}
 use lib.ListN.{length, replicate, length-append}
 use Rattle.letters.specs.Marks.{no-medial, no-vowel, no-tone}
 use Rattle.formula.specs.Limits.{limit}
-use Rattle.formula.specs.Syllable.{Final, no-final, plain, stacked, kinzi, great-sa, Syllable, syllable, bare, finalOf, carriesMarks, carriesFinal, isClosed, finalText, part}
+use Rattle.formula.specs.Syllable.{Final, no-final, plain, plain-pair, stacked, kinzi, great-sa, Syllable, syllable, bare, finalOf, carriesMarks, carriesFinal, isClosed, finalText, part}
 use Rattle.formula.specs.Row.{Row, isRowAfter, IsRow, joinAfter, join, Gives}
 use Rattle.formula.specs.Spelled.{spelledFinal, spelledOf, spelled}
 use Rattle.rows.proofs.Complete.{first}
@@ -17,6 +17,7 @@ use Rattle.spelling.specs.Spell.{joined, spelledLimit}
 final-grows : (f : Final) → length (spelledFinal f) ≤ length (finalText f) + 2
 final-grows no-final = omega arith
 final-grows (plain c) = omega arith
+final-grows (plain-pair c d) = omega arith
 final-grows (stacked c) = omega arith
 final-grows kinzi = omega arith
 final-grows great-sa = omega arith
@@ -24,6 +25,7 @@ final-grows great-sa = omega arith
 final-closed : (f : Final) → T (isClosed f) → length (spelledFinal f) ≡ length (finalText f)
 final-closed no-final t = refl
 final-closed (plain c) t = refl
+final-closed (plain-pair c d) t = refl
 final-closed (stacked c) t = absurd t
 final-closed kinzi t = absurd t
 final-closed great-sa t = absurd t

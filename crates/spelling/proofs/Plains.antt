@@ -12,7 +12,7 @@ use Rattle.letters.specs.Weights.{isFinalLetter}
 use Rattle.letters.specs.Marks.{MedialGroup, Vowel, ToneMark}
 use Rattle.letters.proofs.Tests.{either}
 use Rattle.formula.proofs.Lists.{both-left}
-use Rattle.formula.specs.Syllable.{Final, no-final, plain, stacked, kinzi, great-sa, Syllable, syllable, finalOf, carriesFinal, isNoFinal, isNoTone, isSyllable, part}
+use Rattle.formula.specs.Syllable.{Final, no-final, plain, plain-pair, stacked, kinzi, great-sa, Syllable, syllable, finalOf, carriesFinal, isNoFinal, isNoTone, isSyllable, part}
 use Rattle.formula.specs.Row.{Row, isRowAfter}
 use Rattle.formula.specs.Record.{recordOf}
 use Rattle.formula.specs.Packed.{packed}
@@ -38,6 +38,7 @@ plain-closed h m v f t c letter some q =
 pub plain-syllable : (s : Syllable) → T (isSyllable s) → T (isSyllable (plainOf s))
 plain-syllable (syllable h m v no-final t) q = q
 plain-syllable (syllable h m v (plain c) t) q = q
+plain-syllable (syllable h m v (plain-pair c d) t) q = q
 plain-syllable (syllable h m v (stacked c) t) q =
     plain-closed h m v (stacked c) t c (both-left (isFinalLetter c) _ (apart h m v (stacked c) t q .final)) refl q
 plain-syllable (syllable h m v kinzi t) q = plain-closed h m v kinzi t 0x1004 tt refl q
@@ -47,6 +48,7 @@ plain-syllable (syllable h m v great-sa t) q = plain-closed h m v great-sa t 0x1
 pub plain-part : (s : Syllable) → part no-final (plainOf s) ≡ spelledOf s
 plain-part (syllable h m v no-final t) = refl
 plain-part (syllable h m v (plain c) t) = refl
+plain-part (syllable h m v (plain-pair c d) t) = refl
 plain-part (syllable h m v (stacked c) t) = refl
 plain-part (syllable h m v kinzi t) = refl
 plain-part (syllable h m v great-sa t) = refl
@@ -56,6 +58,7 @@ plain-record : (s : Syllable) → plainBytes (recordOf s) ≡ recordOf (plainOf 
 unfolding recordOf plainLink pick
 plain-record (syllable h m v no-final t) = refl
 plain-record (syllable h m v (plain c) t) = refl
+plain-record (syllable h m v (plain-pair c d) t) = refl
 plain-record (syllable h m v (stacked c) t) = refl
 plain-record (syllable h m v kinzi t) = refl
 plain-record (syllable h m v great-sa t) = refl

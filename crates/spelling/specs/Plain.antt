@@ -5,15 +5,16 @@ use Prim.Native.Nat.{ℕ}
 use lib.Dec.{ltb}
 use lib.ListN.{getD, take, set}
 use Rattle.letters.specs.Choice.{pick}
-use Rattle.formula.specs.Syllable.{Final, no-final, plain, stacked, kinzi, great-sa, Syllable, syllable, part}
+use Rattle.formula.specs.Syllable.{Final, no-final, plain, plain-pair, stacked, kinzi, great-sa, Syllable, syllable, part}
 use Rattle.formula.specs.Record.{linkPlace}
 use Rattle.reading.specs.Records.{bytesBy}
 use Rattle.syllable_text.specs.Decode.{syllableOf}
 
--- the plain final with the same letter
+-- the plain final with the same letter, or the two with the same letters
 abbrev pub plainFinal : Final → Final
 plainFinal no-final = no-final
 plainFinal (plain c) = plain c
+plainFinal (plain-pair c d) = plain-pair c d
 plainFinal (stacked c) = plain c
 plainFinal kinzi = plain 0x1004
 plainFinal great-sa = plain 0x101E
