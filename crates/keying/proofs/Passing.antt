@@ -15,6 +15,7 @@ use Rattle.formula.specs.declared.Window.{Window}
 use Rattle.refusals.specs.Outcome.{Outcome, accepts, accepts-both, absent, refuses}
 use Rattle.rows.specs.Machine.{KeptOk, step, run}
 use Rattle.rows.proofs.Viable.{read-back, stops}
+use Rattle.transitions.specs.State.{stateCount}
 use Rattle.transitions.specs.Transition.{byteOf}
 use Rattle.transitions.specs.Tables.{entryOf, gainOf}
 use Rattle.transitions.proofs.Entered.{Moves}
@@ -41,7 +42,7 @@ module _ {word : List ℕ} {at state : ℕ} {window : Window} {bytes : List ℕ}
   abbrev kept : Row
   kept = r .walked .kept
 
-  pub small : state < 15
+  pub small : state < stateCount
   small = state-bound word at state (window .count) (r .walked)
 
   pub within : window .count ≤ at
@@ -71,7 +72,7 @@ module _ {word : List ℕ} {at state : ℕ} {window : Window} {bytes : List ℕ}
     pub next : (after : Window) (new : List ℕ) → Advanced (entry / 32) gain (getD word at 0) window bytes after new
         → Filled word (at + 1) (entry % 32) after new
     next after new a =
-        let o = subst (WindowOf (moves .after)) (sym (a .moved)) (window-moves window (moves .makes) gain gained (r .window-of)) in
+        let o = subst (WindowOf (moves .after)) (sym (a .moved)) (window-moves window (moves .makes) gain gained kept-ok (r .window-of)) in
         record {
           walked =
               record {

@@ -3,7 +3,7 @@
 use mathlib.Core.Path.{_≡_, refl, ap, sym, subst, _∙_}
 use mathlib.Core.Bool.{Bool, true, false}
 use mathlib.Core.List.{List, [], _∷_, _++_, append-assoc, append-nil, reverse, reverseAux}
-use Prim.Native.Nat.{ℕ, zero, suc, _+_, _-_, _*_, _<_}
+use Prim.Native.Nat.{ℕ, zero, suc, _+_, _-_, _<_}
 use native.Mathlib.Nat.{zero-add, suc-add}
 use native.Mathlib.Omega.{arith}
 use lib.Dec.{T, eqb}
@@ -11,13 +11,13 @@ use lib.ListN.{length, drop, length-append, length-replicate}
 use lib.Seq.{take-at, drop-at, drop-append-add, sets, sets-eq, length-sets}
 use Rattle.letters.specs.Choice.{pick}
 use Rattle.letters.proofs.Branches.{when-equal, when-unequal}
-use Rattle.formula.specs.Limits.{limit}
-use Rattle.formula.specs.Syllable.{no-final, great-sa, Syllable, syllable, bare, finalOf, isNoFinal, isSyllable}
+use Rattle.formula.specs.Limits.{limit, weightCount}
+use Rattle.formula.specs.Syllable.{no-final, plain, plain-pair, great-sa, Syllable, syllable, bare, finalOf, isNoFinal, isSyllable}
 use Rattle.formula.specs.Row.{Row}
 use Rattle.formula.specs.Packed.{packed, packedTop, packedBelow}
 use Rattle.formula.specs.Weighing.{weightsOf}
 use Rattle.rows.specs.Machine.{endOf, KeptOk}
-use Rattle.transitions.specs.Transition.{finalBy, Makes, begins, begins-great-sa, adds-medial, adds-vowel, adds-tone, makes-kinzi, closes}
+use Rattle.transitions.specs.Transition.{finalBy, Makes, begins, begins-great-sa, adds-medial, adds-vowel, adds-tone, makes-kinzi, closes, closes-second}
 use Rattle.syllables.proofs.Moved.{closed-final}
 use Rattle.weighing.specs.Keys.{keyLimit, usedBytes, zeros, keyOf}
 use Rattle.keying.specs.Weights.{weightsBy}
@@ -25,13 +25,13 @@ use Rattle.syllables.specs.Window.{belowLast}
 use Rattle.keying.specs.Filling.{putLast, bytesAfter, keptKey, KeyOf}
 use Rattle.keying.proofs.Weighted.{weights-packed}
 
-five-long : (s : Syllable) → length (weightsOf s) ≡ 5
+weights-long : (s : Syllable) → length (weightsOf s) ≡ weightCount
 unfolding weightsOf
-five-long (syllable h m v f t) = refl
+weights-long (syllable h m v f t) = refl
 
-kept-long : (kept : Row) → length (keptKey kept) ≡ 5 * length kept
+kept-long : (kept : Row) → length (keptKey kept) ≡ usedBytes (length kept)
 kept-long [] = refl
-kept-long (s ∷ kept) = length-append (keptKey kept) (weightsOf s) ∙ omega (arith, five-long s, kept-long kept)
+kept-long (s ∷ kept) = length-append (keptKey kept) (weightsOf s) ∙ omega (arith, weights-long s, kept-long kept)
 
 zeros-add : (m n : ℕ) → zeros m ++ zeros n ≡ zeros (m + n)
 zeros-add zero n = ap zeros (sym (zero-add n))
@@ -47,7 +47,7 @@ sets-in a p z v n e f =
     ∙ append-assoc a v z
 
 pub key-start : KeyOf [] (zeros keyLimit)
-key-start = record { place = zeros 5; rest = 315; is = sym (zeros-add 5 315); five = refl; size = refl; fresh = λ _. refl }
+key-start = record { place = zeros weightCount; rest = keyLimit - weightCount; is = sym (zeros-add weightCount (keyLimit - weightCount)); sized = refl; size = refl; fresh = λ _. refl }
 
 pub key-length : (kept : Row) (bytes : List ℕ) → KeyOf kept bytes → length bytes ≡ keyLimit
 key-length kept bytes k =
@@ -58,7 +58,7 @@ key-length kept bytes k =
       length-append (k .place) (zeros (k .rest)),
       length-replicate {A = ℕ} (k .rest) 0,
       kept-long (belowLast kept),
-      k .five,
+      k .sized,
       k .size,
     )
 
@@ -68,11 +68,11 @@ put-at : (t s : Syllable) (rest : Row) (bytes : List ℕ) (k : KeyOf (t ∷ rest
 unfolding putLast
 put-at t s rest bytes k i p e =
     let v : weightsBy p ≡ weightsOf s = ap weightsBy e ∙ weights-packed s i in
-    let n : length (keptKey rest) ≡ 5 * (suc (length rest) - 1) = omega (arith, kept-long rest) in
+    let n : length (keptKey rest) ≡ usedBytes (suc (length rest) - 1) = omega (arith, kept-long rest) in
     sym (when-unequal (suc (length rest)) 0 _ _ _ (λ (z : suc (length rest) ≡ 0). omega arith) refl)
-    ∙ ap (λ (l : List ℕ). sets bytes (5 * (suc (length rest) - 1)) l) v
-    ∙ ap (λ (l : List ℕ). sets l (5 * (suc (length rest) - 1)) (weightsOf s)) (k .is)
-    ∙ sets-in (keptKey rest) (k .place) (zeros (k .rest)) (weightsOf s) _ n (k .five ∙ sym (five-long s))
+    ∙ ap (λ (l : List ℕ). sets bytes (usedBytes (suc (length rest) - 1)) l) v
+    ∙ ap (λ (l : List ℕ). sets l (usedBytes (suc (length rest) - 1)) (weightsOf s)) (k .is)
+    ∙ sets-in (keptKey rest) (k .place) (zeros (k .rest)) (weightsOf s) _ n (k .sized ∙ sym (weights-long s))
     ∙ sym (append-assoc (keptKey rest) (weightsOf s) (zeros (k .rest)))
 
 -- another syllable begins on it
@@ -80,21 +80,21 @@ begun : (y t s : Syllable) (rest : Row) (bytes : List ℕ) → KeyOf (t ∷ rest
     → (p : ℕ) → p ≡ packed s → KeyOf (y ∷ s ∷ rest) (putLast (suc (length rest)) p bytes)
 begun y t s rest bytes k i h p e =
     let z = k .size in
-    let r : k .rest ≡ 5 + (k .rest - 5) = omega arith in
+    let r : k .rest ≡ weightCount + (k .rest - weightCount) = omega arith in
     record {
-      place = zeros 5;
-      rest = k .rest - 5;
+      place = zeros weightCount;
+      rest = k .rest - weightCount;
       is =
           put-at t s rest bytes k i p e ∙ ap (λ (n : ℕ). keptKey (s ∷ rest) ++ zeros n) r
-          ∙ ap (λ (l : List ℕ). keptKey (s ∷ rest) ++ l) (sym (zeros-add 5 (k .rest - 5)));
-      five = refl;
+          ∙ ap (λ (l : List ℕ). keptKey (s ∷ rest) ++ l) (sym (zeros-add weightCount (k .rest - weightCount)));
+      sized = refl;
       size = omega arith;
       fresh = λ _. refl;
     }
 
 first-begun : (y : Syllable) (bytes : List ℕ) (p : ℕ) → KeyOf [] bytes → KeyOf (y ∷ []) (putLast 0 p bytes)
 unfolding putLast pick
-first-begun y bytes p k = record { place = k .place; rest = k .rest; is = k .is; five = k .five; size = k .size; fresh = λ _. k .fresh tt }
+first-begun y bytes p k = record { place = k .place; rest = k .rest; is = k .is; sized = k .sized; size = k .size; fresh = λ _. k .fresh tt }
 
 pub not-begun : (d count p : ℕ) (bytes : List ℕ) → (d ≡ 2 → ⊥) → bytes ≡ bytesAfter d count p bytes
 unfolding bytesAfter
@@ -108,7 +108,7 @@ is-begun d count p bytes e = when-equal d 2 _ _ _ e refl
 changed : (s n : Syllable) (rest : Row) (bytes : List ℕ) → (T (isNoFinal (finalOf n)) → T (isNoFinal (finalOf s))) → KeyOf (s ∷ rest) bytes
     → KeyOf (n ∷ rest) bytes
 changed s n rest bytes f k =
-    record { place = k .place; rest = k .rest; is = k .is; five = k .five; size = k .size; fresh = λ t. k .fresh (f t) }
+    record { place = k .place; rest = k .rest; is = k .is; sized = k .sized; size = k .size; fresh = λ t. k .fresh (f t) }
 
 -- the last head is the final of the syllable below it, which is put again when it ends
 closed : (top s n : Syllable) (rest : Row) (bytes : List ℕ) → T (isNoFinal (finalOf top)) → (T (isNoFinal (finalOf n)) → ⊥)
@@ -117,11 +117,11 @@ closed top s n rest bytes t f k =
     let z = k .size in
     record {
       place = weightsOf s;
-      rest = 5 + k .rest;
+      rest = weightCount + k .rest;
       is =
           k .is ∙ ap (λ (u : List ℕ). keptKey (s ∷ rest) ++ (u ++ zeros (k .rest))) (k .fresh t)
-          ∙ ap (λ (u : List ℕ). keptKey (s ∷ rest) ++ u) (zeros-add 5 (k .rest)) ∙ append-assoc (keptKey rest) (weightsOf s) (zeros (5 + k .rest));
-      five = five-long s;
+          ∙ ap (λ (u : List ℕ). keptKey (s ∷ rest) ++ u) (zeros-add weightCount (k .rest)) ∙ append-assoc (keptKey rest) (weightsOf s) (zeros (weightCount + k .rest));
+      sized = weights-long s;
       size = omega arith;
       fresh = λ u. absurd (f u);
     }
@@ -151,6 +151,9 @@ module _ (bytes : List ℕ) (p : ℕ) where
   key-moves {x} {kept = kept} {b} (closes {c = c} {h = g} {m = m} {v = v} {t = t} {kept = rest} l) o h e k =
       subst (KeyOf b) (not-begun 0 (length kept) p bytes (λ (z : 0 ≡ 2). omega arith))
       (closed (bare c) (syllable g m v no-final t) (syllable g m v (finalBy x c) t) rest bytes tt (closed-final x c) k)
+  key-moves {x} {kept = kept} {b} (closes-second {b = f} {c = c} {h = g} {m = m} {v = v} {t = t} {kept = rest} y l) o h e k =
+      subst (KeyOf b) (not-begun 0 (length kept) p bytes (λ (z : 0 ≡ 2). omega arith))
+      (closed (bare c) (syllable g m v (plain f) t) (syllable g m v (plain-pair f c) t) rest bytes tt (λ z. z) k)
 
 -- at the end of the word
 pub key-end : (kept : Row) (bytes : List ℕ) (p : ℕ) → KeptOk kept → p ≡ packedTop kept → KeyOf kept bytes
@@ -158,8 +161,8 @@ pub key-end : (kept : Row) (bytes : List ℕ) (p : ℕ) → KeptOk kept → p �
 unfolding putLast pick
 key-end [] bytes p o e k =
     let z = k .size in
-    k .is ∙ ap (λ (u : List ℕ). u ++ zeros (k .rest)) (k .fresh tt) ∙ zeros-add 5 (k .rest)
-    ∙ ap zeros (let r : 5 + k .rest ≡ keyLimit = omega arith in r)
+    k .is ∙ ap (λ (u : List ℕ). u ++ zeros (k .rest)) (k .fresh tt) ∙ zeros-add weightCount (k .rest)
+    ∙ ap zeros (let r : weightCount + k .rest ≡ keyLimit = omega arith in r)
 key-end (s ∷ rest) bytes p o e k =
     let z = k .size in
     put-at s s rest bytes k (o .1) p e
@@ -177,6 +180,6 @@ pub put-length : (count p : ℕ) (bytes : List ℕ) → length (putLast count p 
 unfolding putLast pick
 put-length count p bytes = go (eqb count 0)
   where
-    go : (b : Bool) → length (pick b bytes (sets bytes (5 * (count - 1)) (weightsBy p))) ≡ length bytes
+    go : (b : Bool) → length (pick b bytes (sets bytes (usedBytes (count - 1)) (weightsBy p))) ≡ length bytes
     go true = refl
-    go false = length-sets bytes (5 * (count - 1)) (weightsBy p)
+    go false = length-sets bytes (usedBytes (count - 1)) (weightsBy p)

@@ -12,12 +12,12 @@ use Rattle.letters.specs.Marks.{MedialGroup}
 use Rattle.letters.specs.Weights.{isHead, headWeight, independentVowelWeight, medialSet, medialWeight, medialTable}
 use Rattle.formula.proofs.Classes.{head-bounds}
 use Rattle.formula.proofs.Pieces.{each-medial}
-use Rattle.formula.specs.Syllable.{Final, no-final, plain, stacked, kinzi, great-sa, Syllable, syllable, isSyllable}
-use Rattle.formula.specs.Record.{finalNumberOf}
+use Rattle.formula.specs.Syllable.{Final, no-final, plain, plain-pair, stacked, kinzi, great-sa, Syllable, syllable, isSyllable}
+use Rattle.formula.specs.Record.{finalNumberOf, secondFinalNumberOf}
 use Rattle.formula.specs.Packed.{packed}
-use Rattle.formula.specs.Weighing.{finalWeightOf, weightsOf}
+use Rattle.formula.specs.Weighing.{finalWeightOf, secondFinalWeightOf, weightsOf}
 use Rattle.rows.proofs.Sound.{apart}
-use Rattle.syllables.specs.Parts.{headPart, medialPart, finalPart, vowelPart, tonePart}
+use Rattle.syllables.specs.Parts.{headPart, medialPart, finalPart, vowelPart, tonePart, secondFinalPart}
 use Rattle.syllables.proofs.Parted.{parted}
 use Rattle.keying.specs.Weights.{weightsBy}
 
@@ -28,9 +28,19 @@ head-back h t = let l = head-bounds h t .0 in omega arith
 final-weighs : (f : Final) → finalNumberOf f ≡ finalWeightOf f
 final-weighs no-final = refl
 final-weighs (plain c) = refl
+final-weighs (plain-pair c d) = refl
 final-weighs (stacked c) = refl
 final-weighs kinzi = refl
 final-weighs great-sa = refl
+
+-- and so does a second
+second-weighs : (f : Final) → secondFinalNumberOf f ≡ secondFinalWeightOf f
+second-weighs no-final = refl
+second-weighs (plain c) = refl
+second-weighs (plain-pair c d) = refl
+second-weighs (stacked c) = refl
+second-weighs kinzi = refl
+second-weighs great-sa = refl
 
 -- the table has the weight of each group
 medial-looked : (m : MedialGroup) → getD medialTable (medialSet m) 0 ≡ medialWeight m
@@ -50,23 +60,27 @@ weights-packed (syllable h m v f t) ok =
       medial-looked m,
       p .letter,
       final-weighs f,
+      p .second-letter,
+      second-weighs f,
       p .vowel,
       p .tone,
     )
 
--- the five weights, each by its part
-pub looked-up : (packed h m v head medial letter own tone : ℕ) → h ≡ headPart packed → head ≡ headWeight (0x1000 + h) → m ≡ medialPart packed
-    → medial ≡ getD medialTable m 0 → letter ≡ finalPart packed → own ≡ independentVowelWeight (0x1000 + h) → v ≡ vowelPart packed
-    → tone ≡ tonePart packed → head ∷ medial ∷ letter ∷ (own + v) ∷ tone ∷ [] ≡ weightsBy packed
+-- the six weights, each by its part
+pub looked-up : (packed h m v head medial letter second own tone : ℕ) → h ≡ headPart packed → head ≡ headWeight (0x1000 + h) → m ≡ medialPart packed
+    → medial ≡ getD medialTable m 0 → letter ≡ finalPart packed → second ≡ secondFinalPart packed → own ≡ independentVowelWeight (0x1000 + h) → v ≡ vowelPart packed
+    → tone ≡ tonePart packed → head ∷ medial ∷ letter ∷ second ∷ (own + v) ∷ tone ∷ [] ≡ weightsBy packed
 unfolding weightsBy
-looked-up packed h m v head medial letter own tone a b c d e f j k = cc
+looked-up packed h m v head medial letter second own tone a b c d e s f j k = cc
 
--- five stores one after the other
-pub stores-five : (l : List ℕ) (at head medial final vowel tone packed : ℕ) → head ∷ medial ∷ final ∷ vowel ∷ tone ∷ [] ≡ weightsBy packed
-    → set (set (set (set (set l at head) (at + 1) medial) (at + 2) final) (at + 3) vowel) (at + 4) tone ≡ sets l at (weightsBy packed)
-stores-five l at head medial final vowel tone packed e =
+-- six stores one after the other
+pub stores-six : (l : List ℕ) (at head medial final second vowel tone packed : ℕ)
+    → head ∷ medial ∷ final ∷ second ∷ vowel ∷ tone ∷ [] ≡ weightsBy packed
+    → set (set (set (set (set (set l at head) (at + 1) medial) (at + 2) final) (at + 3) second) (at + 4) vowel) (at + 5) tone ≡ sets l at (weightsBy packed)
+stores-six l at head medial final second vowel tone packed e =
     let one : at + 1 ≡ suc at = omega arith in
     let two : at + 2 ≡ suc (suc at) = omega arith in
     let three : at + 3 ≡ suc (suc (suc at)) = omega arith in
     let four : at + 4 ≡ suc (suc (suc (suc at))) = omega arith in
-    rw (one, two, three, four) (ap (sets l at) e)
+    let five : at + 5 ≡ suc (suc (suc (suc (suc at)))) = omega arith in
+    rw (one, two, three, four, five) (ap (sets l at) e)

@@ -36,12 +36,12 @@ abbrev pub keptKey : Row → List ℕ
 keptKey [] = []
 keptKey (s ∷ kept) = keptKey kept ++ weightsOf s
 
--- the key has the syllables below the last, then five bytes, which are zeros while the last has no final, then zeros
+-- the key has the syllables below the last, then six bytes, which are zeros while the last has no final, then zeros
 pub record KeyOf (kept : Row) (bytes : List ℕ) : Type 0 where
   pub place : List ℕ
   pub rest : ℕ
   pub is : bytes ≡ keptKey (belowLast kept) ++ (place ++ zeros rest)
-  pub five : length place ≡ weightCount
+  pub sized : length place ≡ weightCount
   pub size : usedBytes (length (belowLast kept)) + (weightCount + rest) ≡ keyLimit
   pub fresh : T (isNoFinal (endOf kept)) → place ≡ zeros weightCount
 

@@ -11,8 +11,8 @@ ghost use Rattle.formula.specs.Limits.{weightCount};
 ghost use Rattle.weighing.specs.Keys.{keyLimit};
 ghost use Rattle.keying.specs.Weights.{weightsBy};
 
-// Puts the five weights of a packed syllable at a place of a key, in the order in which they are compared. A head weighs by its value; one that is an I
-// has a vowel weight of its own and carries no vowel. A final weighs its number, whichever form it has. The table of medials is lent, so that it is
+// Puts the six weights of a packed syllable at a place of a key, in the order in which they are compared. A head weighs by its value; one that is an I
+// has a vowel weight of its own and carries no vowel. A final weighs its number, whichever form it has, and so does a second. The table of medials is lent, so that it is
 // stored once a word.
 pub(crate) fn put_weights(bytes: &mut [u8; Word::KEY], at: usize, packed: u64, medials: &[u8; 16])
     requires { ⌜ (at + weightCount ≤ keyLimit) × (now medials ≡ medialTable) ⌝ }
@@ -22,11 +22,13 @@ pub(crate) fn put_weights(bytes: &mut [u8; Word::KEY], at: usize, packed: u64, m
     let head = head_weight(value);
     let medial = medials[parts::medials(packed) as usize];
     let letter = parts::letter(packed);
+    let second = parts::second_letter(packed);
     let vowel = independent_vowel_weight(value) + parts::vowel(packed);
     let tone = parts::tone(packed);
     bytes[at] = head;
     bytes[at + 1] = medial;
     bytes[at + 2] = letter;
-    bytes[at + 3] = vowel;
-    bytes[at + 4] = tone;
+    bytes[at + 3] = second;
+    bytes[at + 4] = vowel;
+    bytes[at + 5] = tone;
 }

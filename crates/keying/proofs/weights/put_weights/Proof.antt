@@ -1,4 +1,4 @@
--- `keying::weights::put_weights` meets its contract: its stores are those of the five weights one after the other.
+-- `keying::weights::put_weights` meets its contract: its stores are those of the six weights one after the other.
 -- Assumes nothing.
 use mathlib.Core.Path.{ap}
 use mathlib.Core.List.{List}
@@ -7,7 +7,7 @@ use native.Mathlib.Omega.{arith}
 use lib.ListN.{getD}
 use borrow.Author.Needs.{needs}
 use Rattle.letters.proofs.Heads.{independent-vowel-limit}
-use Rattle.keying.proofs.Weighted.{looked-up, stores-five}
+use Rattle.keying.proofs.Weighted.{looked-up, stores-six}
 use Rattle.keying.proofs.weights.put_weights.Statement.{statement}
 use Rattle.keying.proofs.weights.put_weights.Tie as tie
 
@@ -35,6 +35,9 @@ element-copy-out-medial c = search needs
 letter-requires : tie.Need-letter-requires
 letter-requires c κs = search needs
 
+second-letter-requires : tie.Need-second-letter-requires
+second-letter-requires c κs = search needs
+
 independent-vowel-weight-requires : tie.Need-independent-vowel-weight-requires
 independent-vowel-weight-requires c κs = search needs
 
@@ -45,7 +48,7 @@ vowel-requires c κs = search needs
 add-vowel : tie.Need-add-vowel
 add-vowel c =
     let own = c .before .independent-vowel-weight in
-    let l = independent-vowel-limit (0x1000 + c .before .before .before .before .before .before .head .result) in
+    let l = independent-vowel-limit (0x1000 + c .before .before .before .before .before .before .before .head .result) in
     omega (arith, own .ensures, c .vowel .ensures)
 
 tone-requires : tie.Need-tone-requires
@@ -78,16 +81,23 @@ add-bytes-4 c = search needs
 element-write-bytes-5 : tie.Need-element-write-bytes-5
 element-write-bytes-5 c = search needs
 
+add-bytes-5 : tie.Need-add-bytes-5
+add-bytes-5 c = search needs
+
+element-write-bytes-6 : tie.Need-element-write-bytes-6
+element-write-bytes-6 c = search needs
+
 returns : tie.Need-returns
 returns c =
     let vowel = c .before in
     let own = vowel .before in
-    let letter = own .before in
+    let second = own .before in
+    let letter = second .before in
     let medials = letter .before .before in
     let weight = medials .before in
     let head = weight .before in
     let s = head .before in
-    stores-five (s .args .bytes .now) (s .args .at) _ _ _ _ _ (s .args .packed)
+    stores-six (s .args .bytes .now) (s .args .at) _ _ _ _ _ _ (s .args .packed)
     (looked-up
     (s .args .packed)
     _
@@ -96,6 +106,7 @@ returns c =
     (weight .head-weight .result)
     _
     (letter .letter .result)
+    (second .second-letter .result)
     _
     (c .tone .result)
     (head .head .ensures)
@@ -103,6 +114,7 @@ returns c =
     (medials .medials .ensures)
     (ap (λ (l : List ℕ). getD l (medials .medials .result) 0) (s .pre .1))
     (letter .letter .ensures)
+    (second .second-letter .ensures)
     (own .independent-vowel-weight .ensures)
     (vowel .vowel .ensures)
     (c .tone .ensures))
@@ -119,6 +131,7 @@ put-weights-spec =
     cast-medial
     element-copy-out-medial
     letter-requires
+    second-letter-requires
     independent-vowel-weight-requires
     vowel-requires
     add-vowel
@@ -132,4 +145,6 @@ put-weights-spec =
     element-write-bytes-4
     add-bytes-4
     element-write-bytes-5
+    add-bytes-5
+    element-write-bytes-6
     returns)
