@@ -4,4 +4,4 @@ pub mod Laws
 pub mod Weighing
 pub mod Apart
 pub mod Words
-pub mod Base
+pub mod Earlier

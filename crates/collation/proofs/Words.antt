@@ -12,7 +12,7 @@ use Rattle.letters.specs.Choice.{pick}
 use Rattle.letters.specs.Letters.{isAdmitted}
 use Rattle.letters.specs.Marks.{ya, neither, group, no-medial, no-vowel, vowel-aa, vowel-u, vowel-i-u, no-tone, dot, visarga}
 use Rattle.formula.specs.Limits.{limit}
-use Rattle.formula.specs.Syllable.{no-final, plain, stacked, syllable, bare, carriesMarks, carriesFinal}
+use Rattle.formula.specs.Syllable.{no-final, plain, plain-pair, stacked, syllable, bare, carriesMarks, carriesFinal}
 use Rattle.formula.specs.Row.{Row, isRowAfter, join, Gives}
 use Rattle.formula.specs.Weighing.{weightsOf}
 use Rattle.formula.proofs.Lists.{both-left, both-right, every, All, every-all, sameList, sameList-equal}
@@ -39,8 +39,17 @@ pub record Pair : Type 0 where
   pub is : Order
 
 -- a word of one syllable
+abbrev closed-twice : List ℕ → Row → ℕ → ℕ → ℕ → ℕ → ℕ → ℕ → Example
+closed-twice word row h m f s v t = record { word = word; row = row; key = h ∷ m ∷ f ∷ s ∷ v ∷ t ∷ [] }
+
+-- with one final at most
 abbrev one : List ℕ → Row → ℕ → ℕ → ℕ → ℕ → ℕ → Example
-one word row h m f v t = record { word = word; row = row; key = h ∷ m ∷ f ∷ v ∷ t ∷ [] }
+one word row h m f v t = closed-twice word row h m f 0 v t
+
+-- ဘတ်စ်
+abbrev bus : Example
+bus =
+    closed-twice (0x1018 ∷ 0x1010 ∷ 0x103A ∷ 0x1005 ∷ 0x103A ∷ []) (syllable 0x1018 no-medial no-vowel (plain-pair 0x1010 0x1005) no-tone ∷ []) 37 0 17 6 0 0
 
 abbrev letter : Example
 letter = one (0x1000 ∷ []) (bare 0x1000 ∷ []) 13 0 0 0 0
@@ -98,7 +107,7 @@ pairs =
     ∷ record { first = record { word = []; row = []; key = [] }; second = letter; is = Less }
     ∷ record {
       first = letter;
-      second = record { word = 0x1000 ∷ 0x104A ∷ []; row = bare 0x1000 ∷ bare 0x104A ∷ []; key = 13 ∷ 0 ∷ 0 ∷ 0 ∷ 0 ∷ 1 ∷ 0 ∷ 0 ∷ 0 ∷ 0 ∷ [] };
+      second = record { word = 0x1000 ∷ 0x104A ∷ []; row = bare 0x1000 ∷ bare 0x104A ∷ []; key = 13 ∷ 0 ∷ 0 ∷ 0 ∷ 0 ∷ 0 ∷ 1 ∷ 0 ∷ 0 ∷ 0 ∷ 0 ∷ 0 ∷ [] };
       is = Less;
     }
     -- "Keys, comparison and the book normalise first."
@@ -118,13 +127,42 @@ pairs =
       second = one (0x1026 ∷ 0x1038 ∷ []) (syllable 0x1026 no-medial no-vowel no-final visarga ∷ []) 46 0 0 5 2;
       is = Equal;
     }
-    -- "1D00010000-0D00000000-2B001D0B00"
+    -- document 02, E5: a second final "is compared straight after the first final", so before vowel and tone, and one final goes before two
+    ∷ record {
+      first = one (0x1018 ∷ 0x1010 ∷ 0x103A ∷ []) (syllable 0x1018 no-medial no-vowel (plain 0x1010) no-tone ∷ []) 37 0 17 0 0;
+      second = bus;
+      is = Less;
+    }
+    ∷ record {
+      first = one (0x1018 ∷ 0x102C ∷ 0x1010 ∷ 0x103A ∷ 0x1038 ∷ []) (syllable 0x1018 no-medial (vowel-aa false) (plain 0x1010) visarga ∷ []) 37 0 17 1 2;
+      second = bus;
+      is = Less;
+    }
+    ∷ record {
+      first = bus;
+      second = one (0x1018 ∷ 0x1011 ∷ 0x103A ∷ []) (syllable 0x1018 no-medial no-vowel (plain 0x1011) no-tone ∷ []) 37 0 18 0 0;
+      is = Less;
+    }
+    ∷ record {
+      first = bus;
+      second =
+          closed-twice (0x1018 ∷ 0x1005 ∷ 0x103A ∷ 0x1010 ∷ 0x103A ∷ []) (syllable 0x1018 no-medial no-vowel (plain-pair 0x1005 0x1010) no-tone ∷ []) 37 0 6 17 0 0;
+      is = Greater;
+    }
+    ∷ record {
+      first =
+          closed-twice (0x1018 ∷ 0x1010 ∷ 0x103A ∷ 0x1005 ∷ 0x1038 ∷ 0x103A ∷ []) (syllable 0x1018 no-medial no-vowel (plain-pair 0x1010 0x1005) visarga ∷ []) 37 0 17 6 0 2;
+      second =
+          closed-twice (0x1018 ∷ 0x1010 ∷ 0x103A ∷ 0x1005 ∷ 0x103A ∷ 0x1038 ∷ []) (syllable 0x1018 no-medial no-vowel (plain-pair 0x1010 0x1005) visarga ∷ []) 37 0 17 6 0 2;
+      is = Equal;
+    }
+    -- "1D0001000000-0D0000000000-2B001D000B00"
     ∷ record {
       first =
           record {
             word = 0x1010 ∷ 0x1000 ∷ 0x1039 ∷ 0x1000 ∷ 0x101E ∷ 0x102D ∷ 0x102F ∷ 0x101C ∷ 0x103A ∷ [];
             row = syllable 0x1010 no-medial no-vowel (stacked 0x1000) no-tone ∷ bare 0x1000 ∷ syllable 0x101E no-medial vowel-i-u (plain 0x101C) no-tone ∷ [];
-            key = 0x1D ∷ 0 ∷ 1 ∷ 0 ∷ 0 ∷ 0x0D ∷ 0 ∷ 0 ∷ 0 ∷ 0 ∷ 0x2B ∷ 0 ∷ 0x1D ∷ 0x0B ∷ 0 ∷ [];
+            key = 0x1D ∷ 0 ∷ 1 ∷ 0 ∷ 0 ∷ 0 ∷ 0x0D ∷ 0 ∷ 0 ∷ 0 ∷ 0 ∷ 0 ∷ 0x2B ∷ 0 ∷ 0x1D ∷ 0 ∷ 0x0B ∷ 0 ∷ [];
           };
       second = letter;
       is = Greater;

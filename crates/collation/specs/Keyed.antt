@@ -12,7 +12,7 @@ use Rattle.normaliser.specs.Normal.{StoreAnswers}
 use Rattle.weighing.specs.Keys.{keyLimit, zeros, keyBytes}
 use Rattle.collation.specs.declared.key.Key.{Key}
 
--- "A key is held in 320 bytes, of which five a syllable are used. The rest are zero"; with a refusal "a key [..] is all zeros"
+-- "A key then needs 384 bytes", of which six a syllable are used, and "The rest are zero"; with a refusal "a key [..] is all zeros"
 abbrev pub KeyFor : List ℕ → Outcome → List ℕ → Type 0
 KeyFor word (accepts n) bytes = (row : Row) → Gives row (storedForm word) → bytes ≡ keyBytes row
 KeyFor word (accepts-both n m) bytes = ⊥

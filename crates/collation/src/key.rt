@@ -4,7 +4,7 @@ use formula::Word;
 use refusals::Counted;
 ghost use Rattle.collation.specs.Keyed.{KeyRight};
 
-// The weights of a word, five bytes a syllable and zeros behind them, with the number of syllables; zeros with a refusal.
+// The weights of a word, six bytes a syllable and zeros behind them, with the number of syllables; zeros with a refusal.
 pub struct Key {
     pub answer: Counted,
     pub bytes: [u8; Word::KEY],

@@ -1,4 +1,4 @@
 pub mod Storing
 pub mod Determined
 pub mod Laws
-pub mod Base
+pub mod Earlier
