@@ -9,6 +9,7 @@ use borrow.Author.Tests.{eq-eqb, ne-eqb}
 use lib.Dec.{eqb}
 use lib.ListN.{length, getD, take, drop, set, length-map, length-append}
 use lib.Seq.{sets, length-sets}
+use Rattle.formula.specs.Limits.{weightCount}
 use Rattle.memory.proofs.Stores.{sets-append, sets-there, sets-behind}
 use Rattle.letters.specs.Choice.{pick}
 use Rattle.formula.specs.Lists.{filtered}
@@ -68,10 +69,10 @@ live-snoc (y ∷ seen) x = go (y .live) (live-snoc seen x)
     go false h = h
 
 keys-snoc : (b keys starts : List ℕ) (s : ℕ)
-    → withKeys b keys (starts ++ (s ∷ [])) ≡ sets (withKeys b keys starts) (5 * s) (filedKey (rowOf (wordAt b s)))
+    → withKeys b keys (starts ++ (s ∷ [])) ≡ sets (withKeys b keys starts) (weightCount * s) (filedKey (rowOf (wordAt b s)))
 unfolding withKeys
 keys-snoc b keys [] s = refl
-keys-snoc b keys (x ∷ starts) s = keys-snoc b (sets keys (5 * x) (filedKey (rowOf (wordAt b x)))) starts s
+keys-snoc b keys (x ∷ starts) s = keys-snoc b (sets keys (weightCount * x) (filedKey (rowOf (wordAt b x)))) starts s
 
 pub starts-snoc : (starts list : List ℕ) (s : ℕ) → sets starts 0 (list ++ (s ∷ [])) ≡ set (sets starts 0 list) (length list) s
 starts-snoc starts list s =
@@ -110,7 +111,7 @@ module _ (b : List ℕ) (free : ℕ) (keys-before starts-before keys starts : Li
         let passed-live : live ≡ liveCount (c .seen) = c .count ∙ length-map (liveOnes (c .seen)) startOf ∙ live-count (c .seen) in
         omega (arith, room, live-few b (c .list) (c .walk .is-book), ap liveCount (c .walk .whole), live-append (c .seen) (c .rest), collect-long)
 
-    pub collect-live : getD b (at + 1) 0 ≡ 0x57 → (keys-after starts-after : List ℕ) → keys-after ≡ sets keys (5 * at) (filedKey (rowOf (wordAt b at)))
+    pub collect-live : getD b (at + 1) 0 ≡ 0x57 → (keys-after starts-after : List ℕ) → keys-after ≡ sets keys (weightCount * at) (filedKey (rowOf (wordAt b at)))
         → starts-after ≡ set starts live at
         → Collected b free keys-before starts-before keys-after starts-after (live + 1) (at + 7 + getD b (at + 2) 0)
     unfolding pick
@@ -126,7 +127,7 @@ module _ (b : List ℕ) (free : ℕ) (keys-before starts-before keys starts : Li
               q ∙ (λ i. set (c .starts-are i) (c .count i) at) ∙ sym (starts-snoc starts-before (liveStarts (c .seen)) at)
               ∙ ap (sets starts-before 0) (sym e);
           keys-are =
-              p ∙ ap (λ (l : List ℕ). sets l (5 * at) (filedKey (rowOf (wordAt b at)))) (c .keys-are)
+              p ∙ ap (λ (l : List ℕ). sets l (weightCount * at) (filedKey (rowOf (wordAt b at)))) (c .keys-are)
               ∙ sym (keys-snoc b keys-before (liveStarts (c .seen)) at) ∙ ap (withKeys b keys-before) (sym e);
         }
 

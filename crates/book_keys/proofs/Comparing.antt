@@ -8,6 +8,7 @@ use native.Mathlib.Omega.{arith}
 use types.Run.{OneOf}
 use denote.Enum.Declared.{tagOf}
 use lib.ListN.{length, getD, take, drop}
+use Rattle.formula.specs.Limits.{weightCount}
 use Rattle.formula.specs.Weighing.{weights}
 use Rattle.weighing.specs.Order.{orderNumbers, inTurn, orderValues, orderWeights, order}
 use Rattle.weighing.specs.declared.order.Order.{Order}
@@ -39,12 +40,12 @@ order-of-values (x ∷ xs) (y ∷ ys) = λ i. inTurn (order-of-value x y i) (ord
 
 module _ (b keys : List ℕ) (first second : ℕ) (one : HasKey b keys first) (other : HasKey b keys second) (n m : ℕ)
     (first-count : n ≡ length (rowOf (wordAt b first))) (second-count : m ≡ length (rowOf (wordAt b second)))
-    (o : Order) (compared : o ≡ orderValues (take (5 * n) (drop (5 * first + 1) keys)) (take (5 * m) (drop (5 * second + 1) keys))) where
+    (o : Order) (compared : o ≡ orderValues (take (weightCount * n) (drop (weightCount * first + 1) keys)) (take (weightCount * m) (drop (weightCount * second + 1) keys))) where
   -- the weights of the two keys are in the order of the rows
   by-weights : o ≡ orderWeights (weights (rowOf (wordAt b first))) (weights (rowOf (wordAt b second)))
   by-weights =
       compared
-      ∙ (λ i. orderValues (take (5 * first-count i) (drop (5 * first + 1) keys)) (take (5 * second-count i) (drop (5 * second + 1) keys)))
+      ∙ (λ i. orderValues (take (weightCount * first-count i) (drop (weightCount * first + 1) keys)) (take (weightCount * second-count i) (drop (weightCount * second + 1) keys)))
       ∙ (λ i. orderValues (key-weights b keys first one i) (key-weights b keys second other i))
       ∙ keys-order (rowOf (wordAt b first)) (rowOf (wordAt b second))
 

@@ -8,6 +8,7 @@ use native.Mathlib.Numerals.{add-one}
 use native.Mathlib.Omega.{arith}
 use lib.ListN.{length, getD, take, drop, set, length-drop, length-append}
 use lib.Seq.{sets, length-sets, length-take-le, take-all, take-suc, take-take, getD-drop}
+use Rattle.formula.specs.Limits.{weightCount}
 use Rattle.memory.proofs.Stores.{sets-behind, sets-whole}
 use Rattle.letters.specs.Choice.{pick}
 use Rattle.formula.specs.Lists.{filtered, isPrefix}
@@ -28,23 +29,23 @@ use Rattle.book_keys.proofs.Rows.{key-count, key-weights, key-ends}
 use Rattle.book_keys.proofs.Live.{entries-back, keyed-at}
 use Rattle.book_keys.proofs.Collecting.{starts-snoc}
 
-module _ (keys prefix : List ℕ) (start : ℕ) (h : KeyWithin keys start) (count : ℕ) (counted : count ≡ getD keys (5 * start) 0) where
-  weights-long : length (weightsAt keys start) ≡ 5 * count
+module _ (keys prefix : List ℕ) (start : ℕ) (h : KeyWithin keys start) (count : ℕ) (counted : count ≡ getD keys (weightCount * start) 0) where
+  weights-long : length (weightsAt keys start) ≡ weightCount * count
   weights-long =
-      length-take-le (5 * getD keys (5 * start) 0) (drop (5 * start + 1) keys) (omega (arith, h .within, length-drop (5 * start + 1) keys))
+      length-take-le (weightCount * getD keys (weightCount * start) 0) (drop (weightCount * start + 1) keys) (omega (arith, h .within, length-drop (weightCount * start + 1) keys))
       ∙ omega (arith, counted)
 
   -- too few weights
-  pub prefix-longer : 5 * count < length prefix → hasPrefix keys prefix start ≡ false
+  pub prefix-longer : weightCount * count < length prefix → hasPrefix keys prefix start ≡ false
   prefix-longer l = prefix-short prefix (weightsAt keys start) (omega (arith, weights-long))
 
   -- enough of them, compared
-  pub prefix-told : length prefix ≤ 5 * count → (o : Order) → o ≡ orderValues (take (length prefix) (drop (5 * start + 1) keys)) prefix
+  pub prefix-told : length prefix ≤ weightCount * count → (o : Order) → o ≡ orderValues (take (length prefix) (drop (weightCount * start + 1) keys)) prefix
       → hasPrefix keys prefix start ≡ isEqual o
   prefix-told l o e =
       sym (prefix-compared prefix (weightsAt keys start))
       ∙ ap (λ (p : List ℕ). isEqual (orderValues p prefix))
-      (take-take (length prefix) (5 * getD keys (5 * start) 0) (drop (5 * start + 1) keys) (omega (arith, counted)))
+      (take-take (length prefix) (weightCount * getD keys (weightCount * start) 0) (drop (weightCount * start + 1) keys) (omega (arith, counted)))
       ∙ ap isEqual (sym e)
 
 -- the values behind those that are put at the front
@@ -132,7 +133,7 @@ module _ (keys prefix before after : List ℕ) (count next : ℕ) (k : Kept keys
 module _ (b keys : List ℕ) where
   -- the weights of a filed key are those of the record's word,
   keyed-weights : (at : ℕ) → HasKey b keys at → weightsAt keys at ≡ keyOf (rowOf (wordAt b at))
-  keyed-weights at h = ap (λ (n : ℕ). take (5 * n) (drop (5 * at + 1) keys)) (key-count b keys at h) ∙ key-weights b keys at h
+  keyed-weights at h = ap (λ (n : ℕ). take (weightCount * n) (drop (weightCount * at + 1) keys)) (key-count b keys at h) ∙ key-weights b keys at h
 
   -- and they stand within the room for keys
   pub keyed-within : (starts : List ℕ) → length b ≤ bookLimit → length keys ≡ keyRoom → AllKeyed b keys starts → AllWithin keys starts

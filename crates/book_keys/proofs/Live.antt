@@ -9,6 +9,7 @@ use native.Mathlib.Omega.{arith}
 use lib.Dec.{T}
 use lib.ListN.{length, getD, take, drop}
 use lib.Seq.{sets, length-sets, take-take}
+use Rattle.formula.specs.Limits.{weightCount}
 use Rattle.memory.proofs.Stores.{sets-before, sets-there}
 use Rattle.letters.specs.Choice.{pick}
 use Rattle.formula.specs.Lists.{filtered}
@@ -98,16 +99,16 @@ pub keys-length : (b keys starts : List ℕ) → length (withKeys b keys starts)
 unfolding withKeys
 keys-length b keys [] = refl
 keys-length b keys (s ∷ starts) =
-    keys-length b (sets keys (5 * s) (filedKey (rowOf (wordAt b s)))) starts ∙ length-sets keys (5 * s) (filedKey (rowOf (wordAt b s)))
+    keys-length b (sets keys (weightCount * s) (filedKey (rowOf (wordAt b s)))) starts ∙ length-sets keys (weightCount * s) (filedKey (rowOf (wordAt b s)))
 
 -- keys of records from a place on leave what stands before their room
-keys-before : (b keys : List ℕ) (at q : ℕ) (starts : List ℕ) → q ≤ 5 * at → Spaced b at starts → take q (withKeys b keys starts) ≡ take q keys
+keys-before : (b keys : List ℕ) (at q : ℕ) (starts : List ℕ) → q ≤ weightCount * at → Spaced b at starts → take q (withKeys b keys starts) ≡ take q keys
 unfolding withKeys
 keys-before b keys at q [] h s = refl
 keys-before b keys at q (x ∷ starts) h s =
     let l = s .0 in
-    keys-before b (sets keys (5 * x) (filedKey (rowOf (wordAt b x)))) (x + 7 + getD b (x + 2) 0) q starts (omega arith) (s .3)
-    ∙ sets-before (filedKey (rowOf (wordAt b x))) keys (5 * x) q (omega arith)
+    keys-before b (sets keys (weightCount * x) (filedKey (rowOf (wordAt b x)))) (x + 7 + getD b (x + 2) 0) q starts (omega arith) (s .3)
+    ∙ sets-before (filedKey (rowOf (wordAt b x))) keys (weightCount * x) q (omega arith)
 
 -- a part of the front
 part-of-front : (l : List ℕ) (p n q : ℕ) → p + n ≤ q → take n (drop p (take q l)) ≡ take n (drop p l)
@@ -117,12 +118,12 @@ part-of-front [] (suc p) n (suc q) h = refl
 part-of-front (x ∷ l) (suc p) n (suc q) h = part-of-front l p n q (omega arith)
 
 -- a key that ends before a place stays when keys of records from there on are put
-key-stays : (b keys : List ℕ) (at next : ℕ) (starts key : List ℕ) → 5 * at + length key ≤ 5 * next → Spaced b next starts
-    → take (length key) (drop (5 * at) keys) ≡ key → take (length key) (drop (5 * at) (withKeys b keys starts)) ≡ key
+key-stays : (b keys : List ℕ) (at next : ℕ) (starts key : List ℕ) → weightCount * at + length key ≤ weightCount * next → Spaced b next starts
+    → take (length key) (drop (weightCount * at) keys) ≡ key → take (length key) (drop (weightCount * at) (withKeys b keys starts)) ≡ key
 key-stays b keys at next starts key h s e =
-    sym (part-of-front (withKeys b keys starts) (5 * at) (length key) (5 * next) h)
-    ∙ ap (λ (l : List ℕ). take (length key) (drop (5 * at) l)) (keys-before b keys next (5 * next) starts (omega arith) s)
-    ∙ part-of-front keys (5 * at) (length key) (5 * next) h ∙ e
+    sym (part-of-front (withKeys b keys starts) (weightCount * at) (length key) (weightCount * next) h)
+    ∙ ap (λ (l : List ℕ). take (length key) (drop (weightCount * at) l)) (keys-before b keys next (weightCount * next) starts (omega arith) s)
+    ∙ part-of-front keys (weightCount * at) (length key) (weightCount * next) h ∙ e
 
 pub all-keyed : (b keys : List ℕ) (at : ℕ) (starts : List ℕ) → length b ≤ bookLimit → length keys ≡ keyRoom → Spaced b at starts
     → AllKeyed b (withKeys b keys starts) starts
@@ -135,9 +136,9 @@ all-keyed b keys at (x ∷ starts) short room s =
       record {
         framed = s .1;
         readable = s .2;
-        key-there = key-stays b (sets keys (5 * x) key) x next starts key (within .0) (s .3) (sets-there key keys (5 * x) (omega (arith, within .1)));
+        key-there = key-stays b (sets keys (weightCount * x) key) x next starts key (within .0) (s .3) (sets-there key keys (weightCount * x) (omega (arith, within .1)));
       },
-      all-keyed b (sets keys (5 * x) key) next starts short (length-sets keys (5 * x) key ∙ room) (s .3),
+      all-keyed b (sets keys (weightCount * x) key) next starts short (length-sets keys (weightCount * x) key ∙ room) (s .3),
     )
 
 -- the key of the start at a place of the list

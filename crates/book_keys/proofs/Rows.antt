@@ -7,6 +7,7 @@ use native.Mathlib.Nat.{add-zero}
 use native.Mathlib.Omega.{arith}
 use lib.ListN.{length, getD, take, drop}
 use lib.Seq.{getD-take, getD-drop, take-nil, drop-drop}
+use Rattle.formula.specs.Limits.{weightCount}
 use Rattle.formula.specs.Syllable.{no-final}
 use Rattle.formula.specs.Row.{Row, Gives}
 use Rattle.recogniser.specs.Answer.{Readable}
@@ -33,14 +34,14 @@ row-gives word r = subst (λ (row : Row). Gives row word) (sym (row-is word r (r
 pub row-fits : (word : List ℕ) → Readable word → length (rowOf word) ≤ length word
 row-fits word r = omega (arith, row-bound no-final (rowOf word), ap length (row-gives word r .joined))
 
-pub filed-key-length : (row : Row) → length (filedKey row) ≡ 1 + 5 * length row
+pub filed-key-length : (row : Row) → length (filedKey row) ≡ 1 + weightCount * length row
 unfolding filedKey
 filed-key-length row = omega (arith, key-used row)
 
 -- the key of the record at a place ends before that of the record behind it, within the room for keys
 pub key-within : (b : List ℕ) (at : ℕ) → length b ≤ bookLimit → Framed b at → Readable (wordAt b at)
-    → (5 * at + length (filedKey (rowOf (wordAt b at))) ≤ 5 * (at + 7 + getD b (at + 2) 0))
-    × (5 * at + length (filedKey (rowOf (wordAt b at))) ≤ keyRoom)
+    → (weightCount * at + length (filedKey (rowOf (wordAt b at))) ≤ weightCount * (at + 7 + getD b (at + 2) 0))
+    × (weightCount * at + length (filedKey (rowOf (wordAt b at))) ≤ keyRoom)
 key-within b at s f r =
     let k = filed-key-length (rowOf (wordAt b at)) in
     let n = length-word b at (f .room) in
@@ -55,21 +56,21 @@ part-behind (x ∷ l) n = refl
 
 -- what a filed key tells: the number of syllables, and behind it the weights
 module _ (b keys : List ℕ) (at : ℕ) (h : HasKey b keys at) where
-  pub key-count : getD keys (5 * at) 0 ≡ length (rowOf (wordAt b at))
+  pub key-count : getD keys (weightCount * at) 0 ≡ length (rowOf (wordAt b at))
   unfolding filedKey
   key-count =
       let row : Row = rowOf (wordAt b at) in
-      ap (λ (k : ℕ). getD keys k 0) (sym (add-zero (5 * at))) ∙ sym (getD-drop (5 * at) keys 0 0)
-      ∙ sym (getD-take (suc (length (keyOf row))) (drop (5 * at) keys) 0 0 (omega arith)) ∙ ap (λ (l : List ℕ). getD l 0 0) (h .key-there)
+      ap (λ (k : ℕ). getD keys k 0) (sym (add-zero (weightCount * at))) ∙ sym (getD-drop (weightCount * at) keys 0 0)
+      ∙ sym (getD-take (suc (length (keyOf row))) (drop (weightCount * at) keys) 0 0 (omega arith)) ∙ ap (λ (l : List ℕ). getD l 0 0) (h .key-there)
 
-  pub key-weights : take (5 * length (rowOf (wordAt b at))) (drop (5 * at + 1) keys) ≡ keyOf (rowOf (wordAt b at))
+  pub key-weights : take (weightCount * length (rowOf (wordAt b at))) (drop (weightCount * at + 1) keys) ≡ keyOf (rowOf (wordAt b at))
   unfolding filedKey
   key-weights =
       let row : Row = rowOf (wordAt b at) in
-      ap (λ (l : List ℕ). take (5 * length row) l) (sym (drop-drop 1 (5 * at) keys))
-      ∙ ap (λ (n : ℕ). take n (drop 1 (drop (5 * at) keys))) (sym (key-used row))
-      ∙ sym (part-behind (drop (5 * at) keys) (length (keyOf row))) ∙ ap (drop 1) (h .key-there)
+      ap (λ (l : List ℕ). take (weightCount * length row) l) (sym (drop-drop 1 (weightCount * at) keys))
+      ∙ ap (λ (n : ℕ). take n (drop 1 (drop (weightCount * at) keys))) (sym (key-used row))
+      ∙ sym (part-behind (drop (weightCount * at) keys) (length (keyOf row))) ∙ ap (drop 1) (h .key-there)
 
-  pub key-ends : length b ≤ bookLimit → 5 * at + (1 + 5 * length (rowOf (wordAt b at))) ≤ keyRoom
+  pub key-ends : length b ≤ bookLimit → weightCount * at + (1 + weightCount * length (rowOf (wordAt b at))) ≤ keyRoom
   key-ends s =
       omega (arith, key-within b at s (framed-true b at (h .framed)) (h .readable) .1, filed-key-length (rowOf (wordAt b at)))

@@ -39,11 +39,11 @@ isLess Greater = false
 unfoldable pub before : Entry → Entry → Bool
 before first second = isLess (order (fileOf first) (fileOf second))
 
--- how a key is filed: the number of syllables, then the weights, five bytes a syllable
+-- how a key is filed: the number of syllables, then the weights, six bytes a syllable
 unfoldable pub filedKey : Row → List ℕ
 filedKey row = length row ∷ keyOf row
 
--- the record at a place has a readable word, whose key stands from byte 5 times the place on
+-- the record at a place has a readable word, whose key stands from byte 6 times the place on
 pub record HasKey (bytes keys : List ℕ) (at : ℕ) : Type 0 where
   pub framed : T (isFramed bytes at)
   pub readable : Readable (wordAt bytes at)
@@ -57,9 +57,9 @@ AllKeyed bytes keys (start ∷ starts) = HasKey bytes keys start × AllKeyed byt
 abbrev pub startOf : Entry → ℕ
 startOf entry = entry .start
 
--- the bytes for keys: five for each byte of a book
+-- the bytes for keys: six for each byte of a book
 abbrev pub keyRoom : ℕ
-keyRoom = 81920
+keyRoom = 98304
 
 -- the most live records of a book: each has at least eight bytes
 abbrev pub mostLive : ℕ

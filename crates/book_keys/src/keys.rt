@@ -22,8 +22,8 @@ ghost use Rattle.entries.specs.Entries.{wordAt, isFramed};
 ghost use Rattle.entries.specs.Book.{Opened};
 ghost use Rattle.book_keys.specs.Filing.{rowOf, filedKey, keyRoom, mostLive, FiledRight};
 
-// The bytes for the keys of a book: those of the record at a start stand from 5 times the start on.
-pub const KEY_ROOM: usize = 81920;
+// The bytes for the keys of a book: those of the record at a start stand from 6 times the start on.
+pub const KEY_ROOM: usize = 98304;
 
 // The most live records of a book.
 pub const MOST_LIVE: usize = 2048;

@@ -2,7 +2,8 @@ pub mod Tests
 pub mod Bytes
 pub mod Records
 pub mod Agree
-pub mod Base
+pub mod Earlier
+pub mod Sorted
 pub mod Walk
 pub mod Lookups
 pub mod Added

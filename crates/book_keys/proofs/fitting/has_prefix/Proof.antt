@@ -6,9 +6,11 @@ use Prim.Native.Nat.{ℕ, _+_, _*_, _-_, _≤_}
 use native.Mathlib.Omega.{arith}
 use lib.ListN.{length, take, drop}
 use denote.Ref.{now}
+use Rattle.formula.specs.Limits.{weightCount}
 use Rattle.weighing.specs.Order.{orderValues}
 use Rattle.weighing.specs.declared.order.Order.{Order}
 use Rattle.weighing.proofs.Prefix.{isEqual}
+use Rattle.book_keys.specs.Filing.{keyRoom}
 use Rattle.book_keys.specs.Fitting.{hasPrefix}
 use Rattle.book_keys.proofs.Fits.{prefix-longer, prefix-told}
 use Rattle.book_keys.proofs.fitting.has_prefix.Statement.{statement}
@@ -23,7 +25,7 @@ told c o e =
     let s = w .before .before .before .before in
     let keys = now (s .args .keys) in
     let prefix = now (s .args .prefix) in
-    let from : ℕ = 5 * s .args .start + 1 in
+    let from : ℕ = weightCount * s .args .start + 1 in
     let n : from + length prefix - from ≡ length prefix = omega arith in
     sym
     (prefix-told keys prefix (s .args .start) (s .pre) (w .wide .result) (w .wide .ensures .0) (c .before .before .if1 .left) o
@@ -31,7 +33,7 @@ told c o e =
 
 -- the part that is compared is within the keys
 within : (c : tie.Else1) → let s = c .before .before .before .before .before in
-    5 * s .args .start + 1 + length (now (s .args .prefix)) ≤ 81920
+    weightCount * s .args .start + 1 + length (now (s .args .prefix)) ≤ keyRoom
 within c =
     let w = c .before in
     let s = w .before .before .before .before in

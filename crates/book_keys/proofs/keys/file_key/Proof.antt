@@ -8,6 +8,7 @@ use native.Mathlib.Omega.{arith}
 use lib.ListN.{take, drop}
 use lib.Seq.{sets, length-take-le}
 use denote.Ref.{now}
+use Rattle.formula.specs.Limits.{weightCount}
 use Rattle.keying.specs.Filled.{FillRight}
 use Rattle.entries.specs.Entries.{valueOf, wordAt}
 use Rattle.entries.proofs.Records.{Framed, framed-true}
@@ -101,7 +102,7 @@ returns c =
     let s = start-of r in
     let a = c .before .before .before .before .before .before .answer .given in
     c .before .before .put-key .ensures
-    ∙ ap (sets (now (s .args .keys)) (5 * s .args .at)) (filled-key (word s) (s .pre .3) (r .fill .result) _ (filled r) (a .0 .0) (a .1))
+    ∙ ap (sets (now (s .args .keys)) (weightCount * s .args .at)) (filled-key (word s) (s .pre .3) (r .fill .result) _ (filled r) (a .0 .0) (a .1))
 
 returns-2 : tie.Need-returns-2
 returns-2 c =

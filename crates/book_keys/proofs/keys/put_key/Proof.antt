@@ -9,10 +9,11 @@ use native.Mathlib.Omega.{arith}
 use lib.ListN.{length, take, set, length-set}
 use lib.Seq.{sets, length-sets, length-take-le}
 use denote.Ref.{now}
+use Rattle.formula.specs.Limits.{weightCount}
 use Rattle.book_keys.proofs.keys.put_key.Statement.{statement}
 use Rattle.book_keys.proofs.keys.put_key.Tie as tie
 
-used : (s : tie.Start) → length (take (5 * s .args .count) (now (s .args .key))) ≡ 5 * s .args .count
+used : (s : tie.Start) → length (take (weightCount * s .args .count) (now (s .args .key))) ≡ weightCount * s .args .count
 used s = length-take-le _ _ (s .pre .1)
 
 count-byte-requires : tie.Need-count-byte-requires
@@ -39,12 +40,12 @@ stored : tie.Need-returns
 stored c =
     let s = c .before .before .before .before .before .before .before .before .args in
     c .before .before .put-bytes .ensures
-    ∙ (λ i. sets (set (now (s .keys)) (s .from) (c .before .before .before .before .before .count-byte .ensures i)) (add-one (s .from) i) (take (5 * s .count) (now (s .key))))
+    ∙ (λ i. sets (set (now (s .keys)) (s .from) (c .before .before .before .before .before .count-byte .ensures i)) (add-one (s .from) i) (take (weightCount * s .count) (now (s .key))))
 
 same-length : tie.Need-same-length
 same-length c =
     let s = c .before .before .before .before .before .before .before .before .args in
-    ap length (stored c) ∙ length-sets (now (s .keys)) (s .from) (s .count ∷ take (5 * s .count) (now (s .key)))
+    ap length (stored c) ∙ length-sets (now (s .keys)) (s .from) (s .count ∷ take (weightCount * s .count) (now (s .key)))
 
 returns : tie.Need-returns
 returns c = stored c

@@ -7,6 +7,7 @@ use Prim.Native.Nat.{ℕ, _+_, _*_, _≤_}
 use native.Mathlib.Omega.{arith}
 use lib.ListN.{length, take, drop}
 use denote.Ref.{now}
+use Rattle.formula.specs.Limits.{weightCount}
 use Rattle.weighing.specs.Order.{orderValues}
 use Rattle.entries.specs.Entries.{wordAt}
 use Rattle.entries.proofs.Records.{Framed, framed-true}
@@ -37,10 +38,10 @@ first-frame s = framed-true _ _ (s .pre .2 .framed)
 second-frame : (s : tie.Start) → Framed (bytes s) (s .args .second)
 second-frame s = framed-true _ _ (s .pre .3 .framed)
 
-first-ends : (s : tie.Start) → 5 * s .args .first + (1 + 5 * length (rowOf (wordAt (bytes s) (s .args .first)))) ≤ keyRoom
+first-ends : (s : tie.Start) → weightCount * s .args .first + (1 + weightCount * length (rowOf (wordAt (bytes s) (s .args .first)))) ≤ keyRoom
 first-ends s = key-ends _ (now (s .args .keys)) (s .args .first) (s .pre .2) (s .pre .0)
 
-second-ends : (s : tie.Start) → 5 * s .args .second + (1 + 5 * length (rowOf (wordAt (bytes s) (s .args .second)))) ≤ keyRoom
+second-ends : (s : tie.Start) → weightCount * s .args .second + (1 + weightCount * length (rowOf (wordAt (bytes s) (s .args .second)))) ≤ keyRoom
 second-ends s = key-ends _ (now (s .args .keys)) (s .args .second) (s .pre .3) (s .pre .0)
 
 -- the numbers of syllables, read from the keys
