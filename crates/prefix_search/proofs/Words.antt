@@ -14,7 +14,7 @@ use Rattle.formula.specs.Row.{Row, Gives}
 use Rattle.formula.specs.Record.{recordOf}
 use Rattle.formula.specs.Weighing.{weightsOf}
 use Rattle.formula.proofs.Lists.{both-left, both-right, every, every-at, All, every-all}
-use Rattle.formula.proofs.Words.{Example, letter, closed, university, england, problem, great-sa-alone, plain-ka, plain-nga, plain-sa, ukka, aforementioned, plain-i, plain-sign, isRight, right}
+use Rattle.formula.proofs.Words.{Example, letter, closed, university, england, problem, great-sa-alone, plain-ka, plain-nga, plain-sa, ukka, aforementioned, plain-i, plain-sign, baht, bus, bus-car, isRight, right}
 use Rattle.rows.proofs.Viable.{only-row}
 use Rattle.weighing.specs.Prefix.{beginsWith}
 use Rattle.entries.specs.Entries.{Entry}
@@ -41,6 +41,10 @@ pairs =
     ∷ pair plain-sign aforementioned false
     -- a word finds itself
     ∷ pair university university true
+    -- both finals count
+    ∷ pair bus bus-car true
+    ∷ pair baht bus false
+    ∷ pair bus baht false
     -- the medial counts
     ∷ pair plain-sa problem false
     -- a beginning of code values is not one of syllables

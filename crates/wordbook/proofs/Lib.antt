@@ -4,7 +4,7 @@ pub mod Determined
 pub mod Words
 pub mod Prefix
 pub mod Searched
-pub mod Base
+pub mod Earlier
 pub mod Tidied
 pub mod Shown
 pub mod Shelf

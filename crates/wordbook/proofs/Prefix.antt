@@ -12,7 +12,7 @@ use Rattle.letters.specs.Marks.{MedialGroup, Vowel, ToneMark}
 use Rattle.formula.specs.Lists.{filtered}
 use Rattle.formula.specs.Syllable.{Final, syllable}
 use Rattle.formula.specs.Row.{Row, Gives}
-use Rattle.formula.specs.Weighing.{finalWeightOf}
+use Rattle.formula.specs.Weighing.{finalWeightOf, secondFinalWeightOf}
 use Rattle.refusals.specs.Outcome.{Outcome, accepts, refuses}
 use Rattle.refusals.specs.Output.{refused, put, too-short}
 use Rattle.refusals.proofs.Determined.{Same, writes-determined}
@@ -156,16 +156,16 @@ among-good at seen [] g e m = absurd m
 among-good at seen (x ∷ list) g e (inl p) = subst GoodEntry (sym p) (g .1)
 among-good at seen (x ∷ list) g e (inr m) = among-good (at + size x) (seen ++ (x ∷ [])) list (g .3) e m
 
--- "a plain final in the query thus finds a stacked one": a live entry is found whose final has any form of the same weight
+-- "a plain final in the query thus finds a stacked one": a live entry is found whose final has any form of the same weights
 pub prefix-finals : (bytes : List ℕ) (list : List Entry) → IsBook bytes list → (query starts after : List ℕ) (count : ℕ)
     → PrefixPromise bytes query starts after (accepts count) → (e : Entry) → Among e list → T (e .live) → (front rest : Row) (head : ℕ)
     (medial : MedialGroup) (vowel : Vowel) (tone : ToneMark) (asked found : Final) → finalWeightOf asked ≡ finalWeightOf found
-    → Gives (front ++ (syllable head medial vowel asked tone ∷ [])) (storedForm query)
+    → secondFinalWeightOf asked ≡ secondFinalWeightOf found → Gives (front ++ (syllable head medial vowel asked tone ∷ [])) (storedForm query)
     → Gives ((front ++ (syllable head medial vowel found tone ∷ [])) ++ rest) (e .word) → StandsIn e after count
-prefix-finals bytes list k query starts after count p e m live front rest head medial vowel tone asked found same-weight g h =
+prefix-finals bytes list k query starts after count p e m live front rest head medial vowel tone asked found same-weight same-second g h =
     let stored = stored-storable query (query-stored bytes list k query starts after count p) .readable in
     let readable = among-good 0 [] list (k .good) e m .readable in
     prefix-each bytes list k query starts after count p e m live
     (subst (λ (r : Row). T (beginsWith r (rowOf (storedForm query)))) (sym (row-is (e .word) readable _ h))
     (subst (λ (r : Row). T (beginsWith ((front ++ (syllable head medial vowel found tone ∷ [])) ++ rest) r)) (sym (row-is (storedForm query) stored _ g))
-    (finals-alike front rest head medial vowel tone asked found same-weight)))
+    (finals-alike front rest head medial vowel tone asked found same-weight same-second)))
