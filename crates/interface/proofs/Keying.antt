@@ -1,4 +1,4 @@
--- What the weights of a word tell, written to lent output: the bytes are those of the row, all 320 of them.
+-- What the weights of a word tell, written to lent output: the bytes are those of the row, all 384 of them.
 -- Assumes nothing.
 use mathlib.Core.Path.{_≡_, ap, sym, subst, _∙_}
 use mathlib.Core.List.{List}

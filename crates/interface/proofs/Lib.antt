@@ -1,4 +1,5 @@
 mod Decoding
+mod Recording
 mod Keying
 pub mod Determined
 pub mod OutputFits

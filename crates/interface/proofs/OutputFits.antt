@@ -1,4 +1,4 @@
--- The numbers of every right answer on a key or a line fit their bits: a line that is not too long is at most 192 bytes.
+-- The numbers of every right answer on a record, a key or a line fit their bits: a line that is not too long is at most 192 bytes.
 -- Assumes nothing.
 use mathlib.Core.Path.{subst}
 use mathlib.Core.Bool.{Bool, true, false}
@@ -10,14 +10,23 @@ use Rattle.letters.specs.Choice.{pick}
 use Rattle.refusals.specs.Outcome.{Outcome, refuses}
 use Rattle.lines.specs.Line.{isThree, valueOf, Decoding, values, faulty as broken, after, decodeFrom, Decodes, LineRefused, too-long, faulty-three}
 use Rattle.recogniser.proofs.Counted.{count-limit}
+use Rattle.recogniser.specs.Answer.{RefusedWith}
+use Rattle.reading.specs.Records.{HasRecord}
 use Rattle.storage.specs.Stored.{storedForm}
 use Rattle.normaliser.specs.Normal.{StoreRefusedWith}
 use Rattle.weighing.proofs.Laws.{key-length}
 use Rattle.packing.specs.Packing.{Fits}
 use Rattle.packing.specs.Answers.{outcomeNumbers}
-use Rattle.packing.proofs.WordFits.{writes-fits, store-refused-fits}
-use Rattle.interface.specs.Outputs.{StoredRow, KeyWritten, DecodeWritten}
+use Rattle.packing.proofs.WordFits.{writes-fits, word-refused-fits, store-refused-fits}
+use Rattle.interface.specs.Outputs.{RecordWritten, answered, no-syllable, StoredRow, KeyWritten, DecodeWritten}
 use Rattle.interface.proofs.Decoding.{word-short}
+use Rattle.interface.proofs.Recording.{record-long}
+
+pub record-fits : (word : List ℕ) (number : ℕ) (before after : List ℕ) (o : Outcome) → RecordWritten word number before after o → Fits (outcomeNumbers o)
+record-fits word number before after o (answered w) =
+    writes-fits (RefusedWith word) (HasRecord word number) _ _ (word-refused-fits word)
+    (λ bytes r. let long = record-long word number bytes r in (omega arith, omega arith)) before after o w
+record-fits word number before after o (no-syllable n e) = record { tag = omega arith; second = omega arith; first = omega arith }
 
 pub key-fits : (word before after : List ℕ) (o : Outcome) → KeyWritten word before after o → Fits (outcomeNumbers o)
 key-fits word =

@@ -1,10 +1,9 @@
 -- Every call's number tells all of its outcome: unpacked, it is the outcome's numbers, of which none is cut. By the promises alone.
 -- Assumes nothing.
-use mathlib.Core.Path.{_≡_, sym, ap, subst, _∙_}
+use mathlib.Core.Path.{_≡_, ap, _∙_}
 use mathlib.Core.List.{List}
 use Prim.Native.Nat.{ℕ}
 use Rattle.recogniser.specs.Answer.{Answers}
-use Rattle.reading.specs.Records.{HasRecord}
 use Rattle.reading.specs.Parts.{PartAnswers}
 use Rattle.normaliser.specs.Normal.{NormaliseRight}
 use Rattle.normaliser.specs.Form.{FormRight}
@@ -22,23 +21,20 @@ use Rattle.book_word.specs.WordAt.{WordRight}
 use Rattle.wordbook.specs.Calls.{AddPromise, RemovePromise}
 use Rattle.wordbook.specs.Prefix.{PrefixPromise}
 use Rattle.packing.specs.Packing.{pack, unpack, Packed}
-use Rattle.packing.specs.Answers.{outcomeNumbers, bytesNumbers, RecordGivenRight, recordNumbers, compareNumbers, FindAnswers}
-use Rattle.packing.proofs.Laws.{unpack-pack, packed-unpacked, RecordBits, record-bits}
-use Rattle.packing.proofs.WordFits.{read-fits, record-fits, record-small, part-fits, normalise-fits, form-fits, typed-fits, write-fits, spell-fits, compare-fits}
+use Rattle.packing.specs.Answers.{outcomeNumbers, compareNumbers, FindAnswers}
+use Rattle.packing.proofs.Laws.{unpack-pack, packed-unpacked}
+use Rattle.packing.proofs.WordFits.{read-fits, part-fits, normalise-fits, form-fits, typed-fits, write-fits, spell-fits, compare-fits}
 use Rattle.packing.proofs.BookFits.{check-fits, rank-fits, order-fits, prefix-fits, record-word-fits, find-fits, add-fits, tidy-fits, remove-fits}
-use Rattle.interface.specs.Outputs.{KeyWritten, DecodeWritten}
-use Rattle.interface.proofs.OutputFits.{key-fits, decode-fits}
+use Rattle.interface.specs.Outputs.{RecordWritten, KeyWritten, DecodeWritten}
+use Rattle.interface.proofs.OutputFits.{record-fits, key-fits, decode-fits}
 
 module _ (word : List ℕ) (n : ℕ) where
   pub read-unpacked : (p : Packed (Answers word) outcomeNumbers n) → unpack n ≡ outcomeNumbers (p .outcome)
   read-unpacked p = packed-unpacked (Answers word) outcomeNumbers (read-fits word) n p
 
-  pub record-unpacked : (number : ℕ) (p : Packed (RecordGivenRight word number) recordNumbers n) → unpack n ≡ recordNumbers (p .outcome)
-  record-unpacked number p = packed-unpacked (RecordGivenRight word number) recordNumbers (record-fits word number) n p
-
-  -- the low 56 bits are the seven bytes, the head lowest, where there is such a syllable
-  pub record-bits-unpacked : (number : ℕ) (bytes : List ℕ) → HasRecord word number bytes → n ≡ pack (bytesNumbers bytes) → RecordBits n bytes
-  record-bits-unpacked number bytes r e = subst (λ (m : ℕ). RecordBits m bytes) (sym e) (record-bits bytes (record-small word number bytes r))
+  pub record-unpacked : (number : ℕ) (before after : List ℕ) (p : Packed (RecordWritten word number before after) outcomeNumbers n)
+      → unpack n ≡ outcomeNumbers (p .outcome)
+  record-unpacked number before after p = packed-unpacked (RecordWritten word number before after) outcomeNumbers (record-fits word number before after) n p
 
   pub part-unpacked : (number : ℕ) (p : Packed (PartAnswers word number) outcomeNumbers n) → unpack n ≡ outcomeNumbers (p .outcome)
   part-unpacked number p = packed-unpacked (PartAnswers word number) outcomeNumbers (part-fits word number) n p

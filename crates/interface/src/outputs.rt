@@ -1,13 +1,36 @@
-// A key and a decoded line, written to lent output.
+// A record, a key and a decoded line, written to lent output.
 use collation::weigh::weigh;
 use formula::Word;
 use lines::decode;
 use memory::copies::put_bytes;
 use normaliser::put_out;
+use reading::records::RecordAnswer;
+use reading::records::record_at;
 use refusals::Counted;
 use refusals::Refusal;
-ghost use Rattle.refusals.specs.Outcome.{outcomeOf};
-ghost use Rattle.interface.specs.Outputs.{KeyWritten, DecodeWritten};
+use refusals::Reply;
+ghost use Rattle.refusals.specs.Outcome.{outcomeOf, replyOutcome};
+ghost use Rattle.interface.specs.Outputs.{RecordWritten, KeyWritten, DecodeWritten};
+
+// Writes the record of the syllable `number`, from 0, to the front of the output; nothing where there is no such syllable.
+pub(crate) fn put_record(word: &[u16], number: usize, output: &mut [u8]) -> Reply
+    ensures { λ r. ⌜ RecordWritten (now (word .entry)) number (now (output .entry)) (now (output .exit)) (replyOutcome r) ⌝ }
+{
+    let given = record_at(word, number);
+    let answer = given.answer;
+    match answer {
+        RecordAnswer::Refused(refusal) => Reply::Refused(refusal),
+        RecordAnswer::NoSyllable => Reply::Nothing,
+        RecordAnswer::Found => {
+            if output.len() < Word::RECORD {
+                return Reply::Refused(Refusal::OutputTooShort(Word::RECORD));
+            }
+            let bytes = given.bytes;
+            put_bytes(&bytes, output, 0);
+            Reply::One(Word::RECORD)
+        }
+    }
+}
 
 // Writes the key of a word to the front of the output.
 pub(crate) fn put_key(word: &[u16], output: &mut [u8]) -> Counted

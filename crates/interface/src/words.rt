@@ -1,5 +1,6 @@
 // The calls on words.
 use crate::outputs::put_key;
+use crate::outputs::put_record;
 use crate::outputs::put_values;
 ghost use Rattle.recogniser.specs.Answer.{Answers};
 ghost use Rattle.reading.specs.Parts.{PartAnswers};
@@ -10,8 +11,8 @@ ghost use Rattle.collation.specs.Comparison.{CompareAnswers};
 ghost use Rattle.writing.specs.Write.{WriteRight};
 ghost use Rattle.spelling.specs.Spell.{lists, SpellRight};
 ghost use Rattle.packing.specs.Packing.{Packed};
-ghost use Rattle.packing.specs.Answers.{outcomeNumbers, RecordGivenRight, recordNumbers, compareNumbers};
-ghost use Rattle.interface.specs.Outputs.{KeyWritten, DecodeWritten};
+ghost use Rattle.packing.specs.Answers.{outcomeNumbers, compareNumbers};
+ghost use Rattle.interface.specs.Outputs.{RecordWritten, KeyWritten, DecodeWritten};
 
 // How many syllables a word has.
 #[no_mangle]
@@ -22,12 +23,12 @@ pub extern "C" fn jogcairn_read(word: &[u16]) -> u64
     packing::of_counted(answer)
 }
 
-// The record of the syllable `number`, from 0.
+// Writes the record of the syllable `number`, from 0.
 #[no_mangle]
-pub extern "C" fn jogcairn_record(word: &[u16], number: usize) -> u64
-    ensures { λ r. ⌜ Packed (RecordGivenRight (now (word .entry)) number) recordNumbers r ⌝ }
+pub extern "C" fn jogcairn_record(word: &[u16], number: usize, bytes: &mut [u8]) -> u64
+    ensures { λ r. ⌜ Packed (RecordWritten (now (word .entry)) number (now (bytes .entry)) (now (bytes .exit))) outcomeNumbers r ⌝ }
 {
-    packing::of_record(reading::records::record_at(word, number))
+    packing::of_reply(put_record(word, number, bytes))
 }
 
 // Place and length of the part of the syllable `number`, from 0.
@@ -48,7 +49,7 @@ pub extern "C" fn jogcairn_spell(word: &[u16], values: &mut [u16], starts: &mut 
     packing::of_reply(spelling::spell(word, values, starts))
 }
 
-// Writes the word of records, seven bytes a syllable.
+// Writes the word of records, eight bytes a syllable.
 #[no_mangle]
 pub extern "C" fn jogcairn_write(records: &[u8], word: &mut [u16]) -> u64
     ensures { λ r. ⌜ Packed (WriteRight (now (records .entry)) (now (word .entry)) (now (word .exit))) outcomeNumbers r ⌝ }

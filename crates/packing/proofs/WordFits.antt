@@ -1,33 +1,17 @@
 -- The numbers of every right answer on words fit their bits: places and counts are at most a word's limit, or that of what is written.
 -- Assumes nothing.
-use mathlib.Core.Path.{_≡_, refl, sym, ap, subst}
-use mathlib.Core.Bool.{Bool, true, false, _||_}
+use mathlib.Core.Path.{_≡_, refl, ap}
 use mathlib.Core.List.{List, [], _∷_}
-use Prim.Native.Nat.{ℕ, zero, suc, _≤_, _<_}
-use native.Mathlib.Nat.{le-of-suc-le-suc, not-suc-le-zero}
+use Prim.Native.Nat.{ℕ, suc, _≤_, _<_}
 use native.Mathlib.Omega.{arith}
-use borrow.Author.Tests.{leb-true}
-use lib.Dec.{T, leb}
-use lib.ListN.{length, getD}
-use Rattle.letters.specs.Letters.{within, isConsonant, isIndependentVowel, isDigit, isStop}
-use Rattle.letters.specs.Marks.{neither, ya, ra, MedialGroup, group, ToneMark, no-tone, dot, visarga}
-use Rattle.letters.specs.Marks.{Vowel, no-vowel, vowel-aa, vowel-i, vowel-ii, vowel-u, vowel-uu, vowel-e, vowel-ai}
-use Rattle.letters.specs.Marks.{vowel-e-aa, vowel-e-aa-killer, vowel-am, vowel-i-u, vowel-u-am}
-use Rattle.letters.specs.Weights.{isHead, isFinalLetter, bitIf, medialWeight, vowelWeight, vowelTall, toneWeight}
-use Rattle.letters.proofs.Tests.{is-true}
+use lib.ListN.{length}
 use Rattle.formula.specs.Limits.{limit}
-use Rattle.formula.proofs.Lists.{both-left, both-right}
-use Rattle.formula.specs.Syllable.{Final, no-final, plain, stacked, kinzi, great-sa, Syllable, syllable, bare, finalOf, isFinal, isSyllable}
-use Rattle.formula.specs.Row.{Row, isRowAfter}
-use Rattle.formula.specs.Record.{finalNumberOf, linkOf, recordOf}
+use Rattle.formula.specs.Row.{Row}
 use Rattle.formula.specs.Spelled.{spelled}
 use Rattle.refusals.specs.Outcome.{Outcome, accepts, accepts-both, absent, refuses}
 use Rattle.refusals.specs.Output.{Writes, refused, put, too-short}
-use Rattle.rows.proofs.Sound.{apart}
-use Rattle.rows.proofs.Complete.{first}
 use Rattle.rows.proofs.Viable.{only-row}
 use Rattle.recogniser.specs.Answer as reading
-use Rattle.reading.specs.Records.{HasRecord, RecordAnswers}
 use Rattle.reading.specs.Parts.{PartAnswers}
 use Rattle.recogniser.proofs.Counted.{count-limit}
 use Rattle.storage.specs.Stored.{storedForm}
@@ -43,7 +27,7 @@ use Rattle.spelling.proofs.Longest.{spelled-within}
 use Rattle.weighing.specs.declared.order.Order.the-variants.{Less, Equal, Greater}
 use Rattle.collation.specs.Comparison.{CompareOutcome, ordered, first-refuses, second-refuses, CompareAnswers}
 use Rattle.packing.specs.Packing.{answer, Fits}
-use Rattle.packing.specs.Answers.{outcomeNumbers, bytesNumbers, RecordGiven, RecordGivenRight, givenNumbers, recordNumbers, compareNumbers}
+use Rattle.packing.specs.Answers.{outcomeNumbers, compareNumbers}
 
 -- a refusal of a word: its number is one of document 01's, and its place at most the limit
 pub record Small (number place : ℕ) : Type 0 where
@@ -82,6 +66,9 @@ module _ {A : Type 0} (Refuses : ℕ → ℕ → Type 0) (Stands : A → Type 0)
   writes-fits o (refused r e) = refused-fits _ _ r
   writes-fits o (put s h e) = record { tag = omega arith; second = omega arith; first = few _ s .0 }
   writes-fits o (too-short s h e) = record { tag = omega arith; second = omega arith; first = few _ s .1 }
+
+pub word-refused-fits : (word : List ℕ) (number place : ℕ) → reading.RefusedWith word number place → Fits (outcomeNumbers (refuses number place))
+word-refused-fits word number place r = small-fits number 0 place (omega arith) (refused-small word number place r)
 
 pub store-refused-fits : (word : List ℕ) (number place : ℕ) → normal.StoreRefusedWith word number place → Fits (outcomeNumbers (refuses number place))
 store-refused-fits word number place r = small-fits number 0 place (omega arith) (store-refused-small word number place r)
@@ -155,110 +142,3 @@ compare-fits one other (ordered Greater) r = record { tag = omega arith; second 
 compare-fits one other (first-refuses number place) r = small-fits number 1 place (omega arith) (store-refused-small one number place r)
 compare-fits one other (second-refuses number place) r =
     small-fits number 2 place (omega arith) (store-refused-small other number place (r .second-refused))
-
--- the bytes of a record are bytes: each number of a syllable is small
-upto : (a b x : ℕ) → b ≤ 0x104F → T (within a b x) → x ≤ 0x104F
-upto a b x h t = let m : x ≤ b = leb-true x b (is-true (leb x b) (both-right (leb a x) (leb x b) t)) in omega arith
-
-most-or : (a b : Bool) (x : ℕ) → (T a → x ≤ 0x104F) → (T b → x ≤ 0x104F) → T (a || b) → x ≤ 0x104F
-most-or true b x f g t = f tt
-most-or false b x f g t = g t
-
-head-most : (h : ℕ) → T (isHead h) → h ≤ 0x104F
-head-most h =
-    most-or (isConsonant h) _ h (upto 0x1000 0x1021 h (omega arith))
-    (most-or (isIndependentVowel h) _ h
-    (most-or (within 0x1023 0x1027 h) _ h (upto 0x1023 0x1027 h (omega arith)) (upto 0x1029 0x102A h (omega arith)))
-    (most-or (isDigit h) _ h (upto 0x1040 0x1049 h (omega arith))
-    (most-or (isStop h) _ h (upto 0x104A 0x104B h (omega arith)) (upto 0x104C 0x104F h (omega arith)))))
-
-medial-small : (m : MedialGroup) → medialWeight m < 256
-medial-small (group neither false false) = omega arith
-medial-small (group ya false false) = omega arith
-medial-small (group ra false false) = omega arith
-medial-small (group neither true false) = omega arith
-medial-small (group neither false true) = omega arith
-medial-small (group ya true false) = omega arith
-medial-small (group ra true false) = omega arith
-medial-small (group ya false true) = omega arith
-medial-small (group ra false true) = omega arith
-medial-small (group neither true true) = omega arith
-medial-small (group ya true true) = omega arith
-medial-small (group ra true true) = omega arith
-
-bit-small : (t : Bool) → bitIf t 1 < 256
-bit-small true = omega arith
-bit-small false = omega arith
-
-vowel-small : (v : Vowel) → (vowelWeight v < 256) × (vowelTall v < 256)
-vowel-small no-vowel = (omega arith, omega arith)
-vowel-small (vowel-aa tall) = (omega arith, bit-small tall)
-vowel-small vowel-i = (omega arith, omega arith)
-vowel-small vowel-ii = (omega arith, omega arith)
-vowel-small vowel-u = (omega arith, omega arith)
-vowel-small vowel-uu = (omega arith, omega arith)
-vowel-small vowel-e = (omega arith, omega arith)
-vowel-small vowel-ai = (omega arith, omega arith)
-vowel-small (vowel-e-aa tall) = (omega arith, bit-small tall)
-vowel-small (vowel-e-aa-killer tall) = (omega arith, bit-small tall)
-vowel-small vowel-am = (omega arith, omega arith)
-vowel-small vowel-i-u = (omega arith, omega arith)
-vowel-small vowel-u-am = (omega arith, omega arith)
-
-final-small : (f : Final) → T (isFinal f) → (finalNumberOf f < 256) × (linkOf f < 256)
-final-small no-final t = (omega arith, omega arith)
-final-small (plain c) t = let m = upto 0x1000 0x1020 c (omega arith) t in (omega arith, omega arith)
-final-small (stacked c) t = let m = upto 0x1000 0x1020 c (omega arith) (both-left (isFinalLetter c) _ t) in (omega arith, omega arith)
-final-small kinzi t = (omega arith, omega arith)
-final-small great-sa t = (omega arith, omega arith)
-
-tone-small : (t : ToneMark) → toneWeight t < 256
-tone-small no-tone = omega arith
-tone-small dot = omega arith
-tone-small visarga = omega arith
-
-bytes-fit : (s : Syllable) → T (isSyllable s) → Fits (bytesNumbers (recordOf s))
-unfolding recordOf
-bytes-fit (syllable h m v f t) is =
-    let p = apart h m v f t is in
-    let v = vowel-small v in
-    let g = final-small f (p .final) in
-    record {
-      tag = omega arith;
-      second = omega (arith, g .0, g .1, tone-small t);
-      first = omega (arith, head-most h (p .head), medial-small m, v .0, v .1);
-    }
-
-bytes-small : (s : Syllable) → T (isSyllable s) → (k : ℕ) → getD (recordOf s) k 0 < 0x100
-unfolding recordOf
-bytes-small (syllable h m v f t) is zero = omega (arith, head-most h (apart h m v f t is .head))
-bytes-small (syllable h m v f t) is (suc zero) = medial-small m
-bytes-small (syllable h m v f t) is (suc (suc zero)) = vowel-small v .0
-bytes-small (syllable h m v f t) is (suc (suc (suc zero))) = vowel-small v .1
-bytes-small (syllable h m v f t) is (suc (suc (suc (suc zero)))) = final-small f (apart h m v f t is .final) .0
-bytes-small (syllable h m v f t) is (suc (suc (suc (suc (suc zero))))) = final-small f (apart h m v f t is .final) .1
-bytes-small (syllable h m v f t) is (suc (suc (suc (suc (suc (suc zero)))))) = tone-small t
-bytes-small (syllable h m v f t) is (suc (suc (suc (suc (suc (suc (suc k))))))) = omega arith
-
-row-at : (f : Final) (row : Row) (k : ℕ) (d : Syllable) → T (isRowAfter f row) → k < length row → T (isSyllable (getD row k d))
-row-at f [] k d t h = absurd (not-suc-le-zero h)
-row-at f (s ∷ row) zero d t h = first f s row t .is
-row-at f (s ∷ row) (suc k) d t h = row-at (finalOf s) row k d (first f s row t .rest) (le-of-suc-le-suc h)
-
-pub record-fits : (word : List ℕ) (number : ℕ) (given : RecordGiven) → RecordGivenRight word number given → Fits (recordNumbers given)
-record-fits word number given r = go (given .outcome) r
-  where
-    go : (o : Outcome) → RecordAnswers word number o (given .bytes) → Fits (givenNumbers o (given .bytes))
-    go (accepts size) r =
-        let h = r .1 in
-        subst (λ (l : List ℕ). Fits (bytesNumbers l)) (sym (h .is))
-        (bytes-fit (getD (h .row) number (bare 0x1000)) (row-at no-final (h .row) number (bare 0x1000) (h .gives .is-row) (h .below)))
-    go (accepts-both first second) r = absurd r
-    go absent r = record { tag = omega arith; second = omega arith; first = omega arith }
-    go (refuses refusal place) r = small-fits refusal 0 place (omega arith) (refused-small word refusal place (r .refused))
-
--- each of a record's seven bytes is one
-pub record-small : (word : List ℕ) (number : ℕ) (bytes : List ℕ) → HasRecord word number bytes → (k : ℕ) → getD bytes k 0 < 0x100
-record-small word number bytes r k =
-    subst (λ (l : List ℕ). getD l k 0 < 0x100) (sym (r .is))
-    (bytes-small (getD (r .row) number (bare 0x1000)) (row-at no-final (r .row) number (bare 0x1000) (r .gives .is-row) (r .below)) k)

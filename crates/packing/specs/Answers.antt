@@ -2,14 +2,12 @@
 -- Assumes nothing.
 use mathlib.Core.List.{List}
 use Prim.Native.Nat.{ℕ}
-use lib.ListN.{getD}
 use Rattle.refusals.specs.Outcome.{Outcome, accepts, accepts-both, absent, refuses}
-use Rattle.reading.specs.Records.{RecordAnswers}
 use Rattle.weighing.specs.declared.order.Order.{Order}
 use Rattle.weighing.specs.declared.order.Order.the-variants.{Less, Equal, Greater}
 use Rattle.collation.specs.Comparison.{CompareOutcome, ordered, first-refuses, second-refuses}
 use Rattle.storage.specs.Stored.{storedForm}
-use Rattle.entries.specs.Entries.{number, entries}
+use Rattle.entries.specs.Entries.{entries}
 use Rattle.lookup.specs.Outcome.{findOf}
 use Rattle.wordbook.specs.Calls.{CallAnswers}
 use Rattle.packing.specs.Packing.{Answer, answer}
@@ -20,31 +18,6 @@ outcomeNumbers (accepts first) = answer 0 0 first
 outcomeNumbers (accepts-both first second) = answer 0 second first
 outcomeNumbers absent = answer 128 0 0
 outcomeNumbers (refuses number place) = answer number 0 place
-
--- "seven bytes by value": the lowest is the head, and the tone is the highest
-abbrev pub bytesNumbers : List ℕ → Answer
-bytesNumbers bytes =
-    answer 0
-    (number (getD bytes 4 0) (getD bytes 5 0) (getD bytes 6 0) 0)
-    (number (getD bytes 0 0) (getD bytes 1 0) (getD bytes 2 0) (getD bytes 3 0))
-
--- a record by number: whether there is one, and its bytes
-pub record RecordGiven : Type 0 where
-  pub outcome : Outcome
-  pub bytes : List ℕ
-
-abbrev pub RecordGivenRight : List ℕ → ℕ → RecordGiven → Type 0
-RecordGivenRight word number given = RecordAnswers word number (given .outcome) (given .bytes)
-
--- where there is a record, its bytes stand for their number
-abbrev pub givenNumbers : Outcome → List ℕ → Answer
-givenNumbers (accepts size) bytes = bytesNumbers bytes
-givenNumbers (accepts-both first second) bytes = outcomeNumbers (accepts-both first second)
-givenNumbers absent bytes = outcomeNumbers absent
-givenNumbers (refuses number place) bytes = outcomeNumbers (refuses number place)
-
-abbrev pub recordNumbers : RecordGiven → Answer
-recordNumbers given = givenNumbers (given .outcome) (given .bytes)
 
 abbrev pub orderNumber : Order → ℕ
 orderNumber Less = 0

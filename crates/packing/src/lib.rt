@@ -1,20 +1,14 @@
 // Answers as one number of 64 bits each, for callers in other languages.
 use collation::compare::Compared;
-use formula::Word;
-use reading::records::RecordAnswer;
-use reading::records::SyllableRecord;
 use refusals::Counted;
 use refusals::Refusal;
 use refusals::Reply;
 ghost use mathlib.Core.Path.{_≡_};
-ghost use Prim.Native.Nat.{_<_};
 ghost use Rattle.refusals.specs.Refusal.{numberOf, placeOf};
 ghost use Rattle.refusals.specs.Outcome.{outcomeOf, replyOutcome};
-ghost use Rattle.reading.specs.Records.{recordOutcomeOf};
 ghost use Rattle.collation.specs.Comparison.{compareOutcomeOf};
-ghost use Rattle.entries.specs.Entries.{number};
 ghost use Rattle.packing.specs.Packing.{answer, pack};
-ghost use Rattle.packing.specs.Answers.{outcomeNumbers, bytesNumbers, givenNumbers, compareNumbers};
+ghost use Rattle.packing.specs.Answers.{outcomeNumbers, compareNumbers};
 
 // The number of a tag, a second number and a first; each is cut to its 8, 24 or 32 bits.
 fn packed(tag: u64, second: u64, first: u64) -> u64
@@ -28,29 +22,6 @@ fn refused(refusal: Refusal, second: u64) -> u64
     ensures { λ r. ⌜ r ≡ pack (answer (numberOf refusal) second (placeOf refusal)) ⌝ }
 {
     packed(refusal.number() as u64, second, refusal.place() as u64)
-}
-
-// A byte as a number.
-fn wide(x: u8) -> u64
-    ensures { λ r. ⌜ (r ≡ x) × (r < 256) ⌝ }
-{
-    x as u64
-}
-
-// The number of four bytes, the first of them lowest.
-fn joined(low: u8, second: u8, third: u8, high: u8) -> u64
-    ensures { λ r. ⌜ r ≡ number low second third high ⌝ }
-{
-    wide(low) + 256 * (wide(second) + 256 * (wide(third) + 256 * wide(high)))
-}
-
-// The bytes of a record: four in the first number, three in the second.
-fn of_bytes(bytes: [u8; Word::RECORD]) -> u64
-    ensures { λ r. ⌜ r ≡ pack (bytesNumbers bytes) ⌝ }
-{
-    let first = joined(bytes[0], bytes[1], bytes[2], bytes[3]);
-    let second = joined(bytes[4], bytes[5], bytes[6], 0);
-    packed(0, second, first)
 }
 
 // A number that a call tells: of syllables, of values, of live records, or where a record starts.
@@ -72,21 +43,6 @@ pub fn of_reply(answer: Reply) -> u64
         Reply::Two(first, second) => packed(0, second as u64, first as u64),
         Reply::Nothing => packed(128, 0, 0),
         Reply::Refused(refusal) => refused(refusal, 0),
-    }
-}
-
-// A record, or that there is no such syllable.
-pub fn of_record(given: SyllableRecord) -> u64
-    ensures { λ r. ⌜ r ≡ pack (givenNumbers (recordOutcomeOf (given .answer)) (given .bytes)) ⌝ }
-{
-    let answer = given.answer;
-    match answer {
-        RecordAnswer::Found => {
-            let bytes = given.bytes;
-            of_bytes(bytes)
-        }
-        RecordAnswer::NoSyllable => packed(128, 0, 0),
-        RecordAnswer::Refused(refusal) => refused(refusal, 0),
     }
 }
 
