@@ -23,7 +23,8 @@
  *     tag JOGCAIRN_NONE: there is no such syllable, place or record, which is no refusal (jogcairn_record, jogcairn_part,
  *         jogcairn_typed_place, jogcairn_book_word)
  *
- * A refusal writes nothing. What is accepted is written to the front of an output, and the rest of the output is left as it was.
+ * A refusal writes nothing, and nor does JOGCAIRN_NONE. What is accepted is written to the front of an output, and the rest of the output is left as
+ * it was.
  */
 #ifndef JOGCAIRN_H
 #define JOGCAIRN_H
@@ -38,14 +39,14 @@ extern "C" {
 #define JOGCAIRN_WORD_LIMIT 64      /* the most values of a word: room for any normalised, written or decoded word */
 #define JOGCAIRN_LINE_LIMIT 192     /* the most bytes of a line */
 #define JOGCAIRN_SPELLED_LIMIT 190  /* the most values of a spelled word; it has at most JOGCAIRN_WORD_LIMIT syllables */
-#define JOGCAIRN_RECORD_SIZE 7      /* the bytes of a syllable's record */
-#define JOGCAIRN_KEY_SIZE 320       /* the bytes of a key, of which five a syllable are used */
+#define JOGCAIRN_RECORD_SIZE 8      /* the bytes of a syllable's record */
+#define JOGCAIRN_KEY_SIZE 384       /* the bytes of a key, of which six a syllable are used */
 #define JOGCAIRN_BOOK_LIMIT 16384   /* the most bytes of a book */
 
 /* The most stack that a call needs, in bytes; tests/stack.c measures it. */
 #define JOGCAIRN_STACK_WORD 4096
 #define JOGCAIRN_STACK_BOOK 40960
-#define JOGCAIRN_STACK_ORDER 98304
+#define JOGCAIRN_STACK_ORDER 114688
 
 /* The tag where there is nothing of the number that is asked for. */
 #define JOGCAIRN_NONE 128
@@ -87,12 +88,6 @@ static inline int jogcairn_accepted(uint64_t answer)
     return jogcairn_tag(answer) == 0;
 }
 
-/* A byte of the record that jogcairn_record answers, 0 to 6: head, medial, vowel, tall, final, link, tone. */
-static inline uint8_t jogcairn_record_byte(uint64_t answer, unsigned byte)
-{
-    return (uint8_t)(answer >> (8 * byte));
-}
-
 /* Of what jogcairn_book_word answers: how many values the record's word has, and whether the record is live. */
 static inline unsigned jogcairn_word_count(uint64_t answer)
 {
@@ -109,19 +104,21 @@ static inline int jogcairn_word_live(uint64_t answer)
 /* Reads a word as it is handed in. First: its syllables. [1 to 4] */
 uint64_t jogcairn_read(const uint16_t *word, size_t count);
 
-/* The record of the syllable `number`, from 0: the low 56 bits of the answer are its seven bytes, the head lowest. Behind an independent vowel and
-   behind 104E, medial, vowel and tall are 0; behind a digit, a stop or another sign all six are. [1 to 4, none] */
-uint64_t jogcairn_record(const uint16_t *word, size_t count, size_t number);
+/* Writes the record of the syllable `number`, from 0, its JOGCAIRN_RECORD_SIZE bytes: head, medial, vowel, tall, final, second final, link, tone. First:
+   the bytes written. A second final stands behind a plain one alone, and the link is that of both, 1. Behind an independent vowel and behind 104E, medial,
+   vowel and tall are 0; behind a digit, a stop or another sign all seven are. None comes before 5, so that the end of a word is told whatever the room.
+   [1 to 5, none] */
+uint64_t jogcairn_record(const uint16_t *word, size_t count, size_t number, uint8_t *record, size_t room);
 
 /* The part of the word that the syllable `number` is, from 0. First: the place of its first value; second: how many values it has.
    [1 to 4, none] */
 uint64_t jogcairn_part(const uint16_t *word, size_t count, size_t number);
 
-/* Spells a word out: each syllable by itself, its final as a letter and 103A. Writes the values, and to `starts` the place among them where
+/* Spells a word out: each syllable by itself, each of its finals as a letter and 103A. Writes the values, and to `starts` the place among them where
    each syllable begins. First: the values; second: the syllables. Of two outputs too short, `values` is told first. [1 to 5] */
 uint64_t jogcairn_spell(const uint16_t *word, size_t count, uint16_t *values, size_t room, uint16_t *starts, size_t starts_room);
 
-/* Writes the word of records, seven bytes a syllable. First: its values. [5, 6] */
+/* Writes the word of records, JOGCAIRN_RECORD_SIZE bytes a syllable. First: its values. [5, 6] */
 uint64_t jogcairn_write(const uint8_t *records, size_t bytes, uint16_t *word, size_t room);
 
 /* Writes the one spelling that a word is stored in: its marks in order. First: its values. Places of 3 and 4 are places in the stored
@@ -137,9 +134,9 @@ uint64_t jogcairn_stored_form(const uint16_t *word, size_t count, uint16_t *outp
    1025 102E is pointed at by its 1025. None where the stored spelling ends before the place. [1, 2, none] */
 uint64_t jogcairn_typed_place(const uint16_t *word, size_t count, size_t place);
 
-/* Writes the collation key of a word, normalised, always JOGCAIRN_KEY_SIZE bytes: five a syllable, then zeros. memcmp orders keys as the
-   dictionary files words; words that weigh the same have the same key, and jogcairn_compare tells them apart. An independent vowel weighs as its
-   mark on 1021, whatever final and tone it has. First: the syllables. [1 to 5] */
+/* Writes the collation key of a word, normalised, always JOGCAIRN_KEY_SIZE bytes: six a syllable (head, medial, final, second final, vowel, tone), then
+   zeros. memcmp orders keys as the dictionary files words; words that weigh the same have the same key, and jogcairn_compare tells them apart. An
+   independent vowel weighs as its mark on 1021, whatever finals and tone it has. First: the syllables. [1 to 5] */
 uint64_t jogcairn_key(const uint16_t *word, size_t count, uint8_t *key, size_t room);
 
 /* Compares two words, normalised. First: 0 where the first comes before the second, 1 where they are one word, 2 where it comes after.
@@ -183,7 +180,7 @@ uint64_t jogcairn_book_find(const uint8_t *book, size_t bytes, const uint16_t *w
 
 /* Finds by the first syllables: writes the starts of all live records whose words begin with the syllables of `query`, in word order. First: how
    many they are; 0 is no refusal. Whole syllables are compared, by their weights: a word begins with itself, a plain final finds a stacked one, kinzi
-   and great sa too, and a letter alone does not find a syllable in which it has marks or a final. Tested in the order 1, 8, 2, 3 or 4, 11, 5; the place
+   and great sa too, and a syllable does not find one that has a mark or a final more. Tested in the order 1, 8, 2, 3 or 4, 11, 5; the place
    of 5 is how many they are, at most JOGCAIRN_BOOK_LIMIT / 8. [1 to 5, 8, 11] */
 uint64_t jogcairn_book_find_prefix(const uint8_t *book, size_t bytes, const uint16_t *query, size_t count, uint16_t *starts, size_t room);
 
