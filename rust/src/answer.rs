@@ -53,6 +53,15 @@ impl Answer {
         Ok((first as usize, second == 1))
     }
 
+    /// The one number of a thing asked for by number, or nothing where there is no such thing.
+    pub(crate) fn one_or_none(self) -> Result<Option<usize>, Refusal> {
+        let numbers = self.two_or_none()?;
+        Ok(numbers.map(|(first, second)| {
+            self.demand(second == 0);
+            first as usize
+        }))
+    }
+
     /// The two numbers of a thing asked for by number, or nothing where there is no such thing.
     pub(crate) fn two_or_none(self) -> Result<Option<(u32, usize)>, Refusal> {
         match self.tag() {
@@ -62,12 +71,6 @@ impl Answer {
             }
             _ => self.two().map(Some),
         }
-    }
-
-    /// The seven low bytes, the lowest first.
-    pub(crate) fn seven_bytes(self) -> [u8; 7] {
-        let [bytes @ .., _] = self.0.to_le_bytes();
-        bytes
     }
 
     /// Which of two words is refused, and why; nothing where both are accepted.
@@ -122,8 +125,10 @@ mod tests {
         assert_eq!(most, Ok((u32::MAX, 0x00FF_FFFF)));
         assert_eq!(packed(0, 0, 85).one_and_whether(), Ok((85, false)));
         assert_eq!(packed(0, 1, 85).one_and_whether(), Ok((85, true)));
+        assert_eq!(packed(0, 0, 8).one_or_none(), Ok(Some(8)));
+        assert_eq!(packed(0, 2, 8).two_or_none(), Ok(Some((8, 2))));
+        assert_eq!(packed(128, 0, 0).one_or_none(), Ok(None));
         assert_eq!(packed(128, 0, 0).two_or_none(), Ok(None));
-        assert_eq!(Answer::new(0x0006_0504_0302_0100).seven_bytes(), [0, 1, 2, 3, 4, 5, 6]);
     }
 
     #[test]
@@ -137,11 +142,13 @@ mod tests {
 
     #[test]
     fn an_answer_that_the_contract_excludes_ends_the_program() {
-        let excluded: [fn() -> bool; 6] = [
+        let excluded: [fn() -> bool; 8] = [
             || packed(9, 0, 0).one().is_ok(),
             || packed(128, 0, 0).one().is_ok(),
             || packed(0, 1, 0).one().is_ok(),
             || packed(0, 2, 0).one_and_whether().is_ok(),
+            || packed(0, 1, 8).one_or_none().is_ok(),
+            || packed(128, 0, 8).one_or_none().is_ok(),
             || packed(3, 1, 0).two().is_ok(),
             || packed(0, 0, 3).ordering().is_eq(),
         ];

@@ -9,7 +9,13 @@ use crate::answer::Answer;
 
 unsafe extern "C" {
     fn jogcairn_read(word: *const u16, count: usize) -> u64;
-    fn jogcairn_record(word: *const u16, count: usize, number: usize) -> u64;
+    fn jogcairn_record(
+        word: *const u16,
+        count: usize,
+        number: usize,
+        record: *mut u8,
+        room: usize,
+    ) -> u64;
     fn jogcairn_part(word: *const u16, count: usize, number: usize) -> u64;
     fn jogcairn_spell(
         word: *const u16,
@@ -61,9 +67,11 @@ pub(crate) fn read(word: &[u16]) -> Answer {
     Answer::new(unsafe { jogcairn_read(word.as_ptr(), word.len()) })
 }
 
-pub(crate) fn record(word: &[u16], number: usize) -> Answer {
-    // SAFETY: the pointer and the count are those of a slice; every number is allowed.
-    Answer::new(unsafe { jogcairn_record(word.as_ptr(), word.len(), number) })
+pub(crate) fn record(word: &[u16], number: usize, record: &mut [u8]) -> Answer {
+    let (record_at, room) = (record.as_mut_ptr(), record.len());
+    // SAFETY: the pointers and counts are those of slices, of which the output is borrowed mutably
+    // and so does not overlap the input; every number is allowed.
+    Answer::new(unsafe { jogcairn_record(word.as_ptr(), word.len(), number, record_at, room) })
 }
 
 pub(crate) fn part(word: &[u16], number: usize) -> Answer {

@@ -5,7 +5,10 @@ use crate::refusal::Refusal;
 use crate::KEY_SIZE;
 use std::fmt;
 
-/// Writes the key of a word, which is normalised first, to the front of `key`: 320 bytes, five a
+/// The weights of a syllable, a byte each.
+const WEIGHTS: usize = 6;
+
+/// Writes the key of a word, which is normalised first, to the front of `key`: 384 bytes, six a
 /// syllable and then zeros. Gives the number of syllables.
 ///
 /// ```
@@ -13,8 +16,8 @@ use std::fmt;
 ///
 /// let mut key = [0xFF; KEY_SIZE];
 /// assert_eq!(key_into(&[0x101E, 0x1019, 0x102E, 0x1038], &mut key)?, 2);
-/// assert_eq!(key[..11], [43, 0, 0, 0, 0, 38, 0, 0, 3, 2, 0]);
-/// let refusal = key_into(&[0x1000], &mut key[..319]).unwrap_err();
+/// assert_eq!(key[..13], [43, 0, 0, 0, 0, 0, 38, 0, 0, 0, 3, 2, 0]);
+/// let refusal = key_into(&[0x1000], &mut key[..383]).unwrap_err();
 /// assert_eq!((refusal.reason, refusal.place), (Reason::OutputTooShort, KEY_SIZE));
 /// # Ok::<(), jogcairn::Refusal>(())
 /// ```
@@ -45,17 +48,17 @@ impl Key {
     /// ```
     /// // ပိုက်, pipe.
     /// let key = jogcairn::Key::of(&[0x1015, 0x102D, 0x102F, 0x1000, 0x103A])?;
-    /// assert_eq!(key.rows().collect::<Vec<_>>(), [[0x22, 0, 1, 11, 0]]);
+    /// assert_eq!(key.rows().collect::<Vec<_>>(), [[0x22, 0, 1, 0, 11, 0]]);
     /// # Ok::<(), jogcairn::Refusal>(())
     /// ```
     pub fn of(word: &[u16]) -> Result<Key, Refusal> {
         let mut key = [0; KEY_SIZE];
         let count = key_into(word, &mut key)?;
-        Ok(Key(key[..5 * count].into()))
+        Ok(Key(key[..WEIGHTS * count].into()))
     }
 
-    /// The key that has these used bytes, five a syllable, as [`as_bytes`](Key::as_bytes) gave them;
-    /// nothing for bytes that no key has so: a length that is no multiple of five or is over 320, or
+    /// The key that has these used bytes, six a syllable, as [`as_bytes`](Key::as_bytes) gave them;
+    /// nothing for bytes that no key has so: a length that is no multiple of six or is over 384, or
     /// a head that weighs 0.
     ///
     /// ```
@@ -63,20 +66,20 @@ impl Key {
     ///
     /// let key = Key::of(&[0x1000, 0x102C])?;
     /// assert_eq!(Key::from_bytes(key.as_bytes()), Some(key));
-    /// assert_eq!(Key::from_bytes(&[13, 0, 0, 1]), None);
-    /// assert_eq!(Key::from_bytes(&[0, 0, 0, 1, 0]), None);
+    /// assert_eq!(Key::from_bytes(&[13, 0, 0, 1, 0]), None);
+    /// assert_eq!(Key::from_bytes(&[0, 0, 0, 0, 1, 0]), None);
     /// # Ok::<(), jogcairn::Refusal>(())
     /// ```
     pub fn from_bytes(bytes: &[u8]) -> Option<Key> {
-        let (rows, rest) = bytes.as_chunks::<5>();
+        let (rows, rest) = bytes.as_chunks::<WEIGHTS>();
         let whole = rest.is_empty() && bytes.len() <= KEY_SIZE;
         (whole && rows.iter().all(|row| row[0] != 0)).then(|| Key(bytes.into()))
     }
 
-    /// The used bytes, five a syllable.
+    /// The used bytes, six a syllable.
     ///
     /// ```
-    /// assert_eq!(jogcairn::Key::of(&[0x1000])?.as_bytes(), [13, 0, 0, 0, 0]);
+    /// assert_eq!(jogcairn::Key::of(&[0x1000])?.as_bytes(), [13, 0, 0, 0, 0, 0]);
     /// # Ok::<(), jogcairn::Refusal>(())
     /// ```
     pub fn as_bytes(&self) -> &[u8] {
@@ -90,24 +93,27 @@ impl Key {
     /// # Ok::<(), jogcairn::Refusal>(())
     /// ```
     pub fn count(&self) -> usize {
-        self.0.len() / 5
+        self.0.len() / WEIGHTS
     }
 
-    /// The weights of each syllable: head, medial, final, vowel, tone. An independent vowel weighs
-    /// as its mark on အ, whatever final and tone it has.
+    /// The weights of each syllable: head, medial, final, second final, vowel, tone. An independent
+    /// vowel weighs as its mark on အ, whatever finals and tone it has.
     ///
     /// ```
     /// use jogcairn::Key;
     ///
     /// let key = Key::of(&[0x101E, 0x1019, 0x102E, 0x1038])?;
-    /// assert_eq!(key.rows().last(), Some([38, 0, 0, 3, 2]));
+    /// assert_eq!(key.rows().last(), Some([38, 0, 0, 0, 3, 2]));
     /// // ဥက္က, and အုက္က with the same weights.
     /// let key = Key::of(&[0x1025, 0x1000, 0x1039, 0x1000])?;
-    /// assert_eq!(key.rows().collect::<Vec<_>>(), [[46, 0, 1, 4, 0], [13, 0, 0, 0, 0]]);
+    /// assert_eq!(key.rows().collect::<Vec<_>>(), [[46, 0, 1, 0, 4, 0], [13, 0, 0, 0, 0, 0]]);
     /// assert_eq!(key, Key::of(&[0x1021, 0x102F, 0x1000, 0x1039, 0x1000])?);
+    /// // ဘတ်စ်, a brand name with two finals.
+    /// let key = Key::of(&[0x1018, 0x1010, 0x103A, 0x1005, 0x103A])?;
+    /// assert_eq!(key.rows().collect::<Vec<_>>(), [[37, 0, 17, 6, 0, 0]]);
     /// # Ok::<(), jogcairn::Refusal>(())
     /// ```
-    pub fn rows(&self) -> impl ExactSizeIterator<Item = [u8; 5]> + '_ {
+    pub fn rows(&self) -> impl ExactSizeIterator<Item = [u8; 6]> + '_ {
         self.0.as_chunks().0.iter().copied()
     }
 }
@@ -125,9 +131,11 @@ impl fmt::Display for Key {
         if self.0.is_empty() {
             return f.write_str("-");
         }
-        for (number, [head, medial, ending, vowel, tone]) in self.rows().enumerate() {
-            let hyphen = if number == 0 { "" } else { "-" };
-            write!(f, "{hyphen}{head:02X}{medial:02X}{ending:02X}{vowel:02X}{tone:02X}")?;
+        for (number, row) in self.rows().enumerate() {
+            f.write_str(if number == 0 { "" } else { "-" })?;
+            for weight in row {
+                write!(f, "{weight:02X}")?;
+            }
         }
         Ok(())
     }
@@ -146,7 +154,10 @@ mod tests {
     #[test]
     fn a_key_is_shown_as_the_word_list_prints_it() {
         let university = [0x1010, 0x1000, 0x1039, 0x1000, 0x101E, 0x102D, 0x102F, 0x101C, 0x103A];
-        assert_eq!(Key::of(&university).unwrap().to_string(), "1D00010000-0D00000000-2B001D0B00");
+        assert_eq!(
+            Key::of(&university).unwrap().to_string(),
+            "1D0001000000-0D0000000000-2B001D000B00"
+        );
         assert_eq!(Key::of(&[]).unwrap().to_string(), "-");
     }
 }

@@ -25,7 +25,8 @@
 //! ```
 //!
 //! An independent vowel, and the sign ၎ (104E), may carry a final and a tone as a letter does, but
-//! no medial and no vowel mark; a digit, a stop or another sign carries nothing.
+//! no medial and no vowel mark; a digit, a stop or another sign carries nothing. A plain final may
+//! have a second one behind it, as in brand names such as ဘတ်စ်.
 //!
 //! ```
 //! use jogcairn::{read, spell, write, Book, Word};
@@ -33,8 +34,9 @@
 //! let mut bytes = [0; 64];
 //! let mut book = Book::new(&mut bytes);
 //! for (name, spelled, key) in [
-//!     ("ဥက္က", vec!["ဥက်", "က"], "2E00010400-0D00000000"),
-//!     ("၎င်း", vec!["၎င်း"], "3100050002"),
+//!     ("ဥက္က", vec!["ဥက်", "က"], "2E0001000400-0D0000000000"),
+//!     ("၎င်း", vec!["၎င်း"], "310005000002"),
+//!     ("ဘတ်စ်", vec!["ဘတ်စ်"], "250011060000"),
 //! ] {
 //!     let word: Word = name.parse()?;
 //!     assert_eq!(word.key().to_string(), key);
@@ -51,7 +53,7 @@
 //!
 //! | to | call |
 //! |---|---|
-//! | cut a word into syllables | [`read`], [`record`], [`part`] |
+//! | cut a word into syllables | [`read`], [`record`], [`record_into`], [`part`] |
 //! | spell the syllables out | [`spell`], [`spell_into`] |
 //! | write a word from records | [`write()`], [`write_into`] |
 //! | store a word in its one spelling | [`Word`], [`normalise`], [`normalise_into`] |
@@ -91,7 +93,7 @@ pub use comparison::{compare, ComparisonRefusal, Which};
 pub use entries::{Entries, Entry, Listing};
 pub use key::{key_into, Key};
 pub use line::{decode, decode_into};
-pub use reading::{part, read, record, Syllable, Syllables};
+pub use reading::{part, read, record, record_into, Syllable, Syllables};
 pub use record::{Link, Record};
 pub use refusal::{Reason, Refusal, UnknownNumber};
 pub use spelling::{spell, spell_into, Spelled, SpelledLengths};
@@ -108,8 +110,11 @@ pub const LINE_LIMIT: usize = 192;
 /// The values of the longest spelled word.
 pub const SPELLED_LIMIT: usize = 190;
 
-/// The bytes of a key, of which five a syllable are used.
-pub const KEY_SIZE: usize = 320;
+/// The bytes of a syllable's record.
+pub const RECORD_SIZE: usize = 8;
+
+/// The bytes of a key, of which six a syllable are used.
+pub const KEY_SIZE: usize = 384;
 
 /// The most bytes that a book has.
 pub const BOOK_LIMIT: usize = 16_384;

@@ -3,6 +3,7 @@
 use crate::ffi;
 use crate::record::Record;
 use crate::refusal::Refusal;
+use crate::RECORD_SIZE;
 use std::iter::FusedIterator;
 use std::ops::Range;
 
@@ -27,19 +28,43 @@ pub fn read(word: &[u16]) -> Result<Syllables<'_>, Refusal> {
     Ok(Syllables { word, numbers: 0..count })
 }
 
+/// Writes the record of a syllable by its number, from 0, to the front of `output`, and gives the
+/// number of bytes; `None` where the word has no such syllable, however short the output is.
+///
+/// ```
+/// use jogcairn::{record_into, Reason, RECORD_SIZE};
+///
+/// // ဘတ်စ်, a brand name: one syllable with two finals.
+/// let word = [0x1018, 0x1010, 0x103A, 0x1005, 0x103A];
+/// let mut output = [0xFF; 9];
+/// assert_eq!(record_into(&word, 0, &mut output)?, Some(RECORD_SIZE));
+/// assert_eq!(output, [0x18, 0, 0, 0, 17, 6, 1, 0, 0xFF]);
+/// assert_eq!(record_into(&word, 1, &mut [])?, None);
+/// let refusal = record_into(&word, 0, &mut output[..7]).unwrap_err();
+/// assert_eq!((refusal.reason, refusal.place), (Reason::OutputTooShort, RECORD_SIZE));
+/// # Ok::<(), jogcairn::Refusal>(())
+/// ```
+pub fn record_into(
+    word: &[u16],
+    number: usize,
+    output: &mut [u8],
+) -> Result<Option<usize>, Refusal> {
+    ffi::record(word, number, output).one_or_none()
+}
+
 /// The record of a syllable by its number, from 0; nothing where the word has no such syllable.
 ///
 /// ```
 /// // သမီး, daughter.
 /// let word = [0x101E, 0x1019, 0x102E, 0x1038];
-/// assert_eq!(jogcairn::record(&word, 1)?.unwrap().bytes(), [0x19, 0, 3, 0, 0, 0, 2]);
+/// assert_eq!(jogcairn::record(&word, 1)?.unwrap().bytes(), [0x19, 0, 3, 0, 0, 0, 0, 2]);
 /// assert_eq!(jogcairn::record(&word, 2)?, None);
 /// # Ok::<(), jogcairn::Refusal>(())
 /// ```
 pub fn record(word: &[u16], number: usize) -> Result<Option<Record>, Refusal> {
-    let answer = ffi::record(word, number);
-    let syllable = answer.two_or_none()?;
-    Ok(syllable.map(|_| Record::from_bytes(answer.seven_bytes())))
+    let mut bytes = [0; RECORD_SIZE];
+    let written = record_into(word, number, &mut bytes)?;
+    Ok(written.map(|_| Record::from_bytes(bytes)))
 }
 
 /// The part of the word that a syllable is, by its number, from 0; nothing where the word has no

@@ -1,6 +1,8 @@
-//! The seven bytes of a syllable.
+//! The eight bytes of a syllable.
 
-/// A syllable by the numbers of its pieces, in seven bytes: what the reader hands back and the
+use crate::RECORD_SIZE;
+
+/// A syllable by the numbers of its pieces, in eight bytes: what the reader hands back and the
 /// writer takes.
 ///
 /// ```
@@ -12,19 +14,20 @@
 /// assert_eq!(first.head(), 0x1010);
 /// assert_eq!(first.final_letter(), Some(0x1000));
 /// assert_eq!(first.link(), Some(Link::Stacked));
-/// assert_eq!(first.bytes(), [0x10, 0, 0, 0, 1, 2, 0]);
+/// assert_eq!(first.bytes(), [0x10, 0, 0, 0, 1, 0, 2, 0]);
 /// # Ok::<(), jogcairn::Refusal>(())
 /// ```
 ///
-/// Behind an independent vowel and behind 104E, medial, vowel and tall are 0; behind a digit, a
-/// stop or another sign all six bytes are.
+/// A second final stands behind a plain one alone, and the link is that of both. Behind an
+/// independent vowel and behind 104E, medial, vowel and tall are 0; behind a digit, a stop or
+/// another sign all seven bytes are.
 #[derive(Clone, Copy, Debug, PartialEq, Eq, Hash)]
-pub struct Record([u8; 7]);
+pub struct Record([u8; RECORD_SIZE]);
 
 /// How a final is written.
 #[derive(Clone, Copy, Debug, PartialEq, Eq, Hash)]
 pub enum Link {
-    /// The letter and the killer 103A.
+    /// The letter and the killer 103A, for one final or for two.
     Plain,
     /// The letter and the stacker 1039, or kinzi.
     Stacked,
@@ -38,21 +41,21 @@ impl Record {
     /// ```
     /// use jogcairn::{write, Record};
     ///
-    /// let ka = Record::from_bytes([0; 7]);
+    /// let ka = Record::from_bytes([0; 8]);
     /// assert_eq!(write(&ka.bytes())?, [0x1000]);
     /// # Ok::<(), jogcairn::Refusal>(())
     /// ```
-    pub const fn from_bytes(bytes: [u8; 7]) -> Record {
+    pub const fn from_bytes(bytes: [u8; RECORD_SIZE]) -> Record {
         Record(bytes)
     }
 
-    /// The bytes: head, medial, vowel, tall, final, link and tone.
+    /// The bytes: head, medial, vowel, tall, final, second final, link and tone.
     ///
     /// ```
-    /// let ka_with_visarga = [0, 0, 0, 0, 0, 0, 2];
+    /// let ka_with_visarga = [0, 0, 0, 0, 0, 0, 0, 2];
     /// assert_eq!(jogcairn::Record::from_bytes(ka_with_visarga).bytes(), ka_with_visarga);
     /// ```
-    pub const fn bytes(self) -> [u8; 7] {
+    pub const fn bytes(self) -> [u8; RECORD_SIZE] {
         self.0
     }
 
@@ -114,13 +117,25 @@ impl Record {
     /// # Ok::<(), jogcairn::Refusal>(())
     /// ```
     pub const fn final_letter(self) -> Option<u16> {
-        match self.0[4] {
-            0 => None,
-            number => Some(0x1000 + number as u16 - 1),
-        }
+        letter(self.0[4])
     }
 
-    /// How the final is written; nothing where there is none.
+    /// The letter of the second final as a code value.
+    ///
+    /// ```
+    /// // ဘတ်စ်, a brand name.
+    /// let brand = jogcairn::record(&[0x1018, 0x1010, 0x103A, 0x1005, 0x103A], 0)?.unwrap();
+    /// assert_eq!(brand.final_letter(), Some(0x1010));
+    /// assert_eq!(brand.second_final_letter(), Some(0x1005));
+    /// let lan = jogcairn::record(&[0x101C, 0x1014, 0x103A], 0)?.unwrap();
+    /// assert_eq!(lan.second_final_letter(), None);
+    /// # Ok::<(), jogcairn::Refusal>(())
+    /// ```
+    pub const fn second_final_letter(self) -> Option<u16> {
+        letter(self.0[5])
+    }
+
+    /// How the final is written, or both of them; nothing where there is none.
     ///
     /// ```
     /// use jogcairn::{record, Link};
@@ -133,7 +148,7 @@ impl Record {
     /// # Ok::<(), jogcairn::Refusal>(())
     /// ```
     pub const fn link(self) -> Option<Link> {
-        match self.0[5] {
+        match self.0[6] {
             1 => Some(Link::Plain),
             2 => Some(Link::Stacked),
             3 => Some(Link::GreatSa),
@@ -149,6 +164,14 @@ impl Record {
     /// # Ok::<(), jogcairn::Refusal>(())
     /// ```
     pub const fn tone(self) -> u8 {
-        self.0[6]
+        self.0[7]
+    }
+}
+
+/// The letter of a final by its number, 1 to 33; 0 is none.
+const fn letter(number: u8) -> Option<u16> {
+    match number {
+        0 => None,
+        number => Some(0x1000 + number as u16 - 1),
     }
 }

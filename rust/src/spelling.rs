@@ -1,4 +1,4 @@
-//! Spelling out: each syllable of a word by itself, its final as a letter and the killer.
+//! Spelling out: each syllable of a word by itself, each final as a letter and the killer.
 
 use crate::ffi;
 use crate::refusal::Refusal;

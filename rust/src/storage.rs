@@ -70,9 +70,5 @@ pub fn stored_form(word: &[u16]) -> Result<Vec<u16>, Refusal> {
 /// # Ok::<(), jogcairn::Refusal>(())
 /// ```
 pub fn typed_place(word: &[u16], place: usize) -> Result<Option<usize>, Refusal> {
-    let found = ffi::typed_place(word, place);
-    Ok(found.two_or_none()?.map(|(typed, second)| {
-        found.demand(second == 0);
-        typed as usize
-    }))
+    ffi::typed_place(word, place).one_or_none()
 }

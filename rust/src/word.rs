@@ -78,7 +78,7 @@ impl Word {
     ///
     /// ```
     /// let daughter: jogcairn::Word = "သမီး".parse()?;
-    /// assert_eq!(daughter.key().to_string(), "2B00000000-2600000302");
+    /// assert_eq!(daughter.key().to_string(), "2B0000000000-260000000302");
     /// # Ok::<(), jogcairn::Refusal>(())
     /// ```
     pub fn key(&self) -> &Key {

@@ -4,16 +4,16 @@ use crate::ffi;
 use crate::refusal::Refusal;
 use crate::WORD_LIMIT;
 
-/// Writes the word that has these records, seven bytes a syllable in word order, to the front of
+/// Writes the word that has these records, eight bytes a syllable in word order, to the front of
 /// `word`, and gives the number of values.
 ///
 /// ```
 /// use jogcairn::{write_into, Reason};
 ///
 /// let mut word = [0; 3];
-/// assert_eq!(write_into(&[0x19, 0, 3, 0, 0, 0, 2], &mut word)?, 3);
+/// assert_eq!(write_into(&[0x19, 0, 3, 0, 0, 0, 0, 2], &mut word)?, 3);
 /// assert_eq!(word, [0x1019, 0x102E, 0x1038]);
-/// let refusal = write_into(&[0x19, 0, 3, 0, 0, 0, 2], &mut word[..2]).unwrap_err();
+/// let refusal = write_into(&[0x19, 0, 3, 0, 0, 0, 0, 2], &mut word[..2]).unwrap_err();
 /// assert_eq!((refusal.reason, refusal.place), (Reason::OutputTooShort, 3));
 /// # Ok::<(), jogcairn::Refusal>(())
 /// ```
@@ -29,7 +29,7 @@ pub fn write_into(records: &[u8], word: &mut [u16]) -> Result<usize, Refusal> {
 ///     jogcairn::read(&word)?.flat_map(|syllable| syllable.record.bytes()).collect();
 /// assert_eq!(jogcairn::write(&records)?, word);
 /// // A tone of weight 3 does not exist.
-/// assert_eq!(jogcairn::write(&[0, 0, 0, 0, 0, 0, 3]).unwrap_err().number(), 6);
+/// assert_eq!(jogcairn::write(&[0, 0, 0, 0, 0, 0, 0, 3]).unwrap_err().number(), 6);
 /// # Ok::<(), jogcairn::Refusal>(())
 /// ```
 pub fn write(records: &[u8]) -> Result<Vec<u16>, Refusal> {

@@ -7,55 +7,55 @@ use jogcairn::{book, normalise, read, spell, stored_form, write, Book, Found, Wo
 
 /// A word in its stored form, and for each of its syllables the record, the weights and the
 /// spelled form.
-type Worked = (&'static [u16], &'static [([u8; 7], [u8; 5], &'static [u16])]);
+type Worked = (&'static [u16], &'static [([u8; 8], [u8; 6], &'static [u16])]);
 
 /// Independent vowels, and 104E, that carry a final, a tone or both.
 const CLOSED: [Worked; 9] = [
     (
         &[0x1025, 0x1000, 0x1039, 0x1000],
         &[
-            ([0x25, 0, 0, 0, 1, 2, 0], [46, 0, 1, 4, 0], &[0x1025, 0x1000, 0x103A]),
-            ([0x00, 0, 0, 0, 0, 0, 0], [13, 0, 0, 0, 0], &[0x1000]),
+            ([0x25, 0, 0, 0, 1, 0, 2, 0], [46, 0, 1, 0, 4, 0], &[0x1025, 0x1000, 0x103A]),
+            ([0x00, 0, 0, 0, 0, 0, 0, 0], [13, 0, 0, 0, 0, 0], &[0x1000]),
         ],
     ),
     (
         &[0x104E, 0x1004, 0x103A, 0x1038],
-        &[([0x4E, 0, 0, 0, 5, 1, 2], [49, 0, 5, 0, 2], &[0x104E, 0x1004, 0x103A, 0x1038])],
+        &[([0x4E, 0, 0, 0, 5, 0, 1, 2], [49, 0, 5, 0, 0, 2], &[0x104E, 0x1004, 0x103A, 0x1038])],
     ),
-    (&[0x1029, 0x1038], &[([0x29, 0, 0, 0, 0, 0, 2], [46, 0, 0, 8, 2], &[0x1029, 0x1038])]),
+    (&[0x1029, 0x1038], &[([0x29, 0, 0, 0, 0, 0, 0, 2], [46, 0, 0, 0, 8, 2], &[0x1029, 0x1038])]),
     (
         &[0x1023, 0x1004, 0x103A, 0x1039, 0x1002],
         &[
-            ([0x23, 0, 0, 0, 5, 2, 0], [46, 0, 5, 2, 0], &[0x1023, 0x1004, 0x103A]),
-            ([0x02, 0, 0, 0, 0, 0, 0], [15, 0, 0, 0, 0], &[0x1002]),
+            ([0x23, 0, 0, 0, 5, 0, 2, 0], [46, 0, 5, 0, 2, 0], &[0x1023, 0x1004, 0x103A]),
+            ([0x02, 0, 0, 0, 0, 0, 0, 0], [15, 0, 0, 0, 0, 0], &[0x1002]),
         ],
     ),
     (
         &[0x1023, 0x103F],
         &[
-            ([0x23, 0, 0, 0, 31, 3, 0], [46, 0, 31, 2, 0], &[0x1023, 0x101E, 0x103A]),
-            ([0x1E, 0, 0, 0, 0, 0, 0], [43, 0, 0, 0, 0], &[0x101E]),
+            ([0x23, 0, 0, 0, 31, 0, 3, 0], [46, 0, 31, 0, 2, 0], &[0x1023, 0x101E, 0x103A]),
+            ([0x1E, 0, 0, 0, 0, 0, 0, 0], [43, 0, 0, 0, 0, 0], &[0x101E]),
         ],
     ),
     (
         &[0x104E, 0x1000, 0x1039, 0x1000],
         &[
-            ([0x4E, 0, 0, 0, 1, 2, 0], [49, 0, 1, 0, 0], &[0x104E, 0x1000, 0x103A]),
-            ([0x00, 0, 0, 0, 0, 0, 0], [13, 0, 0, 0, 0], &[0x1000]),
+            ([0x4E, 0, 0, 0, 1, 0, 2, 0], [49, 0, 1, 0, 0, 0], &[0x104E, 0x1000, 0x103A]),
+            ([0x00, 0, 0, 0, 0, 0, 0, 0], [13, 0, 0, 0, 0, 0], &[0x1000]),
         ],
     ),
     (
         &[0x104E, 0x103F],
         &[
-            ([0x4E, 0, 0, 0, 31, 3, 0], [49, 0, 31, 0, 0], &[0x104E, 0x101E, 0x103A]),
-            ([0x1E, 0, 0, 0, 0, 0, 0], [43, 0, 0, 0, 0], &[0x101E]),
+            ([0x4E, 0, 0, 0, 31, 0, 3, 0], [49, 0, 31, 0, 0, 0], &[0x104E, 0x101E, 0x103A]),
+            ([0x1E, 0, 0, 0, 0, 0, 0, 0], [43, 0, 0, 0, 0, 0], &[0x101E]),
         ],
     ),
     (
         &[0x1025, 0x1009, 0x103A],
-        &[([0x25, 0, 0, 0, 10, 1, 0], [46, 0, 10, 4, 0], &[0x1025, 0x1009, 0x103A])],
+        &[([0x25, 0, 0, 0, 10, 0, 1, 0], [46, 0, 10, 0, 4, 0], &[0x1025, 0x1009, 0x103A])],
     ),
-    (&[0x1026, 0x1038], &[([0x26, 0, 0, 0, 0, 0, 2], [46, 0, 0, 5, 2], &[0x1026, 0x1038])]),
+    (&[0x1026, 0x1038], &[([0x26, 0, 0, 0, 0, 0, 0, 2], [46, 0, 0, 0, 5, 2], &[0x1026, 0x1038])]),
 ];
 
 #[test]
@@ -64,7 +64,7 @@ fn independent_letters_carry_finals_and_tones() {
     let mut book = Book::new(&mut bytes);
     for (word, syllables) in CLOSED {
         assert_eq!(normalise(word).unwrap(), word);
-        let records: Vec<[u8; 7]> = read(word).unwrap().map(|found| found.record.bytes()).collect();
+        let records: Vec<[u8; 8]> = read(word).unwrap().map(|found| found.record.bytes()).collect();
         assert_eq!(records, syllables.iter().map(|found| found.0).collect::<Vec<_>>());
         assert_eq!(weights(word), syllables.iter().map(|found| found.1).collect::<Vec<_>>());
         let spelled = spell(word).unwrap();
@@ -112,8 +112,8 @@ fn marks() -> impl Iterator<Item = u16> {
 #[test]
 fn an_independent_letter_carries_a_final_and_a_tone_but_no_other_mark() {
     for (head, weight, vowel) in CLOSING {
-        assert_eq!(weights(&[head, 0x1014, 0x103A, 0x1037]), [[weight, 0, 21, vowel, 1]]);
-        assert_eq!(weights(&[head, 0x1037]), [[weight, 0, 0, vowel, 1]]);
+        assert_eq!(weights(&[head, 0x1014, 0x103A, 0x1037]), [[weight, 0, 21, 0, vowel, 1]]);
+        assert_eq!(weights(&[head, 0x1037]), [[weight, 0, 0, 0, vowel, 1]]);
         for mark in marks() {
             assert_eq!(refused(read(&[head, mark])), (3, 1));
         }
@@ -135,13 +135,13 @@ fn a_digit_a_stop_and_another_sign_carry_nothing() {
 fn the_writer_takes_no_more_than_an_independent_letter_carries() {
     let rows: [&[u8]; 6] = [
         // A medial, a vowel, and another sign with a final.
-        &[0x25, 1, 0, 0, 0, 0, 0],
-        &[0x4E, 0, 3, 0, 5, 1, 2],
-        &[0x4C, 0, 0, 0, 1, 1, 0],
+        &[0x25, 1, 0, 0, 0, 0, 0, 0],
+        &[0x4E, 0, 3, 0, 5, 0, 1, 2],
+        &[0x4C, 0, 0, 0, 1, 0, 1, 0],
         // A tone before great sa, a stacked final at the end, and one with ဥ under it.
-        &[0x23, 0, 0, 0, 31, 3, 2, 0x1E, 0, 0, 0, 0, 0, 0],
-        &[0x25, 0, 0, 0, 1, 2, 0],
-        &[0x25, 0, 0, 0, 1, 2, 0, 0x25, 0, 0, 0, 0, 0, 0],
+        &[0x23, 0, 0, 0, 31, 0, 3, 2, 0x1E, 0, 0, 0, 0, 0, 0, 0],
+        &[0x25, 0, 0, 0, 1, 0, 2, 0],
+        &[0x25, 0, 0, 0, 1, 0, 2, 0, 0x25, 0, 0, 0, 0, 0, 0, 0],
     ];
     for row in rows {
         assert_eq!(refused(write(row)), (6, 0));

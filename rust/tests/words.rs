@@ -4,23 +4,27 @@ mod answers;
 
 use answers::{found, put_at, refused, weights};
 use jogcairn::{
-    book, compare, decode, key_into, normalise, part, read, spell_into, stored_form, typed_place,
-    write, Book, Reason, Refusal, Told, Which, Word, BOOK_LIMIT, KEY_SIZE, WORD_LIMIT,
+    book, compare, decode, key_into, normalise, part, read, record_into, spell_into, stored_form,
+    typed_place, write, Book, Reason, Refusal, Told, Which, Word, BOOK_LIMIT, KEY_SIZE,
+    RECORD_SIZE, WORD_LIMIT,
 };
 use std::cmp::Ordering;
 
 #[test]
 fn the_words_to_try_are_weighed_as_the_document_says() {
     assert_eq!(read(&[]).unwrap().len(), 0);
-    assert_eq!(weights(&[0x1000]), [[13, 0, 0, 0, 0]]);
-    assert_eq!(weights(&[0x101E, 0x1019, 0x102E, 0x1038]), [[43, 0, 0, 0, 0], [38, 0, 0, 3, 2]]);
+    assert_eq!(weights(&[0x1000]), [[13, 0, 0, 0, 0, 0]]);
+    assert_eq!(
+        weights(&[0x101E, 0x1019, 0x102E, 0x1038]),
+        [[43, 0, 0, 0, 0, 0], [38, 0, 0, 0, 3, 2]]
+    );
     assert_eq!(
         weights(&[0x1010, 0x1000, 0x1039, 0x1000, 0x101E, 0x102D, 0x102F, 0x101C, 0x103A]),
-        [[29, 0, 1, 0, 0], [13, 0, 0, 0, 0], [43, 0, 29, 11, 0]]
+        [[29, 0, 1, 0, 0, 0], [13, 0, 0, 0, 0, 0], [43, 0, 29, 0, 11, 0]]
     );
     assert_eq!(
         weights(&[0x1021, 0x1004, 0x103A, 0x1039, 0x1002, 0x101C, 0x1014, 0x103A]),
-        [[46, 0, 5, 0, 0], [15, 0, 0, 0, 0], [41, 0, 21, 0, 0]]
+        [[46, 0, 5, 0, 0, 0], [15, 0, 0, 0, 0, 0], [41, 0, 21, 0, 0, 0]]
     );
     assert_eq!(read(&[0x1000; 64]).unwrap().len(), 64);
 }
@@ -46,7 +50,8 @@ fn words_are_stored_as_the_document_says() {
 
 #[test]
 fn the_parts_joined_give_the_word_and_the_records_written_too() {
-    for text in ["တက္ကသိုလ်", "အင်္ဂလန်", "ပြဿနာ", "သမီး", "၂၀၁၁", "ကမ္ဘောဒီးယား", "ဥက္က", "၎င်း", "ဣဿ", ""]
+    for text in
+        ["တက္ကသိုလ်", "အင်္ဂလန်", "ပြဿနာ", "သမီး", "၂၀၁၁", "ကမ္ဘောဒီးယား", "ဥက္က", "၎င်း", "ဣဿ", "ဘတ်စ်", ""]
     {
         let word: Word = text.parse().unwrap();
         assert_eq!(word.to_string(), text);
@@ -83,6 +88,8 @@ fn an_empty_slice_is_lent_like_any_other() {
     assert_eq!(spell_into(&[], &mut [], &mut []).unwrap().values, 0);
     assert_eq!(refused(spell_into(&[0x1000], &mut [], &mut [])), (5, 1));
     assert_eq!(refused(spell_into(&[0x1000], &mut [0], &mut [])), (5, 1));
+    assert_eq!(record_into(&[], 0, &mut []), Ok(None));
+    assert_eq!(refused(record_into(&[0x1000], 0, &mut [])), (5, RECORD_SIZE));
     assert_eq!(write(&[]).unwrap(), []);
     assert_eq!(decode(&[]).unwrap(), []);
     assert_eq!(refused(key_into(&[], &mut [])), (5, KEY_SIZE));
@@ -98,6 +105,12 @@ fn the_tests_run_in_the_order_of_the_document() {
     foreign[0] = 0x0041;
     assert_eq!(refused(read(&foreign)), (1, 64));
     assert_eq!(refused(read(&[0x1039, 0x0041])), (2, 1));
+    // The word of a record is tested first, then whether there is one, then its room.
+    assert_eq!(refused(record_into(&foreign, 0, &mut [])), (1, 64));
+    assert_eq!(refused(record_into(&[0x1039, 0x0041], 0, &mut [])), (2, 1));
+    assert_eq!(refused(record_into(&[0x1000, 0x1039], 7, &mut [])), (3, 1));
+    assert_eq!(refused(record_into(&[0x1000, 0x1000, 0x1039], 7, &mut [])), (4, 3));
+    assert_eq!(record_into(&[0x1000], 1, &mut []), Ok(None));
     let mut no_book = *b"no book";
     let mut book = Book::new(&mut no_book);
     assert_eq!(refused(book.add(&[], 1)), (8, 0));

@@ -14,7 +14,7 @@ pub fn put_at(start: usize) -> Result<Added, Refusal> {
 }
 
 /// The weights of a word, syllable by syllable.
-pub fn weights(word: &[u16]) -> Vec<[u8; 5]> {
+pub fn weights(word: &[u16]) -> Vec<[u8; 6]> {
     Key::of(word).unwrap().rows().collect()
 }
 
