@@ -28,14 +28,16 @@ static const struct part parts[] = {
     {"ပတ္တာ", 52},          /* hinge */
     {"ဥက္က", 61},           /* an independent vowel with a stacked final */
     {"၎င်း", 62},            /* the sign "aforementioned" with a final and a tone */
+    {"ဘတ်စ်", 63},          /* a brand name, one syllable with two finals */
     {"လေအေးပေးစ်က", 9},   /* killer and letter exchanged */
     {"ပုိက့း်", 5},           /* two tones, and its marks typed in another order */
+    {"ဘတ်စ်မ်", 8},         /* a third final */
     {"ပန်ကက္", 6},          /* the stacker at the end waits for a letter */
     {"fan", 7},             /* no Myanmar letters */
 };
 
 /* The parts that are accepted fill the book to its last byte. */
-static uint8_t book[109];
+static uint8_t book[121];
 
 /* Prints values as UTF-8: each is 1000 to 107F, which takes three bytes. */
 static void print_values(const uint16_t *values, size_t count)
@@ -232,12 +234,13 @@ static void print_syllables(const char *text)
     printf("%" PRIu32 "\n", jogcairn_second(spelled));
     for (size_t number = 0; number < jogcairn_second(spelled); number++) {
         uint64_t part = jogcairn_part(name.values, name.count, number);
-        uint64_t record = jogcairn_record(name.values, name.count, number);
+        uint8_t record[JOGCAIRN_RECORD_SIZE];
+        jogcairn_record(name.values, name.count, number, record, sizeof record);
         size_t end = number + 1 < jogcairn_second(spelled) ? starts[number + 1] : jogcairn_first(spelled);
         printf("  ");
         print_values(name.values + jogcairn_first(part), jogcairn_second(part));
-        for (unsigned byte = 0; byte < JOGCAIRN_RECORD_SIZE; byte++)
-            printf(" %02X", jogcairn_record_byte(record, byte));
+        for (size_t byte = 0; byte < sizeof record; byte++)
+            printf(" %02X", record[byte]);
         printf(" ");
         print_values(values + starts[number], end - starts[number]);
         printf("\n");
@@ -247,6 +250,7 @@ static void print_syllables(const char *text)
 /* How two names compare, and the used bytes of the first one's key. */
 static void print_order(const char *one, const char *other)
 {
+    enum { WEIGHTS = JOGCAIRN_KEY_SIZE / JOGCAIRN_WORD_LIMIT }; /* the used bytes of a syllable */
     static const char *const orders[] = {"before", "the same as", "after"};
     struct name first, second;
     uint8_t key[JOGCAIRN_KEY_SIZE];
@@ -260,8 +264,8 @@ static void print_order(const char *one, const char *other)
     }
     uint64_t keyed = jogcairn_key(first.values, first.count, key, sizeof key);
     printf("the first is %s the second, its key", orders[jogcairn_first(order)]);
-    for (size_t byte = 0; byte < 5 * jogcairn_first(keyed); byte++)
-        printf(byte % 5 == 0 ? " %02X" : "%02X", key[byte]);
+    for (size_t byte = 0; byte < WEIGHTS * jogcairn_first(keyed); byte++)
+        printf(byte % WEIGHTS == 0 ? " %02X" : "%02X", key[byte]);
     printf("\n");
 }
 
@@ -271,8 +275,8 @@ static void print_written(const uint16_t *stored, size_t count)
     uint16_t written[JOGCAIRN_WORD_LIMIT];
     uint8_t records[JOGCAIRN_WORD_LIMIT * JOGCAIRN_RECORD_SIZE];
     size_t syllables = jogcairn_first(jogcairn_read(stored, count));
-    for (size_t byte = 0; byte < syllables * JOGCAIRN_RECORD_SIZE; byte++)
-        records[byte] = jogcairn_record_byte(jogcairn_record(stored, count, byte / JOGCAIRN_RECORD_SIZE), byte % JOGCAIRN_RECORD_SIZE);
+    for (size_t number = 0; number < syllables; number++)
+        jogcairn_record(stored, count, number, records + number * JOGCAIRN_RECORD_SIZE, JOGCAIRN_RECORD_SIZE);
     uint64_t answer = jogcairn_write(records, syllables * JOGCAIRN_RECORD_SIZE, written, JOGCAIRN_WORD_LIMIT);
     printf(", written from its records ");
     print_values(written, jogcairn_first(answer));
@@ -304,19 +308,22 @@ int main(void)
     find_part("ပန်းကာ");
     find_part("ဥက္က");
     find_part("၎င်း");
+    find_part("ဘတ်စ်");
     list_continued("လေ");
     list_continued("ပတ်");
     list_continued("ဥက်");
+    list_continued("ဘတ်စ်");
+    list_continued("ဘတ်");
     list_continued("ပ");
     list_continued("ပတ္");
     list_parts();
-    print_rank(7);
+    print_rank(8);
     list_continued("ပန်");
     remove_part("ပန်ကာ");
     remove_part("ပန်ကာ");
     list_continued("ပန်");
     list_parts();
-    print_rank(7);
+    print_rank(8);
     print_record(0);
     print_record(1);
     file_part((struct part){"ရေပိုက်ခေါင်း", 19});
@@ -333,15 +340,19 @@ int main(void)
     print_syllables("တက္ကသိုလ်");
     print_syllables("ဥက္က");
     print_syllables("၎င်း");
+    print_syllables("ဘတ်စ်");
+    print_syllables("ဘတ်စ်ကား");
     print_syllables("ပုိက်");
     print_order("ပိုက်", "ပန်ကာ");
     print_order("ပုိက်", "ပိုက်");
     print_order("ဥက္က", "အုက္က");
     print_order("၎င်း", "ဥက္က");
+    print_order("ဘတ်စ်", "ဘတ်");
     print_order("ပန်ကာ", "ပုိက့း်");
     print_stored("ပုိက်");
     print_stored("ဥက္က");
     print_stored("၎ငး်");
+    print_stored("ဘတ်စ့်");
     print_stored("ပုိက့း်");
     return 0;
 }
