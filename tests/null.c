@@ -20,17 +20,20 @@ static void on_words(void)
 {
     static const uint16_t ka[] = {0x1000};
     static const uint8_t line[] = {0xE1, 0x80, 0x80};
-    static const uint8_t record[JOGCAIRN_RECORD_SIZE];
+    static const uint8_t row[JOGCAIRN_RECORD_SIZE];
     uint16_t values[1];
-    uint8_t key[JOGCAIRN_KEY_SIZE];
+    uint8_t record[JOGCAIRN_RECORD_SIZE], key[JOGCAIRN_KEY_SIZE];
     expect("read", jogcairn_read(NULL, 0), 0, 0, 0);
-    expect("record", jogcairn_record(NULL, 0, 0), JOGCAIRN_NONE, 0, 0);
+    expect("record", jogcairn_record(NULL, 0, 0, record, sizeof record), JOGCAIRN_NONE, 0, 0);
+    expect("record, no word and no output", jogcairn_record(NULL, 0, 0, NULL, 0), JOGCAIRN_NONE, 0, 0);
+    expect("record, no output", jogcairn_record(ka, 1, 0, NULL, 0), JOGCAIRN_OUTPUT_TOO_SHORT, 0, JOGCAIRN_RECORD_SIZE);
+    expect("record, no syllable and no output", jogcairn_record(ka, 1, 1, NULL, 0), JOGCAIRN_NONE, 0, 0);
     expect("part", jogcairn_part(NULL, 0, 0), JOGCAIRN_NONE, 0, 0);
     expect("spell", jogcairn_spell(NULL, 0, NULL, 0, NULL, 0), 0, 0, 0);
     expect("spell, no values", jogcairn_spell(ka, 1, NULL, 0, NULL, 0), JOGCAIRN_OUTPUT_TOO_SHORT, 0, 1);
     expect("spell, no starts", jogcairn_spell(ka, 1, values, 1, NULL, 0), JOGCAIRN_OUTPUT_TOO_SHORT, 0, 1);
     expect("write", jogcairn_write(NULL, 0, NULL, 0), 0, 0, 0);
-    expect("write, no output", jogcairn_write(record, sizeof record, NULL, 0), JOGCAIRN_OUTPUT_TOO_SHORT, 0, 1);
+    expect("write, no output", jogcairn_write(row, sizeof row, NULL, 0), JOGCAIRN_OUTPUT_TOO_SHORT, 0, 1);
     expect("normalise", jogcairn_normalise(NULL, 0, NULL, 0), 0, 0, 0);
     expect("normalise, no output", jogcairn_normalise(ka, 1, NULL, 0), JOGCAIRN_OUTPUT_TOO_SHORT, 0, 1);
     expect("stored form", jogcairn_stored_form(NULL, 0, NULL, 0), 0, 0, 0);

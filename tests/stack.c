@@ -13,8 +13,9 @@ static unsigned char stack[STACK_SIZE];
 static ucontext_t here, there;
 static void (*measured)(void);
 
-/* The longest word, which is a row of syllables; one that has to be sorted; one that is refused; and a row of independent vowels with finals. */
-static uint16_t words[4][JOGCAIRN_WORD_LIMIT];
+/* The longest word, which is a row of syllables; one that has to be sorted; one that is refused; a row of independent vowels with finals; and one of
+   syllables with two finals. */
+static uint16_t words[5][JOGCAIRN_WORD_LIMIT];
 static const uint16_t *word = words[0];
 
 /* The longest book, full; the same with every second record removed; a copy of either to be changed; and a full one whose words all begin with the same
@@ -23,11 +24,10 @@ static uint8_t full[JOGCAIRN_BOOK_LIMIT], gaps[JOGCAIRN_BOOK_LIMIT], book[JOGCAI
 static const uint8_t *const books[] = {full, gaps};
 static const uint16_t first_syllable[] = {0x1021};
 static uint16_t values[JOGCAIRN_SPELLED_LIMIT], starts[JOGCAIRN_BOOK_LIMIT / 8];
-static uint8_t bytes[JOGCAIRN_WORD_LIMIT * JOGCAIRN_RECORD_SIZE], key[JOGCAIRN_KEY_SIZE];
+static uint8_t bytes[JOGCAIRN_WORD_LIMIT * JOGCAIRN_RECORD_SIZE], record[JOGCAIRN_RECORD_SIZE], key[JOGCAIRN_KEY_SIZE];
 
 static void run_nothing(void) {}
 static void run_read(void) { jogcairn_read(word, 64); }
-static void run_record(void) { jogcairn_record(word, 64, 63); }
 static void run_part(void) { jogcairn_part(word, 64, 63); }
 static void run_spell(void) { jogcairn_spell(word, 64, values, JOGCAIRN_SPELLED_LIMIT, starts, JOGCAIRN_WORD_LIMIT); }
 static void run_write(void) { jogcairn_write(bytes, sizeof bytes, values, JOGCAIRN_WORD_LIMIT); }
@@ -45,6 +45,13 @@ static void run_find(void) { jogcairn_book_find(book, sizeof book, word, 64); }
 static void run_rank(void) { jogcairn_book_rank(book, sizeof book, 1000); }
 static void run_order(void) { jogcairn_book_order(book, sizeof book, starts, JOGCAIRN_BOOK_LIMIT / 8); }
 static void run_word(void) { jogcairn_book_word(book, sizeof book, 0, values, JOGCAIRN_WORD_LIMIT); }
+
+/* The last syllable of the longest row, and the first of any. */
+static void run_record(void)
+{
+    jogcairn_record(word, 64, 63, record, sizeof record);
+    jogcairn_record(word, 64, 0, record, sizeof record);
+}
 
 /* The longest query, and one that every record fits. */
 static void run_find_prefix(void)
@@ -119,12 +126,13 @@ static size_t deepest(void (*run)(void))
 static void make_words(void)
 {
     static const uint16_t sorted[] = {0x1000, 0x1037, 0x103A, 0x102F}, refused[] = {0x1000, 0x1038, 0x1037, 0x103B};
-    static const uint16_t closed[] = {0x1025, 0x1000, 0x1039, 0x1000};
+    static const uint16_t closed[] = {0x1025, 0x1000, 0x1039, 0x1000}, twice[] = {0x1018, 0x1010, 0x103A, 0x1005, 0x103A};
     for (size_t at = 0; at < JOGCAIRN_WORD_LIMIT; at++) {
         words[0][at] = 0x1000;
         words[1][at] = at < 2 ? 0x1000 : sorted[at % 4];
         words[2][at] = refused[at % 4];
         words[3][at] = closed[at % 4];
+        words[4][at] = twice[at % 5];
     }
 }
 
