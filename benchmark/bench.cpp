@@ -80,20 +80,53 @@ static void need(bool holds, const char *what)
     }
 }
 
-// The words of a file, one a line, that are stored; the others are counted. Two libraries whose counts differ were timed on different words.
-static std::vector<Word> words_of(const char *path, size_t &refused)
+// The places of two bytes of a record, and the link of plain finals.
+enum { SECOND_FINAL = 5, LINK = 6, PLAIN = 1 };
+
+static Word stored(const Word &word)
+{
+    uint16_t form[JOGCAIRN_WORD_LIMIT];
+    return Word(form, form + jogcairn_first(jogcairn_normalise(word.data(), word.size(), form, JOGCAIRN_WORD_LIMIT)));
+}
+
+// The records of a word's stored form.
+static std::vector<uint8_t> records_of(const Word &word)
+{
+    Word form = stored(word);
+    size_t syllables = jogcairn_first(jogcairn_read(form.data(), form.size()));
+    std::vector<uint8_t> records(syllables * JOGCAIRN_RECORD_SIZE);
+    for (size_t number = 0; number < syllables; number++)
+        jogcairn_record(form.data(), form.size(), number, &records[number * JOGCAIRN_RECORD_SIZE], JOGCAIRN_RECORD_SIZE);
+    return records;
+}
+
+// Whether a syllable of the word has two finals.
+static bool closes_twice(const Word &word)
+{
+    std::vector<uint8_t> records = records_of(word);
+    for (size_t at = SECOND_FINAL; at < records.size(); at += JOGCAIRN_RECORD_SIZE)
+        if (records[at] != 0)
+            return true;
+    return false;
+}
+
+// The words of a file, one a line, that are stored. Those with two finals are counted apart and left out, and so are those that are refused: two libraries
+// for which the sum of both counts differs were timed on different words.
+static std::vector<Word> words_of(const char *path, size_t &refused, size_t &apart)
 {
     std::ifstream file(path);
     need(bool(file), "the file of words cannot be read");
     std::vector<Word> words;
     std::string line;
-    refused = 0;
+    refused = apart = 0;
     while (std::getline(file, line)) {
         uint16_t word[JOGCAIRN_WORD_LIMIT], form[JOGCAIRN_WORD_LIMIT];
         uint64_t answer = jogcairn_decode(reinterpret_cast<const uint8_t *>(line.data()), line.size(), word, JOGCAIRN_WORD_LIMIT);
         size_t count = jogcairn_first(answer);
         if (!jogcairn_accepted(answer) || count == 0 || !jogcairn_accepted(jogcairn_normalise(word, count, form, JOGCAIRN_WORD_LIMIT)))
             refused++;
+        else if (closes_twice(Word(word, word + count)))
+            apart++;
         else
             words.emplace_back(word, word + count);
     }
@@ -103,21 +136,6 @@ static std::vector<Word> words_of(const char *path, size_t &refused)
 static void aim(const char *name, double ratio, double most)
 {
     std::printf("  %-54s %6.3f  aim %.3f: %s\n", name, ratio, most, ratio <= most ? "met" : "missed");
-}
-
-// The records of a word's stored form.
-static std::vector<uint8_t> records_of(const Word &word)
-{
-    std::vector<uint8_t> records;
-    uint16_t form[JOGCAIRN_WORD_LIMIT];
-    size_t count = jogcairn_first(jogcairn_normalise(word.data(), word.size(), form, JOGCAIRN_WORD_LIMIT));
-    size_t syllables = jogcairn_first(jogcairn_read(form, count));
-    for (size_t number = 0; number < syllables; number++) {
-        uint64_t record = jogcairn_record(form, count, number);
-        for (unsigned byte = 0; byte < JOGCAIRN_RECORD_SIZE; byte++)
-            records.push_back(jogcairn_record_byte(record, byte));
-    }
-    return records;
 }
 
 // A word far off in the file.
@@ -441,19 +459,159 @@ static void time_tidyings(const std::vector<Word> &names)
     time_tidying("all", with_removed(book, 1));
 }
 
+// The word with 1005 103A put behind its last plain final; empty where it has none, or would be too long.
+static Word with_second_final(const Word &word)
+{
+    std::vector<uint8_t> records = records_of(word);
+    for (size_t at = records.size(); at > 0;) {
+        at -= JOGCAIRN_RECORD_SIZE;
+        if (records[at + LINK] != PLAIN)
+            continue;
+        uint16_t made[JOGCAIRN_WORD_LIMIT];
+        records[at + SECOND_FINAL] = 6; // 1005
+        uint64_t answer = jogcairn_write(records.data(), records.size(), made, JOGCAIRN_WORD_LIMIT);
+        return jogcairn_accepted(answer) ? Word(made, made + jogcairn_first(answer)) : Word();
+    }
+    return {};
+}
+
+// Words in stored form, and the records of each.
+struct Words {
+    std::vector<Word> words;
+    std::vector<std::vector<uint8_t>> records;
+
+    void push(const Word &word)
+    {
+        words.push_back(word);
+        records.push_back(records_of(word));
+    }
+};
+
+// The calls on words for one list, which outlives them.
+static std::vector<Case> word_cases(const Words &list)
+{
+    static uint16_t form[JOGCAIRN_WORD_LIMIT], spelled[JOGCAIRN_SPELLED_LIMIT], starts[JOGCAIRN_WORD_LIMIT];
+    static uint8_t record[JOGCAIRN_RECORD_SIZE], key[JOGCAIRN_KEY_SIZE];
+    const std::vector<Word> &words = list.words;
+    const std::vector<std::vector<uint8_t>> &records = list.records;
+    size_t count = words.size();
+    auto compare = [&words](size_t i, size_t k) { return jogcairn_compare(words[i].data(), words[i].size(), words[k].data(), words[k].size()); };
+    auto last = [&records](size_t i) { return records[i].size() / JOGCAIRN_RECORD_SIZE - 1; };
+    return {
+        timed("read", count, [&words](size_t i) { return jogcairn_read(words[i].data(), words[i].size()); }),
+        timed("record of the last syllable", count,
+              [&words, last](size_t i) { return jogcairn_record(words[i].data(), words[i].size(), last(i), record, JOGCAIRN_RECORD_SIZE) + record[i % 8]; }),
+        timed("spell", count,
+              [&words](size_t i) {
+                  return jogcairn_spell(words[i].data(), words[i].size(), spelled, JOGCAIRN_SPELLED_LIMIT, starts, JOGCAIRN_WORD_LIMIT) + spelled[i % 8];
+              }),
+        timed("write", count,
+              [&records](size_t i) { return jogcairn_write(records[i].data(), records[i].size(), form, JOGCAIRN_WORD_LIMIT) + form[i % 8]; }),
+        timed("normalise", count,
+              [&words](size_t i) { return jogcairn_normalise(words[i].data(), words[i].size(), form, JOGCAIRN_WORD_LIMIT) + form[i % 8]; }),
+        timed("key", count, [&words](size_t i) { return jogcairn_key(words[i].data(), words[i].size(), key, JOGCAIRN_KEY_SIZE) + key[i % 32]; }),
+        timed("compare, words far off", count, [compare, count](size_t i) { return compare(i, far_from(i, count)); }),
+        timed("compare, neighbours of the file", count, [compare, count](size_t i) { return compare(i, (i + 1) % count); }),
+        timed("other implementation: read", count, [&words](size_t i) { return peer_read(words[i].data(), words[i].size()); }),
+        timed("other implementation: key", count, [&words](size_t i) { return peer_key(words[i].data(), words[i].size(), i % 32); }),
+    };
+}
+
+static double mean_values(const std::vector<Word> &words)
+{
+    size_t values = 0;
+    for (const Word &word : words)
+        values += word.size();
+    return double(values) / double(words.size());
+}
+
+// Times the calls on two lists of as many words, and prints them side by side: a word of each, and a value of each.
+static void time_beside(const Words &without, const Words &with)
+{
+    std::vector<Case> cases = word_cases(without), others = word_cases(with);
+    size_t half = cases.size();
+    cases.insert(cases.end(), others.begin(), others.end());
+    run(cases);
+    double values = mean_values(without.words), more = mean_values(with.words);
+    std::printf("  %zu words of %.1f values, and with a second final of %.1f\n", without.words.size(), values, more);
+    std::printf("  %-34s %9s %9s %8s %10s\n", "a word, in ns", "without", "with", "ratio", "a value");
+    for (size_t at = 0; at < half; at++) {
+        double ratio = cases[half + at].shortest / cases[at].shortest;
+        std::printf("  %-34s %9.1f %9.1f %8.3f %10.3f\n", cases[at].name, cases[at].shortest, cases[half + at].shortest, ratio, ratio * values / more);
+    }
+}
+
+// Words of the file beside the same words with a second final.
+static void time_second_finals(const std::vector<Word> &words)
+{
+    Words without, with;
+    for (const Word &word : words) {
+        Word made = with_second_final(word);
+        if (made.empty())
+            continue;
+        need(closes_twice(made) && peer_read(made.data(), made.size()) == jogcairn_read(made.data(), made.size()), "a made word is read otherwise");
+        without.push(stored(word));
+        with.push(made);
+    }
+    std::printf("\n  words with two finals, which are made: 1005 103A is put behind the last plain final of each word of the file that has one\n");
+    if (with.words.size() > 1)
+        time_beside(without, with);
+    else
+        std::printf("  the file has no two such words\n");
+}
+
+// Names of one syllable and five values: a medial, a vowel and a final, or two finals.
+static std::vector<Word> syllable_names(bool twice)
+{
+    std::vector<Word> names;
+    for (uint16_t other = 0; other < 6; other++)
+        for (uint16_t first = 0x1000; first < 0x1007; first++)
+            for (uint16_t head = 0x1000; head <= 0x1020; head++) {
+                if (twice)
+                    names.push_back({head, first, 0x103A, uint16_t(0x1000 + other), 0x103A});
+                else
+                    names.push_back({head, 0x103D, uint16_t(0x102D + other), first, 0x103A});
+            }
+    return names;
+}
+
+// A full book of names of five values with one final, and one of names with two.
+static void time_second_final_books()
+{
+    std::printf("\n  a full book of %d bytes, in microseconds; words of one syllable and five values\n", JOGCAIRN_BOOK_LIMIT);
+    std::printf("  %-22s %6s %8s %8s %8s %8s\n", "finals of a syllable", "live", "check", "find", "rank", "order");
+    static uint16_t starts[JOGCAIRN_BOOK_LIMIT / 8];
+    for (bool twice : {false, true}) {
+        std::vector<Word> names = syllable_names(twice);
+        std::vector<uint8_t> book(JOGCAIRN_BOOK_LIMIT);
+        size_t lives = fill_book(book, names, names.size(), names.size()), turns = 20, room = sizeof starts / sizeof starts[0];
+        const uint8_t *bytes = book.data();
+        size_t length = book.size();
+        const Word &name = names[0];
+        std::vector<Case> cases = {
+            timed("check", turns, [&](size_t) { return jogcairn_book_check(bytes, length); }),
+            timed("find", turns, [&](size_t) { return jogcairn_book_find(bytes, length, name.data(), name.size()); }),
+            timed("rank", turns, [&](size_t i) { return jogcairn_book_rank(bytes, length, i % lives); }),
+            timed("order", turns, [&](size_t) { return jogcairn_book_order(bytes, length, starts, room) + starts[0]; }),
+        };
+        run(cases);
+        std::printf("  %-22s %6zu", twice ? "two" : "one", lives);
+        for (const Case &each : cases)
+            std::printf(" %8.1f", each.shortest / 1000);
+        std::printf("\n");
+    }
+}
+
 int main(int argc, char **argv)
 {
     need(argc > 1, "usage: bench FILE [ROUNDS]");
     if (argc > 2)
         rounds = std::max(1, std::atoi(argv[2]));
-    size_t refused;
-    std::vector<Word> words = words_of(argv[1], refused);
+    size_t refused, apart;
+    std::vector<Word> words = words_of(argv[1], refused, apart);
     need(words.size() > 1, "the file has no two words that are stored");
-    size_t values = 0;
-    for (const Word &word : words)
-        values += word.size();
-    std::printf("%zu words of %.1f values (%zu lines refused and left out); the shortest of %d rounds\n\n", words.size(),
-                double(values) / double(words.size()), refused, rounds);
+    std::printf("%zu words of %.1f values (%zu lines refused and left out); the shortest of %d rounds\n", words.size(), mean_values(words), refused, rounds);
+    std::printf("%zu words with two finals are left out too, so that a library that refuses them is timed on the same words\n\n", apart);
     time_words(words);
 
     std::vector<Word> names = short_names();
@@ -470,4 +628,6 @@ int main(int argc, char **argv)
     time_book(names, 300, 2000);
     time_prefixes(names);
     time_tidyings(names);
+    time_second_finals(words);
+    time_second_final_books();
 }
