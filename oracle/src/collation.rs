@@ -8,12 +8,13 @@ use crate::syllable::Record;
 use crate::word::WORD_LIMIT;
 use std::cmp::Ordering;
 
-/// "Five weights a syllable, compared in this order: head, medial, final, vowel,
-/// tone."
-pub type Weights = [u8; 5];
+/// Weights of a syllable, "compared in this order: head, medial, final, vowel, tone."
+/// Document 02: "A key gains a sixth weight, which stands and is compared straight after
+/// the first final".
+pub type Weights = [u8; 6];
 
-/// "A key is held in 320 bytes, of which five a syllable are used. The rest are
-/// zero, and the syllable count comes with it."
+/// Document 02: "A key then needs 384 bytes", of which six a syllable are used. "The
+/// rest are zero, and the syllable count comes with it."
 #[derive(Clone, Copy, Debug, PartialEq, Eq)]
 pub struct Key {
     bytes: [u8; Key::SIZE],
@@ -22,7 +23,7 @@ pub struct Key {
 
 impl Key {
     /// The bytes of a key, used or not.
-    pub const SIZE: usize = 5 * WORD_LIMIT;
+    pub const SIZE: usize = 6 * WORD_LIMIT;
 
     /// "a key, its count or a record handed back with [a refusal] is all zeros."
     pub const ZERO: Key = Key { bytes: [0; Key::SIZE], count: 0 };
@@ -62,11 +63,11 @@ pub fn key(word: &[u16]) -> Result<Key, Refusal> {
 /// has them in another order. Document 02: "The weights are those of the head plus
 /// final and tone", so an I with a final keeps the vowel weight of its head.
 fn weights(record: &Record) -> Weights {
-    let [head, medial, vowel, _, final_weight, _, tone] = *record;
+    let [head, medial, vowel, _, first_final, second_final, _, tone] = *record;
     let value = 0x1000 + u16::from(head);
     match independent_vowel_weight(value) {
-        Some(vowel) => [46, medial, final_weight, vowel, tone],
-        None => [head_weight(value), medial, final_weight, vowel, tone],
+        Some(vowel) => [46, medial, first_final, second_final, vowel, tone],
+        None => [head_weight(value), medial, first_final, second_final, vowel, tone],
     }
 }
 

@@ -1,12 +1,13 @@
-//! Document 01, "The syllable", with document 02's finals of independent letters: the
-//! formula, as the list of all writings of all pieces, ready to be found by first value.
+//! Document 01, "The syllable", with document 02's finals of independent letters and its
+//! second finals: the formula, as the list of all writings of all pieces, ready to be
+//! found by first value.
 
 use crate::letters::*;
 use crate::syllable::*;
 
 /// How many writings the formula has: 57 + 33 + 1 heads, 12 medial groups, 16
-/// vowels, 68 finals and 3 tones, counting "none" as a writing.
-const WRITING_COUNT: usize = 190;
+/// vowels, 68 finals, 34 second finals and 3 tones, counting "none" as a writing.
+const WRITING_COUNT: usize = 224;
 
 /// The writings in the order of the document.
 struct Listing {
@@ -16,12 +17,13 @@ struct Listing {
 
 impl Listing {
     const fn new() -> Listing {
-        let nothing = Writing::new(Piece::Head, &[], [0; 7], Piece::Head);
+        let nothing = Writing::new(Piece::Head, &[], [0; 8], Piece::Head);
         let mut listing = Listing { writings: [nothing; WRITING_COUNT], count: 0 };
         listing.put_heads();
         listing.put_medial_groups();
         listing.put_vowels();
         listing.put_finals();
+        listing.put_second_finals();
         listing.put_tones();
         assert!(listing.count == WRITING_COUNT);
         listing
@@ -58,13 +60,13 @@ impl Listing {
         } else {
             Piece::Head
         };
-        self.put(piece, &[value], [(head - 0x1000) as u8, 0, 0, 0, 0, 0, 0], then);
+        self.put(piece, &[value], [(head - 0x1000) as u8, 0, 0, 0, 0, 0, 0, 0], then);
     }
 
     const fn put_medial_groups(&mut self) {
         let mut weight = 0;
         while weight < MEDIAL_GROUPS.len() {
-            let record = [0, weight as u8, 0, 0, 0, 0, 0];
+            let record = [0, weight as u8, 0, 0, 0, 0, 0, 0];
             self.put(Piece::MedialGroup, MEDIAL_GROUPS[weight], record, Piece::Vowel);
             weight += 1;
         }
@@ -73,14 +75,14 @@ impl Listing {
     const fn put_vowels(&mut self) {
         let mut weight = 0;
         while weight < VOWELS.len() {
-            let record = [0, 0, weight as u8, 0, 0, 0, 0];
+            let record = [0, 0, weight as u8, 0, 0, 0, 0, 0];
             self.put(Piece::Vowel, VOWELS[weight], record, Piece::Final);
             weight += 1;
         }
         let mut number = 0;
         while number < TALL_VOWELS.len() {
             let (values, weight) = TALL_VOWELS[number];
-            self.put(Piece::Vowel, values, [0, 0, weight, 1, 0, 0, 0], Piece::Final);
+            self.put(Piece::Vowel, values, [0, 0, weight, 1, 0, 0, 0, 0], Piece::Final);
             number += 1;
         }
     }
@@ -88,16 +90,17 @@ impl Listing {
     /// "A plain final is that letter and 103A. A stacked final is a final letter
     /// other than 1004 and then 1039. Kinzi is 1004 103A 1039. Both take no tone,
     /// and the next syllable must be full"; likewise the syllable before 103F has
-    /// "no other final and no tone".
+    /// "no other final and no tone". Only a plain final leads to a second one.
     const fn put_finals(&mut self) {
         const fn record(letter: u16, link: u8) -> Record {
-            [0, 0, 0, 0, (letter - 0x1000 + 1) as u8, link, 0]
+            [0, 0, 0, 0, final_weight(letter), 0, link, 0]
         }
-        self.put(Piece::Final, &[], [0; 7], Piece::Tone);
+        self.put(Piece::Final, &[], [0; 8], Piece::Tone);
         self.put(Piece::Final, &[], record(SA, link::GREAT_SA), Piece::GreatSaHead);
         let mut letter = 0x1000;
         while letter <= LAST_FINAL_LETTER {
-            self.put(Piece::Final, &[letter, KILLER], record(letter, link::PLAIN), Piece::Tone);
+            let plain = record(letter, link::PLAIN);
+            self.put(Piece::Final, &[letter, KILLER], plain, Piece::SecondFinal);
             let stacked: &[u16] =
                 if letter == NGA { &[NGA, KILLER, STACKER] } else { &[letter, STACKER] };
             self.put(Piece::Final, stacked, record(letter, link::STACKED), Piece::StackedHead);
@@ -105,13 +108,30 @@ impl Listing {
         }
     }
 
+    /// "a second plain final": none that is stacked, no kinzi and no 103F.
+    const fn put_second_finals(&mut self) {
+        self.put(Piece::SecondFinal, &[], [0; 8], Piece::Tone);
+        let mut letter = 0x1000;
+        while letter <= LAST_FINAL_LETTER {
+            let record = [0, 0, 0, 0, 0, final_weight(letter), 0, 0];
+            self.put(Piece::SecondFinal, &[letter, KILLER], record, Piece::Tone);
+            letter += 1;
+        }
+    }
+
     const fn put_tones(&mut self) {
         let mut weight = 0;
         while weight < TONES.len() {
-            self.put(Piece::Tone, TONES[weight], [0, 0, 0, 0, 0, 0, weight as u8], Piece::Head);
+            let record = [0, 0, 0, 0, 0, 0, 0, weight as u8];
+            self.put(Piece::Tone, TONES[weight], record, Piece::Head);
             weight += 1;
         }
     }
+}
+
+/// "Final: 1000 to 1020 are 1 to 33, whichever form."
+const fn final_weight(letter: u16) -> u8 {
+    (letter - 0x1000 + 1) as u8
 }
 
 /// The slots of the index: one a value 1000 to 104F, then one for empty writings.
@@ -181,7 +201,7 @@ pub fn writings(piece: Piece) -> impl Iterator<Item = &'static Writing> {
 /// The writing of `piece` in a syllable that has this record.
 pub fn writing_of(piece: Piece, record: &Record) -> Option<&'static Writing> {
     let bytes = piece.record_bytes();
-    writings(piece).find(|writing| writing.record[bytes.clone()] == record[bytes.clone()])
+    writings(piece).find(|writing| bytes.iter().all(|&byte| writing.record[byte] == record[byte]))
 }
 
 #[cfg(test)]
@@ -197,6 +217,7 @@ mod tests {
         assert_eq!(count(Piece::MedialGroup), 1 + 11);
         assert_eq!(count(Piece::Vowel), 1 + 12 + 3);
         assert_eq!(count(Piece::Final), 1 + 33 + 32 + 1 + 1);
+        assert_eq!(count(Piece::SecondFinal), 1 + 33);
         assert_eq!(count(Piece::Tone), 1 + 2);
     }
 
@@ -211,10 +232,32 @@ mod tests {
     }
 
     #[test]
+    fn a_plain_final_alone_leads_to_a_second_one() {
+        let before = FORMULA.writings.iter().filter(|one| one.then == Piece::SecondFinal);
+        assert!(before.clone().all(|one| one.piece == Piece::Final && one.link() == link::PLAIN));
+        assert_eq!(before.count(), 33);
+        assert!(writings(Piece::SecondFinal).all(|second| second.then == Piece::Tone));
+    }
+
+    #[test]
     fn an_empty_writing_leads_only_to_later_ones() {
         for (number, writing) in empty().iter().enumerate() {
             assert!(empty()[..=number].iter().all(|earlier| earlier.piece != writing.then));
         }
+    }
+
+    #[test]
+    fn each_byte_of_a_record_is_decided_by_one_piece() {
+        for piece in Piece::ALL {
+            for writing in writings(piece) {
+                let others = (0..8).filter(|byte| !piece.record_bytes().contains(byte));
+                assert!(others.into_iter().all(|byte| writing.record[byte] == 0));
+            }
+        }
+        let decided = Piece::ALL[2..].iter().flat_map(|piece| piece.record_bytes());
+        let mut decided: Vec<usize> = decided.copied().collect();
+        decided.sort_unstable();
+        assert!(decided.into_iter().eq(0..8));
     }
 
     #[test]

@@ -30,7 +30,7 @@ pub mod writing;
 
 pub use collation::{compare, key, Key, Which};
 pub use line::decode;
-pub use reading::{part, read, record, Reading, RecordAnswer};
+pub use reading::{part, put_record, read, record, Reading, RecordAnswer};
 pub use refusal::Refusal;
 pub use spelling::spell_out;
 pub use storage::{normalise, stored_form, typed_place};

@@ -4,14 +4,14 @@ use crate::letters::class_of;
 use crate::refusal::Refusal;
 use crate::rows::row_or_refusal;
 use crate::syllable::Record;
-use crate::word::WORD_LIMIT;
+use crate::word::{hand_out, WORD_LIMIT};
 
 /// One syllable of a word that was read.
 #[derive(Clone, Copy, Debug, PartialEq, Eq)]
 pub struct Syllable {
     /// Where its part begins: "at its head or at 103F".
     pub start: usize,
-    /// Its seven bytes.
+    /// Its eight bytes.
     pub record: Record,
 }
 
@@ -26,7 +26,7 @@ pub struct Reading {
 impl Reading {
     /// The reading of the word without values.
     pub const fn empty() -> Reading {
-        Reading { syllables: [Syllable { start: 0, record: [0; 7] }; WORD_LIMIT], count: 0 }
+        Reading { syllables: [Syllable { start: 0, record: [0; 8] }; WORD_LIMIT], count: 0 }
     }
 
     /// The syllables, in their order.
@@ -73,19 +73,32 @@ pub struct RecordAnswer {
     pub refusal: Option<Refusal>,
     /// "the answer tells whether there is such a syllable"
     pub present: bool,
-    /// "and if not, the seven bytes are 0."
+    /// "and if not, the … bytes are 0."
     pub record: Record,
 }
 
 /// The record of the syllable with this number, from 0.
 pub fn record(word: &[u16], number: usize) -> RecordAnswer {
-    let none = RecordAnswer { refusal: None, present: false, record: [0; 7] };
+    let none = RecordAnswer { refusal: None, present: false, record: [0; 8] };
     match read(word) {
         Err(refusal) => RecordAnswer { refusal: Some(refusal), ..none },
         Ok(reading) => match reading.syllables().get(number) {
             None => none,
             Some(syllable) => RecordAnswer { present: true, record: syllable.record, ..none },
         },
+    }
+}
+
+/// Puts that record into the output and answers how many bytes it has: refusals 1, 2, 3
+/// or 4, and 5; nothing where there is no such syllable.
+pub fn put_record(
+    word: &[u16],
+    number: usize,
+    output: &mut [u8],
+) -> Result<Option<usize>, Refusal> {
+    match read(word)?.syllables().get(number) {
+        None => Ok(None),
+        Some(syllable) => hand_out(&syllable.record, output).map(Some),
     }
 }
 

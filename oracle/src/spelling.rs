@@ -44,9 +44,10 @@ pub fn spell_out(
 }
 
 /// "a stacked final or kinzi becomes the letter and 103A, and 103F becomes 101E
-/// 103A, a boundary, 101E": every head and every final is spelled as a letter.
+/// 103A, a boundary, 101E": every head and every final is spelled as a letter, and two
+/// finals stay in one syllable.
 fn spell_syllable(record: &Record, values: &mut Vec<u16>) {
-    let [head, _, _, _, final_weight, _, _] = *record;
+    let [head, _, _, _, first_final, second_final, _, _] = *record;
     let spell_piece = |piece| {
         let writing = writing_of(piece, record).expect("a record that the reader made");
         writing.values()
@@ -54,8 +55,10 @@ fn spell_syllable(record: &Record, values: &mut Vec<u16>) {
     values.push(0x1000 + u16::from(head));
     values.extend(spell_piece(Piece::MedialGroup));
     values.extend(spell_piece(Piece::Vowel));
-    if final_weight > 0 {
-        values.extend([0x1000 + u16::from(final_weight) - 1, KILLER]);
+    for weight in [first_final, second_final] {
+        if weight > 0 {
+            values.extend([0x1000 + u16::from(weight) - 1, KILLER]);
+        }
     }
     values.extend(spell_piece(Piece::Tone));
 }

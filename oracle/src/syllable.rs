@@ -6,7 +6,6 @@
 //! once".
 
 use crate::letters::*;
-use std::ops::Range;
 
 /// What stands next in a row of syllables.
 #[derive(Clone, Copy, Debug, PartialEq, Eq)]
@@ -24,19 +23,23 @@ pub enum Piece {
     Vowel,
     /// "one final"
     Final,
+    /// Document 02: "A syllable with a plain final may take a second plain final before
+    /// its tone."
+    SecondFinal,
     /// "and one tone"
     Tone,
 }
 
 impl Piece {
     /// All pieces.
-    pub const ALL: [Piece; 7] = [
+    pub const ALL: [Piece; 8] = [
         Piece::Head,
         Piece::StackedHead,
         Piece::GreatSaHead,
         Piece::MedialGroup,
         Piece::Vowel,
         Piece::Final,
+        Piece::SecondFinal,
         Piece::Tone,
     ];
 
@@ -46,20 +49,22 @@ impl Piece {
     }
 
     /// The bytes of a record that this piece decides.
-    pub const fn record_bytes(self) -> Range<usize> {
+    pub const fn record_bytes(self) -> &'static [usize] {
         match self {
-            Piece::Head | Piece::StackedHead | Piece::GreatSaHead => 0..1,
-            Piece::MedialGroup => 1..2,
-            Piece::Vowel => 2..4,
-            Piece::Final => 4..6,
-            Piece::Tone => 6..7,
+            Piece::Head | Piece::StackedHead | Piece::GreatSaHead => &[0],
+            Piece::MedialGroup => &[1],
+            Piece::Vowel => &[2, 3],
+            Piece::Final => &[4, 6],
+            Piece::SecondFinal => &[5],
+            Piece::Tone => &[7],
         }
     }
 }
 
-/// "seven bytes by value: head minus 1000; medial weight; vowel weight; 1 for a
-/// tall AA, else 0; final weight; link; tone weight."
-pub type Record = [u8; 7];
+/// "head minus 1000; medial weight; vowel weight; 1 for a tall AA, else 0; final
+/// weight; link; tone weight." Document 02: "A record gains a second final weight after
+/// the first, eight bytes in all, and its link stays 1".
+pub type Record = [u8; 8];
 
 /// "Link is 0 none, 1 plain, 2 stacked or kinzi, 3 great sa."
 pub mod link {
@@ -97,6 +102,11 @@ impl Writing {
     /// The values written.
     pub const fn values(&self) -> &[u16] {
         self.values.split_at(self.length).0
+    }
+
+    /// The link of a final.
+    pub const fn link(&self) -> u8 {
+        self.record[6]
     }
 
     /// How many values `rest` and the writing share from their first on.

@@ -43,15 +43,15 @@ fn write_key(key: &Key, output: &mut impl Write) -> io::Result<()> {
     if key.count() == 0 {
         return output.write_all(b"-\n");
     }
-    // Eleven bytes a syllable: ten digits, and a hyphen before the next or 0A.
-    let mut text = [b'-'; Key::SIZE / 5 * 11];
-    for (place, weights) in text.chunks_exact_mut(11).zip(key.row()) {
+    // Thirteen bytes a syllable: twelve digits, and a hyphen before the next or 0A.
+    let mut text = [b'-'; Key::SIZE / 6 * 13];
+    for (place, weights) in text.chunks_exact_mut(13).zip(key.row()) {
         for (digits, &weight) in place.chunks_exact_mut(2).zip(weights) {
             digits[0] = DIGITS[usize::from(weight >> 4)];
             digits[1] = DIGITS[usize::from(weight & 15)];
         }
     }
-    let length = key.count() * 11;
+    let length = key.count() * 13;
     text[length - 1] = b'\n';
     output.write_all(&text[..length])
 }

@@ -91,11 +91,36 @@ fn independent_letters_with_finals_are_added_and_found() {
     assert_eq!(add(&mut book, &[0x1025, 0x1000, 0x1039, 0x1000], 2), added(11));
     assert_eq!(book[11..], [0x4D, 0x57, 4, 2, 0, 0, 0, 0x25, 0x00, 0x39, 0x00]);
     assert_eq!(find(&book, &[0x104E, 0x1004, 0x1038, 0x103A]), entry(0, 1));
-    // (46,0,1,4,0) (13,0,0,0,0) stands before (49,0,5,0,2).
+    // (46,0,1,0,4,0) (13,0,0,0,0,0) stands before (49,0,5,0,0,2).
     assert_eq!(rank(&book, 0), entry(11, 2));
     assert_eq!(rank(&book, 1), entry(0, 1));
     assert_eq!(remove(&mut book, &[0x1025, 0x1000, 0x1039, 0x1000]), Ok(11));
     assert_eq!(check(&book), Ok(1));
+}
+
+/// Document 02: so are words of which a syllable has two finals.
+#[test]
+fn words_with_two_finals_are_added_and_found() {
+    let mut book = [0; 40];
+    assert_eq!(add(&mut book, &[0x1018, 0x1010, 0x103A], 1), added(0));
+    assert_eq!(add(&mut book, &[0x1018, 0x1010, 0x103A, 0x1005, 0x1037, 0x103A], 2), added(10));
+    let bytes = [0x4D, 0x57, 6, 2, 0, 0, 0, 0x18, 0x10, 0x3A, 0x05, 0x3A, 0x37];
+    assert_eq!(book[10..23], bytes);
+    assert_eq!(add(&mut book, &[0x1018, 0x102C, 0x1010, 0x103A], 3), added(23));
+    assert_eq!(find(&book, &[0x1018, 0x1010, 0x103A, 0x1005, 0x103A, 0x1037]), entry(10, 2));
+    assert_eq!(find(&book, &[0x1018, 0x1010, 0x103A, 0x1005, 0x103A]), refusal(13, 0));
+    // The second final is weighed before the vowel.
+    assert_eq!(rank(&book, 0), entry(0, 1));
+    assert_eq!(rank(&book, 1), entry(23, 3));
+    assert_eq!(rank(&book, 2), entry(10, 2));
+    let third = [0x1018, 0x1010, 0x103A, 0x1005, 0x103A, 0x1019, 0x103A];
+    assert_eq!(add(&mut book, &third, 4), refusal(3, 6));
+    // A tone for the second final letter, and 1039 for its killer.
+    for (place, byte) in [(20, 0x37), (21, 0x39)] {
+        let mut wrong = book;
+        wrong[place] = byte;
+        assert_eq!(check(&wrong), refusal(11, 10));
+    }
 }
 
 /// "when the live records and the new one together pass the buffer's end": an exact fit

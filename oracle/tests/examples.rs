@@ -1,11 +1,11 @@
 //! All examples of document 01, in its order, and those of document 02 on independent
-//! letters that carry finals.
+//! letters that carry finals and on two finals.
 
 use oracle::spelling::SpelledLengths;
 use oracle::{compare, key, normalise, part, read, record, spell_out, stored_form, write, Refusal};
 use std::cmp::Ordering;
 
-fn weights(word: &[u16]) -> Vec<[u8; 5]> {
+fn weights(word: &[u16]) -> Vec<[u8; 6]> {
     key(word).unwrap().row().to_vec()
 }
 
@@ -40,17 +40,20 @@ fn written_back(word: &[u16]) -> Vec<u16> {
 
 #[test]
 fn words_to_try_that_are_readable() {
-    assert_eq!(weights(&[]), Vec::<[u8; 5]>::new());
+    assert_eq!(weights(&[]), Vec::<[u8; 6]>::new());
     assert_eq!(read(&[]).unwrap().syllables().len(), 0);
-    assert_eq!(weights(&[0x1000]), [[13, 0, 0, 0, 0]]);
-    assert_eq!(weights(&[0x101E, 0x1019, 0x102E, 0x1038]), [[43, 0, 0, 0, 0], [38, 0, 0, 3, 2]]);
+    assert_eq!(weights(&[0x1000]), [[13, 0, 0, 0, 0, 0]]);
+    assert_eq!(
+        weights(&[0x101E, 0x1019, 0x102E, 0x1038]),
+        [[43, 0, 0, 0, 0, 0], [38, 0, 0, 0, 3, 2]]
+    );
     assert_eq!(
         weights(&[0x1010, 0x1000, 0x1039, 0x1000, 0x101E, 0x102D, 0x102F, 0x101C, 0x103A]),
-        [[29, 0, 1, 0, 0], [13, 0, 0, 0, 0], [43, 0, 29, 11, 0]]
+        [[29, 0, 1, 0, 0, 0], [13, 0, 0, 0, 0, 0], [43, 0, 29, 0, 11, 0]]
     );
     assert_eq!(
         weights(&[0x1021, 0x1004, 0x103A, 0x1039, 0x1002, 0x101C, 0x1014, 0x103A]),
-        [[46, 0, 5, 0, 0], [15, 0, 0, 0, 0], [41, 0, 21, 0, 0]]
+        [[46, 0, 5, 0, 0, 0], [15, 0, 0, 0, 0, 0], [41, 0, 21, 0, 0, 0]]
     );
 }
 
@@ -82,7 +85,7 @@ fn words_to_try_that_are_refused() {
     assert_eq!(refused(&[0x103F]), (3, 0));
     assert_eq!(refused(&[0x1000, 0x103B, 0x103C]), (3, 2));
     assert_eq!(refused(&[0x1000, 0x102C, 0x103A]), (3, 2));
-    assert_eq!(weights(&[0x1000, 0x1031, 0x102C, 0x103A]), [[13, 0, 0, 9, 0]]);
+    assert_eq!(weights(&[0x1000, 0x1031, 0x102C, 0x103A]), [[13, 0, 0, 0, 9, 0]]);
 }
 
 #[test]
@@ -106,8 +109,8 @@ fn wrong_turns() {
     assert_eq!(final_after_vowel, Ok(Ordering::Greater), "vowel weighed before final");
     let kinzi = [0x1021, 0x1004, 0x103A, 0x1039, 0x1002];
     assert_eq!(read(&kinzi).unwrap().syllables().len(), 2, "kinzi read as a plain final");
-    assert_eq!(record(&kinzi, 0).record, [0x21, 0, 0, 0, 5, 2, 0]);
-    assert_eq!(weights(&[0x104F]), [[50, 0, 0, 0, 0]], "weighing 104F beyond 50");
+    assert_eq!(record(&kinzi, 0).record, [0x21, 0, 0, 0, 5, 0, 2, 0]);
+    assert_eq!(weights(&[0x104F]), [[50, 0, 0, 0, 0, 0]], "weighing 104F beyond 50");
     assert_eq!(compare(&[0x1040], &[0x1000]), Ok(Ordering::Less), "filing by code values alone");
     assert_eq!(compare(&[0x1029], &[0x104C]), Ok(Ordering::Less));
     assert_eq!(
@@ -122,7 +125,7 @@ fn wrong_turns() {
 fn the_program_prints_the_three_lines() {
     let mut output = Vec::new();
     oracle::wordlist::run("တက္ကသိုလ်\nက္\n\n".as_bytes(), &mut output).unwrap();
-    let expected = "1 OK 3 1D00010000-0D00000000-2B001D0B00\n2 NO 3 1\n3 OK 0 -\n";
+    let expected = "1 OK 3 1D0001000000-0D0000000000-2B001D000B00\n2 NO 3 1\n3 OK 0 -\n";
     assert_eq!(String::from_utf8(output).unwrap(), expected);
 }
 
@@ -165,12 +168,12 @@ fn every_weight_of_the_page() {
     let first = |word: &[u16]| weights(word)[0];
     let heads = [0x104A, 0x104B].into_iter().chain(0x1040..=0x1049).chain(0x1000..=0x1021);
     for (value, weight) in heads.chain(0x104C..=0x104F).zip(1..) {
-        assert_eq!(first(&[value]), [weight, 0, 0, 0, 0]);
+        assert_eq!(first(&[value]), [weight, 0, 0, 0, 0, 0]);
     }
     let independent = [0x1023, 0x1024, 0x1025, 0x1026, 0x1027, 0x1029, 0x102A];
     for (value, weight) in independent.into_iter().zip([2, 3, 4, 5, 6, 8, 9]) {
-        assert_eq!(first(&[value]), [46, 0, 0, weight, 0]);
-        assert_eq!(first(&[value, 0x1020, 0x103A, 0x1037]), [46, 0, 33, weight, 1]);
+        assert_eq!(first(&[value]), [46, 0, 0, 0, weight, 0]);
+        assert_eq!(first(&[value, 0x1020, 0x103A, 0x1037]), [46, 0, 33, 0, weight, 1]);
     }
     let (y, r, w, h) = (0x103B, 0x103C, 0x103D, 0x103E);
     let groups: [&[u16]; 11] = [
@@ -187,15 +190,16 @@ fn every_weight_of_the_page() {
         &[r, w, h],
     ];
     for (group, weight) in groups.into_iter().zip(1..) {
-        assert_eq!(first(&[&[0x1000], group].concat()), [13, weight, 0, 0, 0]);
+        assert_eq!(first(&[&[0x1000], group].concat()), [13, weight, 0, 0, 0, 0]);
     }
     for (letter, weight) in (0x1000..=0x1020).zip(1..) {
-        assert_eq!(first(&[0x1000, letter, 0x103A]), [13, 0, weight, 0, 0]);
+        assert_eq!(first(&[0x1000, letter, 0x103A]), [13, 0, weight, 0, 0, 0]);
+        assert_eq!(first(&[0x1000, 0x1001, 0x103A, letter, 0x103A]), [13, 0, 2, weight, 0, 0]);
         let stacked: &[u16] = if letter == 0x1004 { &[0x103A, 0x1039] } else { &[0x1039] };
         let word = [&[0x1000, letter], stacked, &[0x1000]].concat();
-        assert_eq!(first(&word), [13, 0, weight, 0, 0]);
+        assert_eq!(first(&word), [13, 0, weight, 0, 0, 0]);
     }
-    assert_eq!(first(&[0x1000, 0x103F]), [13, 0, 31, 0, 0]);
+    assert_eq!(first(&[0x1000, 0x103F]), [13, 0, 31, 0, 0, 0]);
     let vowels: [(&[u16], u8); 15] = [
         (&[0x102B], 1),
         (&[0x102C], 1),
@@ -214,17 +218,17 @@ fn every_weight_of_the_page() {
         (&[0x102F, 0x1036], 12),
     ];
     for (vowel, weight) in vowels {
-        assert_eq!(first(&[&[0x1000], vowel].concat()), [13, 0, 0, weight, 0]);
+        assert_eq!(first(&[&[0x1000], vowel].concat()), [13, 0, 0, 0, weight, 0]);
     }
-    assert_eq!(first(&[0x1000, 0x1037]), [13, 0, 0, 0, 1]);
-    assert_eq!(first(&[0x1000, 0x1038]), [13, 0, 0, 0, 2]);
+    assert_eq!(first(&[0x1000, 0x1037]), [13, 0, 0, 0, 0, 1]);
+    assert_eq!(first(&[0x1000, 0x1038]), [13, 0, 0, 0, 0, 2]);
 }
 
 /// A word of document 02, with what it is read to: records, weights and spelled syllables.
 struct Worked {
     word: &'static [u16],
-    records: &'static [[u8; 7]],
-    weights: &'static [[u8; 5]],
+    records: &'static [[u8; 8]],
+    weights: &'static [[u8; 6]],
     spelled: &'static [&'static [u16]],
 }
 
@@ -232,67 +236,76 @@ const WORKED: [Worked; 8] = [
     // ဥက္က
     Worked {
         word: &[0x1025, 0x1000, 0x1039, 0x1000],
-        records: &[[0x25, 0, 0, 0, 1, 2, 0], [0; 7]],
-        weights: &[[46, 0, 1, 4, 0], [13, 0, 0, 0, 0]],
+        records: &[[0x25, 0, 0, 0, 1, 0, 2, 0], [0; 8]],
+        weights: &[[46, 0, 1, 0, 4, 0], [13, 0, 0, 0, 0, 0]],
         spelled: &[&[0x1025, 0x1000, 0x103A], &[0x1000]],
     },
     // ၎င်း
     Worked {
         word: &[0x104E, 0x1004, 0x103A, 0x1038],
-        records: &[[0x4E, 0, 0, 0, 5, 1, 2]],
-        weights: &[[49, 0, 5, 0, 2]],
+        records: &[[0x4E, 0, 0, 0, 5, 0, 1, 2]],
+        weights: &[[49, 0, 5, 0, 0, 2]],
         spelled: &[&[0x104E, 0x1004, 0x103A, 0x1038]],
     },
     Worked {
         word: &[0x1029, 0x1038],
-        records: &[[0x29, 0, 0, 0, 0, 0, 2]],
-        weights: &[[46, 0, 0, 8, 2]],
+        records: &[[0x29, 0, 0, 0, 0, 0, 0, 2]],
+        weights: &[[46, 0, 0, 0, 8, 2]],
         spelled: &[&[0x1029, 0x1038]],
     },
     Worked {
         word: &[0x1023, 0x1004, 0x103A, 0x1039, 0x1002],
-        records: &[[0x23, 0, 0, 0, 5, 2, 0], [2, 0, 0, 0, 0, 0, 0]],
-        weights: &[[46, 0, 5, 2, 0], [15, 0, 0, 0, 0]],
+        records: &[[0x23, 0, 0, 0, 5, 0, 2, 0], [2, 0, 0, 0, 0, 0, 0, 0]],
+        weights: &[[46, 0, 5, 0, 2, 0], [15, 0, 0, 0, 0, 0]],
         spelled: &[&[0x1023, 0x1004, 0x103A], &[0x1002]],
     },
     Worked {
         word: &[0x1023, 0x103F],
-        records: &[[0x23, 0, 0, 0, 31, 3, 0], [0x1E, 0, 0, 0, 0, 0, 0]],
-        weights: &[[46, 0, 31, 2, 0], [43, 0, 0, 0, 0]],
+        records: &[[0x23, 0, 0, 0, 31, 0, 3, 0], [0x1E, 0, 0, 0, 0, 0, 0, 0]],
+        weights: &[[46, 0, 31, 0, 2, 0], [43, 0, 0, 0, 0, 0]],
         spelled: &[&[0x1023, 0x101E, 0x103A], &[0x101E]],
     },
     Worked {
         word: &[0x104E, 0x103F, 0x103F],
-        records: &[[0x4E, 0, 0, 0, 31, 3, 0], [0x1E, 0, 0, 0, 31, 3, 0], [0x1E, 0, 0, 0, 0, 0, 0]],
-        weights: &[[49, 0, 31, 0, 0], [43, 0, 31, 0, 0], [43, 0, 0, 0, 0]],
+        records: &[
+            [0x4E, 0, 0, 0, 31, 0, 3, 0],
+            [0x1E, 0, 0, 0, 31, 0, 3, 0],
+            [0x1E, 0, 0, 0, 0, 0, 0, 0],
+        ],
+        weights: &[[49, 0, 31, 0, 0, 0], [43, 0, 31, 0, 0, 0], [43, 0, 0, 0, 0, 0]],
         spelled: &[&[0x104E, 0x101E, 0x103A], &[0x101E, 0x101E, 0x103A], &[0x101E]],
     },
     Worked {
         word: &[0x1025, 0x1009, 0x103A],
-        records: &[[0x25, 0, 0, 0, 10, 1, 0]],
-        weights: &[[46, 0, 10, 4, 0]],
+        records: &[[0x25, 0, 0, 0, 10, 0, 1, 0]],
+        weights: &[[46, 0, 10, 0, 4, 0]],
         spelled: &[&[0x1025, 0x1009, 0x103A]],
     },
     Worked {
         word: &[0x1026, 0x1038],
-        records: &[[0x26, 0, 0, 0, 0, 0, 2]],
-        weights: &[[46, 0, 0, 5, 2]],
+        records: &[[0x26, 0, 0, 0, 0, 0, 0, 2]],
+        weights: &[[46, 0, 0, 0, 5, 2]],
         spelled: &[&[0x1026, 0x1038]],
     },
 ];
 
-#[test]
-fn independent_letters_carry_finals_and_tones() {
-    for worked in WORKED {
-        let word = worked.word;
+impl Worked {
+    /// The word is stored as it is, read and spelled so, and written back.
+    fn holds(&self) {
+        let word = self.word;
         let reading = read(word).unwrap();
         let records: Vec<_> = reading.syllables().iter().map(|one| one.record).collect();
-        assert_eq!(records, worked.records, "{word:04X?}");
-        assert_eq!(weights(word), worked.weights, "{word:04X?}");
-        assert_eq!(spelled(word), worked.spelled, "{word:04X?}");
+        assert_eq!(records, self.records, "{word:04X?}");
+        assert_eq!(weights(word), self.weights, "{word:04X?}");
+        assert_eq!(spelled(word), self.spelled, "{word:04X?}");
         assert_eq!(written_back(word), word);
         assert_eq!(stored(word), word);
     }
+}
+
+#[test]
+fn independent_letters_carry_finals_and_tones() {
+    WORKED.iter().for_each(Worked::holds);
 }
 
 #[test]
@@ -337,6 +350,174 @@ fn the_letter_u_is_stored_by_its_neighbour() {
 fn the_program_prints_the_key_of_an_independent_letter_with_its_final() {
     let mut output = Vec::new();
     oracle::wordlist::run("ဥက္က\n၎င်း\n".as_bytes(), &mut output).unwrap();
-    let expected = "1 OK 2 2E00010400-0D00000000\n2 OK 1 3100050002\n";
+    let expected = "1 OK 2 2E0001000400-0D0000000000\n2 OK 1 310005000002\n";
+    assert_eq!(String::from_utf8(output).unwrap(), expected);
+}
+
+const TWO_FINALS: [Worked; 10] = [
+    // ဘတ်စ်
+    Worked {
+        word: &[0x1018, 0x1010, 0x103A, 0x1005, 0x103A],
+        records: &[[0x18, 0, 0, 0, 17, 6, 1, 0]],
+        weights: &[[37, 0, 17, 6, 0, 0]],
+        spelled: &[&[0x1018, 0x1010, 0x103A, 0x1005, 0x103A]],
+    },
+    Worked {
+        word: &[0x1018, 0x1010, 0x103A, 0x1005, 0x103A, 0x1037],
+        records: &[[0x18, 0, 0, 0, 17, 6, 1, 1]],
+        weights: &[[37, 0, 17, 6, 0, 1]],
+        spelled: &[&[0x1018, 0x1010, 0x103A, 0x1005, 0x103A, 0x1037]],
+    },
+    Worked {
+        word: &[0x1018, 0x1010, 0x103A, 0x1005, 0x103A, 0x1038],
+        records: &[[0x18, 0, 0, 0, 17, 6, 1, 2]],
+        weights: &[[37, 0, 17, 6, 0, 2]],
+        spelled: &[&[0x1018, 0x1010, 0x103A, 0x1005, 0x103A, 0x1038]],
+    },
+    Worked {
+        word: &[0x1000, 0x1000, 0x103A, 0x1000, 0x103A],
+        records: &[[0, 0, 0, 0, 1, 1, 1, 0]],
+        weights: &[[13, 0, 1, 1, 0, 0]],
+        spelled: &[&[0x1000, 0x1000, 0x103A, 0x1000, 0x103A]],
+    },
+    // A vowel before them, whose own 103A is no final's.
+    Worked {
+        word: &[0x1000, 0x103B, 0x1031, 0x102B, 0x103A, 0x1020, 0x103A, 0x1004, 0x103A, 0x1038],
+        records: &[[0, 1, 9, 1, 33, 5, 1, 2]],
+        weights: &[[13, 1, 33, 5, 9, 2]],
+        spelled: &[&[
+            0x1000, 0x103B, 0x1031, 0x102B, 0x103A, 0x1020, 0x103A, 0x1004, 0x103A, 0x1038,
+        ]],
+    },
+    Worked {
+        word: &[0x1025, 0x1010, 0x103A, 0x1005, 0x103A],
+        records: &[[0x25, 0, 0, 0, 17, 6, 1, 0]],
+        weights: &[[46, 0, 17, 6, 4, 0]],
+        spelled: &[&[0x1025, 0x1010, 0x103A, 0x1005, 0x103A]],
+    },
+    Worked {
+        word: &[0x104E, 0x1004, 0x103A, 0x1005, 0x103A, 0x1038],
+        records: &[[0x4E, 0, 0, 0, 5, 6, 1, 2]],
+        weights: &[[49, 0, 5, 6, 0, 2]],
+        spelled: &[&[0x104E, 0x1004, 0x103A, 0x1005, 0x103A, 0x1038]],
+    },
+    // Of a third letter without a killer, and of one with a final of its own.
+    Worked {
+        word: &[0x1000, 0x1000, 0x103A, 0x1005, 0x103A, 0x1019],
+        records: &[[0, 0, 0, 0, 1, 6, 1, 0], [0x19, 0, 0, 0, 0, 0, 0, 0]],
+        weights: &[[13, 0, 1, 6, 0, 0], [38, 0, 0, 0, 0, 0]],
+        spelled: &[&[0x1000, 0x1000, 0x103A, 0x1005, 0x103A], &[0x1019]],
+    },
+    Worked {
+        word: &[0x1000, 0x1000, 0x103A, 0x1005, 0x1019, 0x103A],
+        records: &[[0, 0, 0, 0, 1, 0, 1, 0], [5, 0, 0, 0, 26, 0, 1, 0]],
+        weights: &[[13, 0, 1, 0, 0, 0], [18, 0, 26, 0, 0, 0]],
+        spelled: &[&[0x1000, 0x1000, 0x103A], &[0x1005, 0x1019, 0x103A]],
+    },
+    // Below a stacked letter, and on the head half of 103F.
+    Worked {
+        word: &[
+            0x1010, 0x1000, 0x1039, 0x1000, 0x1010, 0x103A, 0x1005, 0x103A, 0x1015, 0x103F, 0x1010,
+            0x103A, 0x1005, 0x103A,
+        ],
+        records: &[
+            [0x10, 0, 0, 0, 1, 0, 2, 0],
+            [0, 0, 0, 0, 17, 6, 1, 0],
+            [0x15, 0, 0, 0, 31, 0, 3, 0],
+            [0x1E, 0, 0, 0, 17, 6, 1, 0],
+        ],
+        weights: &[
+            [29, 0, 1, 0, 0, 0],
+            [13, 0, 17, 6, 0, 0],
+            [34, 0, 31, 0, 0, 0],
+            [43, 0, 17, 6, 0, 0],
+        ],
+        spelled: &[
+            &[0x1010, 0x1000, 0x103A],
+            &[0x1000, 0x1010, 0x103A, 0x1005, 0x103A],
+            &[0x1015, 0x101E, 0x103A],
+            &[0x101E, 0x1010, 0x103A, 0x1005, 0x103A],
+        ],
+    },
+];
+
+#[test]
+fn two_finals_close_one_syllable() {
+    TWO_FINALS.iter().for_each(Worked::holds);
+}
+
+#[test]
+fn a_second_final_is_plain_and_the_last() {
+    // A third letter with a killer would be a head that 103A cannot close.
+    assert_eq!(refused(&[0x1000, 0x1000, 0x103A, 0x1005, 0x103A, 0x1019, 0x103A]), (3, 6));
+    assert_eq!(refused(&[0x1025, 0x1000, 0x103A, 0x1005, 0x103A, 0x1019, 0x103A]), (3, 6));
+    assert_eq!(refused(&[0x104E, 0x1000, 0x103A, 0x1000, 0x103A, 0x1000, 0x103A]), (3, 6));
+    assert_eq!(refused(&[0x1000, 0x1000, 0x103A, 0x1004, 0x103A, 0x1039]), (3, 5));
+    assert_eq!(refused(&[0x1000, 0x1000, 0x103A, 0x1004, 0x103A, 0x1039, 0x1002]), (3, 5));
+    assert_eq!(refused(&[0x1000, 0x1000, 0x103A, 0x1005, 0x1039]), (3, 4));
+    assert_eq!(refused(&[0x1000, 0x1000, 0x103A, 0x1005, 0x1039, 0x1005]), (3, 4));
+    assert_eq!(refused(&[0x1000, 0x1000, 0x103A, 0x103F]), (3, 3));
+    assert_eq!(refused(&[0x1000, 0x1000, 0x103A, 0x1005, 0x103A, 0x103F]), (3, 5));
+    assert_eq!(refused(&[0x1000, 0x1000, 0x103A, 0x1021, 0x103A]), (3, 4));
+    assert_eq!(refused(&[0x1000, 0x1000, 0x103A, 0x1023, 0x103A]), (3, 4));
+    assert_eq!(refused(&[0x104C, 0x1000, 0x103A, 0x1005, 0x103A]), (3, 2));
+    assert_eq!(refused(&[0x1040, 0x1000, 0x103A, 0x1005, 0x103A]), (3, 2));
+    assert_eq!(refused(&[0x1000, 0x1000, 0x103A, 0x1005, 0x103A, 0x103A]), (3, 5));
+    assert_eq!(refused(&[0x1000, 0x1000, 0x103A, 0x1005, 0x103A, 0x1037, 0x1038]), (3, 6));
+    // A stacked final has none behind it: 1005 is the head below.
+    assert_eq!(refused(&[0x1000, 0x1000, 0x1039, 0x1005, 0x103A]), (3, 4));
+}
+
+#[test]
+fn no_tone_stands_between_two_finals() {
+    assert_eq!(refused(&[0x1000, 0x1010, 0x103A, 0x1037, 0x1005, 0x103A]), (3, 5));
+    assert_eq!(refused(&[0x1025, 0x1010, 0x103A, 0x1038, 0x1005, 0x103A]), (3, 5));
+    // Runs are sorted apart, so the tone stays with the first final.
+    let typed = [0x1000, 0x1010, 0x1037, 0x103A, 0x1005, 0x103A];
+    assert_eq!(key(&typed), Err(Refusal { number: 3, place: 5 }));
+    assert_eq!(read(&typed).unwrap_err(), Refusal { number: 3, place: 3 });
+    let behind = [0x1018, 0x1010, 0x103A, 0x1005, 0x1037, 0x103A];
+    assert_eq!(stored(&behind), [0x1018, 0x1010, 0x103A, 0x1005, 0x103A, 0x1037]);
+    let letter_u = [0x1000, 0x1025, 0x103A, 0x1025, 0x103A];
+    assert_eq!(stored(&letter_u), [0x1000, 0x1009, 0x103A, 0x1009, 0x103A]);
+}
+
+/// "A key gains a sixth weight, which stands and is compared straight after the first
+/// final": after every word of the first final alone, whatever vowel and tone it has.
+#[test]
+fn the_second_final_is_compared_straight_after_the_first() {
+    let rising: [&[u16]; 9] = [
+        &[0x1000, 0x102C],
+        &[0x1000, 0x1000, 0x103A],
+        &[0x1000, 0x1000, 0x103A, 0x1021],
+        &[0x1000, 0x102F, 0x1036, 0x1000, 0x103A, 0x1038],
+        &[0x1000, 0x1000, 0x103A, 0x1000, 0x103A],
+        &[0x1000, 0x1000, 0x103A, 0x1000, 0x103A, 0x1037],
+        &[0x1000, 0x102C, 0x1000, 0x103A, 0x1000, 0x103A],
+        &[0x1000, 0x1000, 0x103A, 0x1001, 0x103A],
+        &[0x1000, 0x1001, 0x103A],
+    ];
+    for (number, first) in rising.iter().enumerate() {
+        for (other, second) in rising.iter().enumerate() {
+            assert_eq!(compare(first, second), Ok(number.cmp(&other)));
+        }
+    }
+}
+
+#[test]
+fn the_part_of_a_syllable_has_both_finals() {
+    let word = [0x1021, 0x1018, 0x1010, 0x103A, 0x1005, 0x103A, 0x1037, 0x1000];
+    let parts: [&[u16]; 3] =
+        [&[0x1021], &[0x1018, 0x1010, 0x103A, 0x1005, 0x103A, 0x1037], &[0x1000]];
+    for (number, expected) in parts.iter().enumerate() {
+        assert_eq!(part(&word, number), *expected);
+    }
+}
+
+#[test]
+fn the_program_prints_six_bytes_a_syllable() {
+    let mut output = Vec::new();
+    oracle::wordlist::run("ဘတ်စ်\nကက်စ်ကား\n".as_bytes(), &mut output).unwrap();
+    let expected = "1 OK 1 250011060000\n2 OK 2 0D0001060000-0D0000000102\n";
     assert_eq!(String::from_utf8(output).unwrap(), expected);
 }

@@ -15,7 +15,7 @@ enum Next {
 
 struct Part {
     values: Vec<u16>,
-    record: [u8; 7],
+    record: [u8; 8],
     begun_by: Next,
     next: Next,
 }
@@ -60,6 +60,19 @@ const SMALL_VALUES: [u16; 18] = [
     0x1037, 0x1039, 0x103A, 0x103F, 0x104C, 0x104E,
 ];
 
+/// Finals and tones with a head of each kind that carries them, for longer lists.
+const FINALS: Alphabet = Alphabet {
+    heads: &[0x1000, 0x1004],
+    finals: &[0x1000, 0x1004],
+    medials: &[],
+    vowels: &[(&[], 0, 0)],
+    tones: &[0x1037],
+    markless: &[0x1025],
+    alone: &[],
+};
+
+const FINALS_VALUES: [u16; 7] = [0x1000, 0x1004, 0x1025, 0x1037, 0x1039, 0x103A, 0x103F];
+
 /// All sets of the given medials without Y and R together, each with its weight.
 fn medial_groups(medials: &[u16]) -> Vec<(Vec<u16>, u8)> {
     let groups: [&[u16]; 12] = [
@@ -80,25 +93,30 @@ fn medial_groups(medials: &[u16]) -> Vec<(Vec<u16>, u8)> {
     numbered.filter(|(group, _)| group.iter().all(|medial| medials.contains(medial))).collect()
 }
 
-/// All endings: values of final and tone, their four record bytes less the vowel's,
-/// and what they ask of the next syllable.
-fn endings(alphabet: &Alphabet) -> Vec<(Vec<u16>, [u8; 3], Next)> {
-    let mut endings = vec![(vec![], [31, 3, 0], Next::GreatSa)];
-    let mut with_tones = |values: Vec<u16>, weight, link| {
-        endings.push((values.clone(), [weight, link, 0], Next::Anything));
+/// All endings: values of finals and tone, the four bytes that a record ends with, and
+/// what they ask of the next syllable.
+fn endings(alphabet: &Alphabet) -> Vec<(Vec<u16>, [u8; 4], Next)> {
+    let weight = |letter: u16| (letter - 0x0FFF) as u8;
+    let mut endings = vec![(vec![], [31, 0, 3, 0], Next::GreatSa)];
+    let mut with_tones = |values: Vec<u16>, [first, second, link]: [u8; 3]| {
+        endings.push((values.clone(), [first, second, link, 0], Next::Anything));
         for &tone in alphabet.tones {
             let toned = [&values[..], &[tone]].concat();
-            endings.push((toned, [weight, link, (tone - 0x1036) as u8], Next::Anything));
+            endings.push((toned, [first, second, link, (tone - 0x1036) as u8], Next::Anything));
         }
     };
-    with_tones(vec![], 0, 0);
-    for &letter in alphabet.finals {
-        with_tones(vec![letter, 0x103A], (letter - 0x0FFF) as u8, 1);
+    with_tones(vec![], [0, 0, 0]);
+    for &first in alphabet.finals {
+        with_tones(vec![first, 0x103A], [weight(first), 0, 1]);
+        for &second in alphabet.finals {
+            let values = vec![first, 0x103A, second, 0x103A];
+            with_tones(values, [weight(first), weight(second), 1]);
+        }
     }
     for &letter in alphabet.finals {
         let stacked =
             if letter == 0x1004 { vec![0x1004, 0x103A, 0x1039] } else { vec![letter, 0x1039] };
-        endings.push((stacked, [(letter - 0x0FFF) as u8, 2, 0], Next::Letter));
+        endings.push((stacked, [weight(letter), 0, 2, 0], Next::Letter));
     }
     endings
 }
@@ -109,9 +127,9 @@ fn parts_begun_by(head: (u16, u8, Next), alphabet: &Alphabet) -> Vec<Part> {
     let mut parts = Vec::new();
     for (group, medial) in medial_groups(alphabet.medials) {
         for &(vowel_values, vowel, tall) in alphabet.vowels {
-            for (ending, [final_weight, link, tone], next) in endings(alphabet) {
+            for (ending, [first, second, link, tone], next) in endings(alphabet) {
                 let values = [&[head], &group[..], vowel_values, &ending[..]].concat();
-                let record = [head_byte, medial, vowel, tall, final_weight, link, tone];
+                let record = [head_byte, medial, vowel, tall, first, second, link, tone];
                 parts.push(Part { values, record, begun_by, next });
             }
         }
@@ -135,7 +153,7 @@ fn parts(alphabet: &Alphabet) -> Vec<Part> {
     let markless = markless.flat_map(|head| parts_begun_by(head, &without_marks));
     let alone = alphabet.alone.iter().map(|&value| Part {
         values: vec![value],
-        record: [(value - 0x1000) as u8, 0, 0, 0, 0, 0, 0],
+        record: [(value - 0x1000) as u8, 0, 0, 0, 0, 0, 0, 0],
         begun_by: Next::Anything,
         next: Next::Anything,
     });
@@ -165,11 +183,11 @@ fn gather(
     }
 }
 
-fn each_list(length: usize, visit: &mut impl FnMut(&[u16])) {
+fn each_list(values: &[u16], length: usize, visit: &mut impl FnMut(&[u16])) {
     let mut digits = vec![0; length];
     loop {
-        visit(&digits.iter().map(|&digit: &usize| SMALL_VALUES[digit]).collect::<Vec<u16>>());
-        let Some(place) = digits.iter().rposition(|&digit| digit + 1 < SMALL_VALUES.len()) else {
+        visit(&digits.iter().map(|&digit: &usize| values[digit]).collect::<Vec<u16>>());
+        let Some(place) = digits.iter().rposition(|&digit| digit + 1 < values.len()) else {
             return;
         };
         digits[place] += 1;
@@ -177,16 +195,27 @@ fn each_list(length: usize, visit: &mut impl FnMut(&[u16])) {
     }
 }
 
-/// Every list of up to four values over the small alphabet. A viable beginning
-/// lacks at most one value, so rows of five values hold all of them.
 #[test]
 fn every_short_list_is_read_as_the_literal_rows_say() {
+    read_as_literal_rows(&SMALL, &SMALL_VALUES, 4);
+}
+
+/// Seven values hold a third final behind two, and a tone behind two on the second of two
+/// syllables.
+#[test]
+fn every_list_of_finals_is_read_as_the_literal_rows_say() {
+    read_as_literal_rows(&FINALS, &FINALS_VALUES, 7);
+}
+
+/// Every list of up to so many of the values. A viable beginning lacks at most one value,
+/// so rows of one value more hold all of them.
+fn read_as_literal_rows(alphabet: &Alphabet, values: &[u16], limit: usize) {
     let mut rows = Rows::new();
-    gather(&parts(&SMALL), 5, &[], &[], Next::Anything, &mut rows);
+    gather(&parts(alphabet), limit + 1, &[], &[], Next::Anything, &mut rows);
     let viable: HashSet<&[u16]> =
         rows.keys().flat_map(|row| (0..=row.len()).map(|length| &row[..length])).collect();
-    for length in 0..=4 {
-        each_list(length, &mut |list| {
+    for length in 0..=limit {
+        each_list(values, length, &mut |list| {
             let longest = (0..=length).rev().find(|&end| viable.contains(&list[..end])).unwrap();
             assert_eq!(longest_viable_beginning(list), longest, "{list:04X?}");
             match (rows.get(list), read(list)) {
@@ -238,7 +267,9 @@ fn every_single_syllable_is_read_and_written_back() {
         markless: &[0x1023, 0x1024, 0x1025, 0x1026, 0x1027, 0x1029, 0x102A, 0x104E],
         alone: alone.leak(),
     };
-    for part in parts(&all) {
+    let parts = parts(&all);
+    assert!(parts.iter().any(|part| part.record == [0x20, 11, 9, 1, 33, 5, 1, 2]));
+    for part in parts {
         let before: &[u16] = match part.begun_by {
             Next::Anything => &[],
             Next::Letter => &[0x1021, 0x1001, 0x1039],
@@ -262,28 +293,33 @@ fn every_single_syllable_is_read_and_written_back() {
     }
 }
 
-/// How many of all pairs of link, final, tone and the next record's head, over bytes
-/// beyond every bound, are records that the writer takes for this head. What it takes is
-/// read to the same records.
+/// Second finals: none, four that there are, and two that there are not.
+const SECONDS: [u8; 7] = [0, 1, 5, 31, 33, 34, 0xFF];
+
+/// How many of all choices of link, finals, tone and the next record, over bytes beyond
+/// every bound, are records that the writer takes for this head. What it takes is read to
+/// the same records.
 fn taken_by_the_writer(head: u8) -> usize {
     let mut taken = 0;
-    for bits in 0..10 * 36 * 5 * 4 {
-        let (link, rest) = (bits % 5, bits / 5);
+    for bits in 0..SECONDS.len() * 10 * 36 * 5 * 4 {
+        let (second, rest) = (SECONDS[bits % SECONDS.len()], bits / SECONDS.len());
+        let (link, rest) = (rest % 5, rest / 5);
         let (final_weight, rest) = (rest % 36, rest / 36);
         let (tone, rest) = (rest % 4, rest / 4);
         let next: &[u8] = match rest {
             0 => &[],
-            1 => &[0x1E, 0, 0, 0, 0, 0, 0],
-            2 => &[0x00, 0, 0, 0, 0, 0, 0],
-            3 => &[0x20, 1, 0, 0, 0, 0, 0],
-            4 => &[0x21, 0, 0, 0, 0, 0, 0],
-            5 => &[0x25, 0, 0, 0, 0, 0, 0],
-            6 => &[0x3F, 0, 0, 0, 0, 0, 0],
-            7 => &[0x1E, 0, 1, 1, 0, 0, 2],
-            8 => &[0x4E, 0, 0, 0, 1, 1, 1],
-            _ => &[0x4B, 0, 0, 0, 0, 0, 0],
+            1 => &[0x1E, 0, 0, 0, 0, 0, 0, 0],
+            2 => &[0x00, 0, 0, 0, 0, 0, 0, 0],
+            3 => &[0x20, 1, 0, 0, 0, 0, 0, 0],
+            4 => &[0x21, 0, 0, 0, 0, 0, 0, 0],
+            5 => &[0x25, 0, 0, 0, 0, 0, 0, 0],
+            6 => &[0x3F, 0, 0, 0, 0, 0, 0, 0],
+            7 => &[0x1E, 0, 1, 1, 0, 0, 0, 2],
+            8 => &[0x4E, 0, 0, 0, 1, 6, 1, 1],
+            _ => &[0x4B, 0, 0, 0, 0, 0, 0, 0],
         };
-        let records = [&[head, 0, 0, 0, final_weight as u8, link as u8, tone as u8], next].concat();
+        let ending = [final_weight as u8, second, link as u8, tone as u8];
+        let records = [&[head, 0, 0, 0], &ending[..], next].concat();
         let mut output = [0; 64];
         let Ok(length) = write(&records, &mut output) else { continue };
         let reading = read(&output[..length]).unwrap();
@@ -297,10 +333,12 @@ fn taken_by_the_writer(head: u8) -> usize {
 /// The writer takes a record exactly when some word is read to it.
 #[test]
 fn the_writer_takes_exactly_what_reads_back() {
-    // Nine of the ten ends are rows; none or 33 plain finals go with 3 tones each, 33
-    // stacked ones with the four letters to 1020, great sa with the two heads 1E.
+    // Nine of the ten ends are rows; none or 33 plain finals go with 3 tones each, and the
+    // plain ones with 4 second finals too; 33 stacked ones go with the four letters to 1020,
+    // great sa with the two heads 1E.
     for head in [0x00, 0x21, 0x25, 0x2A, 0x4E] {
-        assert_eq!(taken_by_the_writer(head), 9 * 34 * 3 + 33 * 4 + 2, "{head:02X}");
+        let taken = 9 * (1 + 33 * (1 + 4)) * 3 + 33 * 4 + 2;
+        assert_eq!(taken_by_the_writer(head), taken, "{head:02X}");
     }
     for head in [0x40, 0x4A, 0x4C, 0x4D, 0x4F] {
         assert_eq!(taken_by_the_writer(head), 9, "{head:02X}");
@@ -314,19 +352,19 @@ fn the_writer_takes_exactly_what_reads_back() {
 /// that a vowel is written, every other head in none.
 #[test]
 fn the_writer_takes_marks_on_a_letter_alone() {
-    let taken_marks = |head: u8, ending: [u8; 3]| {
+    let taken_marks = |head: u8, ending: [u8; 4]| {
         let all = (0..13).flat_map(|medial| (0..14).map(move |vowel| (medial, vowel)));
         let all = all.flat_map(|(medial, vowel)| (0..3).map(move |tall| [medial, vowel, tall]));
         let records = all.map(|marks| [&[head][..], &marks, &ending].concat());
         records.filter(|record| write(record, &mut [0; 64]).is_ok()).count()
     };
-    for ending in [[0, 0, 0], [1, 1, 2]] {
+    for ending in [[0; 4], [1, 0, 1, 2], [1, 33, 1, 0]] {
         assert_eq!(taken_marks(0x21, ending), 12 * (13 + 3));
         for head in [0x23, 0x25, 0x2A, 0x4E] {
             assert_eq!(taken_marks(head, ending), 1, "{head:02X}");
         }
         for head in [0x40, 0x4B, 0x4C] {
-            assert_eq!(taken_marks(head, ending), usize::from(ending == [0; 3]), "{head:02X}");
+            assert_eq!(taken_marks(head, ending), usize::from(ending == [0; 4]), "{head:02X}");
         }
     }
 }

@@ -78,7 +78,7 @@ fn whole_syllables_are_found() {
     assert_eq!(found(&[&[0x1000, 0x103B, 0x103D]], &[0x1000, 0x103B]), []);
     assert_eq!(found(&[&UNIVERSITY], &[0x1010]), []);
     assert_eq!(found(&[&UNIVERSITY], &[0x1010, 0x1000]), []);
-    // (43,0,0,0,0) against (43,0,29,11,0).
+    // (43,0,0,0,0,0) against (43,0,29,0,11,0).
     assert_eq!(found(&[&UNIVERSITY], &[0x1010, 0x1000, 0x103A, 0x1000, 0x101E]), []);
     // A word is no continuation of a longer one.
     assert_eq!(found(&[&[0x1000], &[0x1000, 0x1001]], &[0x1000, 0x1001]), [1]);
@@ -145,6 +145,28 @@ fn independent_letters_are_found_by_their_finals() {
     assert_eq!(found(&[&kinzi], &[0x1023, 0x1004, 0x103A]), [0]);
 }
 
+/// A syllable with two finals begins as no syllable with one.
+#[test]
+fn two_finals_are_found_by_both() {
+    let words: [&[u16]; 7] = [
+        &[0x1018, 0x1010, 0x103A, 0x1005, 0x103A, 0x1000],
+        &[0x1018, 0x1010, 0x103A],
+        &[0x1018, 0x1010, 0x103A, 0x1005, 0x103A],
+        &[0x1018, 0x1010, 0x103A, 0x1005, 0x103A, 0x1038],
+        &[0x1018, 0x1010, 0x103A, 0x1005],
+        &[0x1021, 0x102D, 0x1010, 0x103A, 0x1005, 0x103A],
+        &[0x1023, 0x1010, 0x103A, 0x1005, 0x103A, 0x1000],
+    ];
+    assert_eq!(found(&words, &[0x1018, 0x1010, 0x103A, 0x1005, 0x103A]), [2, 0]);
+    assert_eq!(found(&words, &[0x1018, 0x1010, 0x103A, 0x1005, 0x1037, 0x103A]), []);
+    assert_eq!(found(&words, &[0x1018, 0x1010, 0x103A, 0x1005, 0x1038, 0x103A]), [3]);
+    assert_eq!(found(&words, &[0x1018, 0x1010, 0x103A]), [1, 4]);
+    assert_eq!(found(&words, &[0x1018, 0x1005, 0x103A]), []);
+    assert_eq!(found(&words, &[0x1018, 0x1005, 0x103A, 0x1010, 0x103A]), []);
+    assert_eq!(found(&words, &[0x1023, 0x1010, 0x103A, 0x1005, 0x103A]), [5, 6]);
+    assert_eq!(found(&words, &[0x1021, 0x102D, 0x1010, 0x103A, 0x1005, 0x103A]), [5, 6]);
+}
+
 #[test]
 fn the_query_is_normalised() {
     let word: [u16; 5] = [0x1000, 0x1014, 0x103A, 0x1037, 0x1000];
@@ -199,7 +221,7 @@ fn the_list_may_have_any_length() {
 /// "the order of tests is 01's, with 5 last"
 #[test]
 fn the_query_is_tested_before_the_book_and_the_book_before_the_list() {
-    let cases: [(&[u16], u8, usize); 11] = [
+    let cases: [(&[u16], u8, usize); 14] = [
         (&[0x1000; 65], 1, 64),
         (&[0; 65], 1, 64),
         (&[], 8, 0),
@@ -213,6 +235,9 @@ fn the_query_is_tested_before_the_book_and_the_book_before_the_list() {
         (&[0x1025, 0x103A, 0x102E], 3, 1),
         (&[0x1023, 0x1000, 0x1039], 4, 3),
         (&[0x104C, 0x1000, 0x103A], 3, 2),
+        (&[0x1000, 0x1000, 0x103A, 0x1005, 0x103A, 0x1019, 0x103A], 3, 6),
+        (&[0x1000, 0x1000, 0x103A, 0x1005, 0x1039, 0x1005], 3, 4),
+        (&[0x1000, 0x1010, 0x1037, 0x103A, 0x1005, 0x103A], 3, 5),
     ];
     let (right, _) = book_of(&[&[0x1000], &[0x1000, 0x1000]]);
     let wrong = [&right[..], &[7]].concat();
@@ -231,7 +256,7 @@ fn the_query_is_tested_before_the_book_and_the_book_before_the_list() {
 }
 
 /// The keys of the syllables of a word, each spelled out and read by itself.
-fn keys_of_spelled(word: &[u16]) -> Vec<[u8; 5]> {
+fn keys_of_spelled(word: &[u16]) -> Vec<[u8; 6]> {
     let (mut values, mut starts) = ([0; 190], [0; 65]);
     let lengths = spell_out(word, &mut values, &mut starts).unwrap();
     starts[lengths.starts] = lengths.values;
@@ -257,6 +282,17 @@ fn readable(values: &[u16], length: usize) -> Vec<Vec<u16>> {
 #[test]
 fn short_words_are_found_by_their_spelled_syllables() {
     let words = readable(&[0x1000, 0x101E, 0x1025, 0x102C, 0x1039, 0x103A, 0x103F], 4);
+    are_found_by_spelled_syllables(&words);
+}
+
+#[test]
+fn words_with_two_finals_are_found_by_their_spelled_syllables() {
+    let words = readable(&[0x1000, 0x1001, 0x103A], 6);
+    assert!(words.contains(&vec![0x1001, 0x1000, 0x103A, 0x1001, 0x103A, 0x1000]));
+    are_found_by_spelled_syllables(&words);
+}
+
+fn are_found_by_spelled_syllables(words: &[Vec<u16>]) {
     let keys: Vec<_> = words.iter().map(|word| keys_of_spelled(word)).collect();
     let (book, starts) = book_of(&words.iter().map(Vec::as_slice).collect::<Vec<_>>());
     let mut finds = 0;

@@ -1,6 +1,6 @@
 //! The cases that the page of readings names, where they concern no book.
 
-use oracle::{compare, decode, key, normalise, part, read, record, spell_out, write};
+use oracle::{compare, decode, key, normalise, part, put_record, read, record, spell_out, write};
 use oracle::{Key, Refusal, Which};
 use std::cmp::Ordering;
 
@@ -39,41 +39,58 @@ fn printed(input: &[u8]) -> String {
 #[test]
 fn continuations_follow_the_outcome() {
     assert_eq!(refused_normalising(&[0x1000, 0x102C, 0x103A]), (3, 2));
-    assert_eq!(key(&[0x1000, 0x102C, 0x103A, 0x1031]).unwrap().row(), [[13, 0, 0, 9, 0]]);
+    assert_eq!(key(&[0x1000, 0x102C, 0x103A, 0x1031]).unwrap().row(), [[13, 0, 0, 0, 9, 0]]);
 }
 
 #[test]
 fn the_letter_u_meets_its_neighbour_after_sorting() {
-    assert_eq!(key(&[0x1025, 0x1038, 0x102E]).unwrap().row(), [[46, 0, 0, 5, 2]]);
+    assert_eq!(key(&[0x1025, 0x1038, 0x102E]).unwrap().row(), [[46, 0, 0, 0, 5, 2]]);
     assert_eq!(refused_normalising(&[0x1025, 0x1031, 0x102E]), (3, 1));
     assert_eq!(refused_normalising(&[0x1025, 0x103A]), (3, 1));
     // An I takes a final, so 1009 is one; after a digit it is a head, and the killer is too
     // much.
-    assert_eq!(key(&[0x1025, 0x1025, 0x103A]).unwrap().row(), [[46, 0, 10, 4, 0]]);
+    assert_eq!(key(&[0x1025, 0x1025, 0x103A]).unwrap().row(), [[46, 0, 10, 0, 4, 0]]);
     assert_eq!(refused_normalising(&[0x1040, 0x1025, 0x103A]), (3, 2));
-    assert_eq!(key(&[0x1000, 0x1025, 0x1037, 0x103A]).unwrap().row(), [[13, 0, 10, 0, 1]]);
+    assert_eq!(key(&[0x1000, 0x1025, 0x1037, 0x103A]).unwrap().row(), [[13, 0, 10, 0, 0, 1]]);
     // Only a direct neighbour counts.
     let kept = [0x1025, 0x1000, 0x1039, 0x1000];
-    assert_eq!(key(&kept).unwrap().row(), [[46, 0, 1, 4, 0], [13, 0, 0, 0, 0]]);
+    assert_eq!(key(&kept).unwrap().row(), [[46, 0, 1, 0, 4, 0], [13, 0, 0, 0, 0, 0]]);
 }
 
 #[test]
 fn any_vowel_goes_with_any_final() {
     let word = [0x1000, 0x1031, 0x102C, 0x103A, 0x1000, 0x103A];
-    assert_eq!(read(&word).unwrap().syllables()[0].record, [0, 0, 9, 0, 1, 1, 0]);
+    assert_eq!(read(&word).unwrap().syllables()[0].record, [0, 0, 9, 0, 1, 0, 1, 0]);
 }
 
 #[test]
 fn records_and_parts_of_refused_words_and_beyond_the_count() {
     let answer = record(&[0x1000, 0x1039], 0);
     assert_eq!(answer.refusal, Some(Refusal { number: 3, place: 1 }));
-    assert!(!answer.present && answer.record == [0; 7]);
+    assert!(!answer.present && answer.record == [0; 8]);
     let answer = record(&[0x1000], 1);
-    assert!(answer.refusal.is_none() && !answer.present && answer.record == [0; 7]);
+    assert!(answer.refusal.is_none() && !answer.present && answer.record == [0; 8]);
     let answer = record(&[0x1000], 0);
     assert!(answer.refusal.is_none() && answer.present);
     assert_eq!(part(&[0x1000, 0x1039], 0), &[] as &[u16]);
     assert_eq!(part(&[0x1000], usize::MAX), &[] as &[u16]);
+}
+
+/// Tests 1, 2, 3 or 4 come first, then that there is such a syllable, then the output.
+#[test]
+fn a_record_is_put_where_there_is_room_for_eight_bytes() {
+    let word = [0x1000, 0x1018, 0x1010, 0x103A, 0x1005, 0x103A];
+    let mut output = [7; 10];
+    assert_eq!(put_record(&word, 1, &mut output), Ok(Some(8)));
+    assert_eq!(output, [0x18, 0, 0, 0, 17, 6, 1, 0, 7, 7]);
+    assert_eq!(put_record(&word, 0, &mut output[..8]), Ok(Some(8)));
+    assert_eq!(output, [0, 0, 0, 0, 0, 0, 0, 0, 7, 7]);
+    let mut short = [7; 7];
+    assert_eq!(put_record(&word, 1, &mut short), Err(Refusal { number: 5, place: 8 }));
+    assert_eq!(put_record(&word, 2, &mut short), Ok(None));
+    assert_eq!(put_record(&[0x103F], 0, &mut short), Err(Refusal { number: 3, place: 0 }));
+    assert_eq!(put_record(&[], 0, &mut []), Ok(None));
+    assert_eq!(short, [7; 7], "a refusal writes nothing");
 }
 
 #[test]
@@ -141,20 +158,20 @@ fn only_a_final_letter_follows_the_stacker() {
 
 #[test]
 fn great_sa_needs_a_syllable_before_it_that_takes_a_final() {
-    let records = |word: &[u16]| -> Vec<[u8; 7]> {
+    let records = |word: &[u16]| -> Vec<[u8; 8]> {
         read(word).unwrap().syllables().iter().map(|syllable| syllable.record).collect()
     };
     assert_eq!(
         records(&[0x1000, 0x103F, 0x103F]),
-        [[0, 0, 0, 0, 31, 3, 0], [0x1E, 0, 0, 0, 31, 3, 0], [0x1E, 0, 0, 0, 0, 0, 0]]
+        [[0, 0, 0, 0, 31, 0, 3, 0], [0x1E, 0, 0, 0, 31, 0, 3, 0], [0x1E, 0, 0, 0, 0, 0, 0, 0]]
     );
     assert_eq!(
         records(&[0x1025, 0x103F, 0x104E, 0x103F]),
         [
-            [0x25, 0, 0, 0, 31, 3, 0],
-            [0x1E, 0, 0, 0, 0, 0, 0],
-            [0x4E, 0, 0, 0, 31, 3, 0],
-            [0x1E, 0, 0, 0, 0, 0, 0]
+            [0x25, 0, 0, 0, 31, 0, 3, 0],
+            [0x1E, 0, 0, 0, 0, 0, 0, 0],
+            [0x4E, 0, 0, 0, 31, 0, 3, 0],
+            [0x1E, 0, 0, 0, 0, 0, 0, 0]
         ]
     );
     assert_eq!(refused(&[0x1040, 0x103F]), (3, 1));
@@ -170,35 +187,37 @@ fn great_sa_needs_a_syllable_before_it_that_takes_a_final() {
 }
 
 #[test]
-fn syllables_alone_have_six_zeros_in_their_record() {
+fn syllables_alone_have_only_zeros_behind_their_head() {
     for value in [0x1025, 0x102A, 0x1040, 0x104A, 0x104E, 0x104F] {
         let head = (value - 0x1000) as u8;
-        assert_eq!(record(&[value], 0).record, [head, 0, 0, 0, 0, 0, 0]);
+        assert_eq!(record(&[value], 0).record, [head, 0, 0, 0, 0, 0, 0, 0]);
     }
-    assert_eq!(key(&[0x1029]).unwrap().row(), [[46, 0, 0, 8, 0]]);
+    assert_eq!(key(&[0x1029]).unwrap().row(), [[46, 0, 0, 0, 8, 0]]);
     let word = [0x1000, 0x103B, 0x1031, 0x102B, 0x1000, 0x103A, 0x1038];
-    assert_eq!(record(&word, 0).record, [0, 1, 8, 1, 1, 1, 2]);
-    assert_eq!(key(&word).unwrap().row(), [[13, 1, 1, 8, 2]]);
+    assert_eq!(record(&word, 0).record, [0, 1, 8, 1, 1, 0, 1, 2]);
+    assert_eq!(key(&word).unwrap().row(), [[13, 1, 1, 0, 8, 2]]);
 }
 
 /// "Their records may carry final, link and tone": medial, vowel and tall stay 0.
 #[test]
 fn an_independent_letter_has_no_medial_and_no_vowel_in_its_record() {
     let heads = [0x1023, 0x1024, 0x1025, 0x1026, 0x1027, 0x1029, 0x102A, 0x104E];
-    let endings: [(&[u16], [u8; 3]); 8] = [
-        (&[], [0, 0, 0]),
-        (&[0x1037], [0, 0, 1]),
-        (&[0x1038], [0, 0, 2]),
-        (&[0x1020, 0x103A], [33, 1, 0]),
-        (&[0x1000, 0x103A, 0x1037], [1, 1, 1]),
-        (&[0x1000, 0x1039, 0x1020], [1, 2, 0]),
-        (&[0x1004, 0x103A, 0x1039, 0x1000], [5, 2, 0]),
-        (&[0x103F, 0x102C], [31, 3, 0]),
+    let endings: [(&[u16], [u8; 4]); 10] = [
+        (&[], [0, 0, 0, 0]),
+        (&[0x1037], [0, 0, 0, 1]),
+        (&[0x1038], [0, 0, 0, 2]),
+        (&[0x1020, 0x103A], [33, 0, 1, 0]),
+        (&[0x1000, 0x103A, 0x1037], [1, 0, 1, 1]),
+        (&[0x1000, 0x103A, 0x1020, 0x103A], [1, 33, 1, 0]),
+        (&[0x1020, 0x103A, 0x1000, 0x103A, 0x1038], [33, 1, 1, 2]),
+        (&[0x1000, 0x1039, 0x1020], [1, 0, 2, 0]),
+        (&[0x1004, 0x103A, 0x1039, 0x1000], [5, 0, 2, 0]),
+        (&[0x103F, 0x102C], [31, 0, 3, 0]),
     ];
     for head in heads {
-        for (ending, [final_weight, link, tone]) in endings {
-            let expected = [(head - 0x1000) as u8, 0, 0, 0, final_weight, link, tone];
-            assert_eq!(record(&[&[head], ending].concat(), 0).record, expected);
+        for (ending, bytes) in endings {
+            let expected = [&[(head - 0x1000) as u8, 0, 0, 0][..], &bytes].concat();
+            assert_eq!(record(&[&[head], ending].concat(), 0).record[..], expected);
         }
     }
 }
@@ -223,44 +242,60 @@ fn what_only_a_full_syllable_carries_is_refused_elsewhere() {
 #[test]
 fn the_writer_refuses_what_no_reader_yields() {
     for records in [
-        vec![0; 6],                                         // no multiple of seven
-        vec![0, 0, 2, 1, 0, 0, 0],                          // tall without AA
-        vec![0, 0, 0, 0, 1, 0, 0],                          // final without link
-        vec![0, 0, 0, 0, 0, 1, 0],                          // link without final
-        vec![0, 0, 0, 0, 1, 2, 0],                          // open stacked final
-        vec![0, 0, 0, 0, 31, 3, 0],                         // open great sa
-        vec![0, 0, 0, 0, 30, 3, 0, 0x1E, 0, 0, 0, 0, 0, 0], // great sa of another letter
-        vec![0, 0, 0, 0, 31, 3, 1, 0x1E, 0, 0, 0, 0, 0, 0], // great sa with a tone
-        vec![0, 0, 0, 0, 31, 3, 0, 0x1D, 0, 0, 0, 0, 0, 0], // great sa, other head
-        vec![0, 0, 0, 0, 1, 2, 0, 0x21, 0, 0, 0, 0, 0, 0],  // 1021 under a stacker
-        vec![0, 0, 0, 0, 1, 2, 2, 0, 0, 0, 0, 0, 0, 0],     // stacked with a tone
-        vec![0x3F, 0, 0, 0, 0, 0, 0],                       // great sa as a head
-        vec![0x22, 0, 0, 0, 0, 0, 0],                       // foreign head
-        vec![0x25, 0, 4, 0, 0, 0, 0],                       // I with a vowel
-        vec![0x25, 0, 0, 1, 0, 0, 0],                       // I with a tall AA alone
-        vec![0x25, 1, 0, 0, 0, 0, 0],                       // I with a medial
-        vec![0x23, 0, 2, 0, 1, 1, 0],                       // I with a vowel and a final
-        vec![0x23, 4, 0, 0, 0, 0, 2],                       // I with a medial and a tone
-        vec![0x4E, 0, 1, 0, 5, 1, 2],                       // 104E with a vowel
-        vec![0x4E, 2, 0, 0, 5, 1, 2],                       // 104E with a medial
-        vec![0x4C, 0, 0, 0, 1, 1, 0],                       // another sign with a final
-        vec![0x4D, 0, 0, 0, 0, 0, 1],                       // another sign with a tone
-        vec![0x4F, 0, 0, 0, 1, 2, 0, 0, 0, 0, 0, 0, 0, 0],  // another sign, stacked final
-        vec![0x4F, 0, 0, 0, 31, 3, 0, 0x1E, 0, 0, 0, 0, 0, 0],
-        vec![0x25, 0, 0, 0, 1, 2, 0], // I with an open stacked final
-        vec![0x25, 0, 0, 0, 1, 2, 1, 0, 0, 0, 0, 0, 0, 0], // I stacked with a tone
-        vec![0, 0, 0, 0, 1, 2, 0, 0x25, 0, 0, 0, 0, 0, 0], // I under a stacker
-        vec![0, 0, 0, 0, 1, 2, 0, 0x4E, 0, 0, 0, 0, 0, 0], // 104E under a stacker
-        vec![0x40, 0, 0, 0, 0, 0, 1], // digit with a tone
-        vec![0x40, 0, 0, 0, 1, 1, 0], // digit with a final
-        vec![0x4A, 0, 0, 0, 0, 0, 2], // stop with a tone
-        vec![0x4B, 0, 0, 0, 1, 1, 0], // stop with a final
-        vec![0, 12, 0, 0, 0, 0, 0],
-        vec![0, 0, 13, 0, 0, 0, 0],
-        vec![0, 0, 1, 2, 0, 0, 0],
-        vec![0, 0, 0, 0, 34, 1, 0],
-        vec![0, 0, 0, 0, 1, 4, 0],
-        vec![0, 0, 0, 0, 0, 0, 3],
+        vec![0; 6], // no multiple of eight
+        vec![0; 7],
+        vec![0; 9],
+        vec![0, 0, 0, 0, 0, 6, 0, 0], // second final without a first
+        vec![0, 0, 0, 0, 0, 6, 1, 0],
+        vec![0, 0, 0, 0, 17, 6, 0, 0], // second final, no link
+        vec![0, 0, 0, 0, 17, 6, 2, 0], // second final behind an open stacked one
+        vec![0, 0, 0, 0, 17, 6, 2, 0, 0, 0, 0, 0, 0, 0, 0, 0], // behind a stacked one
+        vec![0, 0, 0, 0, 5, 6, 2, 0, 2, 0, 0, 0, 0, 0, 0, 0], // behind kinzi
+        vec![0, 0, 0, 0, 31, 6, 3, 0, 0x1E, 0, 0, 0, 0, 0, 0, 0], // behind great sa
+        vec![0, 0, 0, 0, 17, 34, 1, 0], // second final beyond 1020
+        vec![0, 0, 0, 0, 34, 17, 1, 0],
+        vec![0, 0, 0, 0, 17, 6, 4, 0],
+        vec![0x40, 0, 0, 0, 17, 6, 1, 0], // digit with two finals
+        vec![0x4C, 0, 0, 0, 17, 6, 1, 0], // another sign with two finals
+        vec![0x4C, 0, 0, 0, 0, 6, 0, 0],  // another sign with a second final alone
+        vec![0x25, 0, 1, 0, 17, 6, 1, 0], // I with a vowel and two finals
+        vec![0, 0, 2, 1, 0, 0, 0, 0],     // tall without AA
+        vec![0, 0, 0, 0, 1, 0, 0, 0],     // final without link
+        vec![0, 0, 0, 0, 0, 0, 1, 0],     // link without final
+        vec![0, 0, 0, 0, 1, 0, 2, 0],     // open stacked final
+        vec![0, 0, 0, 0, 31, 0, 3, 0],    // open great sa
+        vec![0, 0, 0, 0, 30, 0, 3, 0, 0x1E, 0, 0, 0, 0, 0, 0, 0], // great sa of another letter
+        vec![0, 0, 0, 0, 31, 0, 3, 1, 0x1E, 0, 0, 0, 0, 0, 0, 0], // great sa with a tone
+        vec![0, 0, 0, 0, 31, 0, 3, 0, 0x1D, 0, 0, 0, 0, 0, 0, 0], // great sa, other head
+        vec![0, 0, 0, 0, 1, 0, 2, 0, 0x21, 0, 0, 0, 0, 0, 0, 0], // 1021 under a stacker
+        vec![0, 0, 0, 0, 1, 0, 2, 2, 0, 0, 0, 0, 0, 0, 0, 0], // stacked with a tone
+        vec![0x3F, 0, 0, 0, 0, 0, 0, 0],  // great sa as a head
+        vec![0x22, 0, 0, 0, 0, 0, 0, 0],  // foreign head
+        vec![0x25, 0, 4, 0, 0, 0, 0, 0],  // I with a vowel
+        vec![0x25, 0, 0, 1, 0, 0, 0, 0],  // I with a tall AA alone
+        vec![0x25, 1, 0, 0, 0, 0, 0, 0],  // I with a medial
+        vec![0x23, 0, 2, 0, 1, 0, 1, 0],  // I with a vowel and a final
+        vec![0x23, 4, 0, 0, 0, 0, 0, 2],  // I with a medial and a tone
+        vec![0x4E, 0, 1, 0, 5, 0, 1, 2],  // 104E with a vowel
+        vec![0x4E, 2, 0, 0, 5, 0, 1, 2],  // 104E with a medial
+        vec![0x4C, 0, 0, 0, 1, 0, 1, 0],  // another sign with a final
+        vec![0x4D, 0, 0, 0, 0, 0, 0, 1],  // another sign with a tone
+        vec![0x4F, 0, 0, 0, 1, 0, 2, 0, 0, 0, 0, 0, 0, 0, 0, 0], // another sign, stacked final
+        vec![0x4F, 0, 0, 0, 31, 0, 3, 0, 0x1E, 0, 0, 0, 0, 0, 0, 0],
+        vec![0x25, 0, 0, 0, 1, 0, 2, 0], // I with an open stacked final
+        vec![0x25, 0, 0, 0, 1, 0, 2, 1, 0, 0, 0, 0, 0, 0, 0, 0], // I stacked with a tone
+        vec![0, 0, 0, 0, 1, 0, 2, 0, 0x25, 0, 0, 0, 0, 0, 0, 0], // I under a stacker
+        vec![0, 0, 0, 0, 1, 0, 2, 0, 0x4E, 0, 0, 0, 0, 0, 0, 0], // 104E under a stacker
+        vec![0x40, 0, 0, 0, 0, 0, 0, 1], // digit with a tone
+        vec![0x40, 0, 0, 0, 1, 0, 1, 0], // digit with a final
+        vec![0x4A, 0, 0, 0, 0, 0, 0, 2], // stop with a tone
+        vec![0x4B, 0, 0, 0, 1, 0, 1, 0], // stop with a final
+        vec![0, 12, 0, 0, 0, 0, 0, 0],
+        vec![0, 0, 13, 0, 0, 0, 0, 0],
+        vec![0, 0, 1, 2, 0, 0, 0, 0],
+        vec![0, 0, 0, 0, 34, 0, 1, 0],
+        vec![0, 0, 0, 0, 1, 0, 4, 0],
+        vec![0, 0, 0, 0, 0, 0, 0, 3],
     ] {
         assert_eq!(refused_writing(&records), (6, 0), "{records:?}");
     }
@@ -270,28 +305,34 @@ fn the_writer_refuses_what_no_reader_yields() {
 fn the_writer_takes_what_a_reader_yields() {
     assert_eq!(written(&[]), [] as [u16; 0]);
     assert_eq!(
-        written(&[0, 0, 0, 0, 5, 2, 0, 1, 0, 0, 0, 0, 0, 0]),
+        written(&[0, 0, 0, 0, 5, 0, 2, 0, 1, 0, 0, 0, 0, 0, 0, 0]),
         [0x1000, 0x1004, 0x103A, 0x1039, 0x1001]
     );
-    assert_eq!(written(&[0, 0, 0, 0, 31, 3, 0, 0x1E, 0, 0, 0, 0, 0, 0]), [0x1000, 0x103F]);
-    assert_eq!(written(&[0x23, 0, 0, 0, 31, 3, 0, 0x1E, 0, 0, 0, 0, 0, 0]), [0x1023, 0x103F]);
+    assert_eq!(written(&[0, 0, 0, 0, 31, 0, 3, 0, 0x1E, 0, 0, 0, 0, 0, 0, 0]), [0x1000, 0x103F]);
+    assert_eq!(written(&[0x23, 0, 0, 0, 31, 0, 3, 0, 0x1E, 0, 0, 0, 0, 0, 0, 0]), [0x1023, 0x103F]);
     assert_eq!(
-        written(&[0x25, 0, 0, 0, 5, 2, 0, 2, 0, 0, 0, 0, 0, 0]),
+        written(&[0x25, 0, 0, 0, 5, 0, 2, 0, 2, 0, 0, 0, 0, 0, 0, 0]),
         [0x1025, 0x1004, 0x103A, 0x1039, 0x1002]
     );
-    assert_eq!(written(&[0x4E, 0, 0, 0, 5, 1, 2]), [0x104E, 0x1004, 0x103A, 0x1038]);
-    assert_eq!(written(&[0x29, 0, 0, 0, 0, 0, 1]), [0x1029, 0x1037]);
+    assert_eq!(written(&[0x4E, 0, 0, 0, 5, 0, 1, 2]), [0x104E, 0x1004, 0x103A, 0x1038]);
+    assert_eq!(written(&[0x29, 0, 0, 0, 0, 0, 0, 1]), [0x1029, 0x1037]);
+    assert_eq!(written(&[0x18, 0, 0, 0, 17, 6, 1, 0]), [0x1018, 0x1010, 0x103A, 0x1005, 0x103A]);
     assert_eq!(
-        written(&[0, 11, 9, 1, 33, 1, 2]),
+        written(&[0x25, 0, 0, 0, 1, 1, 1, 1]),
+        [0x1025, 0x1000, 0x103A, 0x1000, 0x103A, 0x1037]
+    );
+    assert_eq!(written(&[0x4E, 0, 0, 0, 5, 33, 1, 0]), [0x104E, 0x1004, 0x103A, 0x1020, 0x103A]);
+    assert_eq!(
+        written(&[0, 11, 9, 1, 33, 0, 1, 2]),
         [0x1000, 0x103C, 0x103D, 0x103E, 0x1031, 0x102B, 0x103A, 0x1020, 0x103A, 0x1038]
     );
 }
 
 #[test]
 fn the_writer_counts_joined_values_and_tests_them_before_the_output() {
-    let great_sa = [0x1E, 0, 0, 0, 31, 3, 0];
+    let great_sa = [0x1E, 0, 0, 0, 31, 0, 3, 0];
     let mut records = [great_sa; 64].concat();
-    records[7 * 63..].copy_from_slice(&[0x1E, 0, 0, 0, 0, 0, 0]);
+    records[8 * 63..].copy_from_slice(&[0x1E, 0, 0, 0, 0, 0, 0, 0]);
     assert_eq!(written(&records).len(), 64);
     let longer = [&great_sa[..], &records].concat();
     let too_short = &mut [0; 3];
@@ -348,6 +389,12 @@ fn ties_go_by_the_stored_forms() {
     let (marked, independent) = ([0x1021, 0x102F, 0x1000, 0x103A], [0x1025, 0x1000, 0x103A]);
     assert_eq!(key(&marked), key(&independent));
     assert_eq!(compare(&marked, &independent), Ok(Ordering::Less));
+    let (marked, independent) = (
+        [0x1021, 0x102D, 0x1010, 0x103A, 0x1005, 0x103A],
+        [0x1023, 0x1010, 0x103A, 0x1005, 0x103A],
+    );
+    assert_eq!(key(&marked), key(&independent));
+    assert_eq!(compare(&marked, &independent), Ok(Ordering::Less));
     assert_eq!(compare(&[0x1025, 0x102E], &[0x1026]), Ok(Ordering::Equal));
     assert_eq!(compare(&[], &[0x104A]), Ok(Ordering::Less));
     assert_eq!(compare(&[0x1000], &[0x1000, 0x104A]), Ok(Ordering::Less));
@@ -365,9 +412,9 @@ fn the_first_of_two_words_is_tested_whole() {
 fn the_unused_bytes_of_a_key_are_zero() {
     let key = key(&[0x1000, 0x104F]).unwrap();
     assert_eq!(key.count(), 2);
-    assert_eq!(key.bytes()[..10], [13, 0, 0, 0, 0, 50, 0, 0, 0, 0]);
-    assert_eq!(key.bytes()[10..], [0; 310]);
-    assert_eq!(Key::ZERO.bytes(), &[0; 320]);
+    assert_eq!(key.bytes()[..12], [13, 0, 0, 0, 0, 0, 50, 0, 0, 0, 0, 0]);
+    assert_eq!(key.bytes()[12..], [0; 372]);
+    assert_eq!(Key::ZERO.bytes(), &[0; 384]);
 }
 
 #[test]
@@ -375,13 +422,13 @@ fn what_the_program_prints_for_no_lines_and_empty_ones() {
     assert_eq!(printed(b""), "");
     assert_eq!(printed(b"\n"), "1 OK 0 -\n");
     assert_eq!(printed(b"\n\n"), "1 OK 0 -\n2 OK 0 -\n");
-    assert_eq!(printed(b"\xE1\x80\x80"), "1 OK 1 0D00000000\n");
+    assert_eq!(printed(b"\xE1\x80\x80"), "1 OK 1 0D0000000000\n");
     assert_eq!(printed(b"\n\xE1"), "1 OK 0 -\n2 NO 7 0\n");
     assert_eq!(printed("က\r\n".as_bytes()), "1 NO 7 3\n");
     let mut long = "က".repeat(64).into_bytes();
-    assert_eq!(printed(&long).len(), "1 OK 64 ".len() + 64 * 11);
+    assert_eq!(printed(&long).len(), "1 OK 64 ".len() + 64 * 13);
     long.push(b'\n');
-    assert_eq!(printed(&long).len(), "1 OK 64 ".len() + 64 * 11);
+    assert_eq!(printed(&long).len(), "1 OK 64 ".len() + 64 * 13);
     long.insert(0, b' ');
     assert_eq!(printed(&long), "1 NO 1 64\n");
 }
