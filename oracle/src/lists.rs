@@ -2,6 +2,7 @@
 
 mod carried;
 mod changes;
+mod finals;
 mod lines;
 mod picked_rows;
 mod products;
@@ -10,6 +11,7 @@ use crate::random::Random;
 use crate::wordlist;
 
 pub use changes::{shuffle_runs, WITH_LETTER_U};
+pub use finals::crowded;
 pub use picked_rows::{random_row, row_of_length, RowUnderWay};
 
 /// One list: an input of `wordlist`.
@@ -56,14 +58,17 @@ pub fn all() -> Vec<List> {
         List { name: "examples", input: join(lines::examples()) },
         List { name: "products", input: join(products::words().map(|word| encode(&word))) },
         List { name: "carried", input: join(carried::words().map(|word| encode(&word))) },
-        List::of_words("valid", 6_000, changes::valid),
+        List { name: "two_finals", input: join(finals::readable().map(|word| encode(&word))) },
+        List { name: "near_two_finals", input: join(finals::near().map(|word| encode(&word))) },
+        List::of_words("crowded", 1_000, finals::crowded),
+        List::of_words("valid", 5_200, changes::valid),
         List::of_words("long", 500, changes::long),
-        List::of_words("shuffled", 5_000, changes::shuffled),
-        List::of_words("letter_u", 2_000, changes::letter_u),
+        List::of_words("shuffled", 4_400, changes::shuffled),
+        List::of_words("letter_u", 1_700, changes::letter_u),
         List::of_words("beginnings", 1_500, changes::beginning),
-        List::of_words("damaged", 7_000, changes::damaged),
+        List::of_words("damaged", 6_200, changes::damaged),
         List::of_words("loose_pieces", 3_000, changes::loose_pieces),
-        List::of_words("noise", 2_500, changes::noise),
+        List::of_words("noise", 2_100, changes::noise),
         List::of_words("foreign", 1_750, changes::foreign),
         List::of_lines("bytes", 2_700, lines::faulty),
         List::of_lines("limits", 900, lines::near_the_limit),

@@ -4,6 +4,7 @@ mod markless;
 
 use oracle::lists::{all, random_row, row_of_length, shuffle_runs, List};
 use oracle::random::Random;
+use oracle::storage::store;
 use oracle::{compare, decode, normalise, read};
 use std::cmp::Ordering;
 use std::collections::BTreeSet;
@@ -31,7 +32,7 @@ fn the_lists_are_of_the_right_size() {
 
 #[test]
 fn valid_words_are_readable() {
-    for name in ["products", "valid", "long", "shuffled"] {
+    for name in ["products", "two_finals", "valid", "long", "shuffled"] {
         for answer in answers(list(name)) {
             assert!(answer.contains(" OK "), "{name}: {answer}");
         }
@@ -69,8 +70,8 @@ fn shuffled_rows_are_stored_as_they_were() {
 
 #[test]
 fn every_weight_occurs() {
-    let mut seen = [(); 5].map(|()| BTreeSet::new());
-    for name in ["products", "valid"] {
+    let mut seen = [(); 6].map(|()| BTreeSet::new());
+    for name in ["products", "two_finals", "valid"] {
         for answer in answers(list(name)) {
             for syllable in answer.rsplit(' ').next().unwrap().split('-') {
                 for (place, weights) in seen.iter_mut().enumerate() {
@@ -79,20 +80,57 @@ fn every_weight_occurs() {
             }
         }
     }
-    let [head, medial, final_weight, vowel, tone] = seen;
+    let [head, medial, first_final, second_final, vowel, tone] = seen;
     assert!(head.into_iter().eq(1..=50));
     assert!(medial.into_iter().eq(0..=11));
-    assert!(final_weight.into_iter().eq(0..=33));
+    assert!(first_final.into_iter().eq(0..=33));
+    assert!(second_final.into_iter().eq(0..=33));
     assert!(vowel.into_iter().eq(0..=12));
     assert!(tone.into_iter().eq(0..=2));
 }
 
+/// The words of the lists with these names.
+fn words<'n>(names: &'n [&str]) -> impl Iterator<Item = Vec<u16>> + 'n {
+    let lines = names.iter().flat_map(|name| list(name).input.split(|&byte| byte == b'\n'));
+    lines.filter_map(|line| decode(line).ok()).map(|word| word.to_vec())
+}
+
+/// The two final letters of each syllable that has two.
+fn pairs_in(word: &[u16]) -> Vec<[u8; 2]> {
+    let Ok(stored) = store(word) else { return Vec::new() };
+    let records = stored.reading.syllables().iter().map(|syllable| syllable.record);
+    let pairs = records.map(|[_, _, _, _, first, second, _, _]| [first, second]);
+    pairs.filter(|pair| pair[1] > 0).collect()
+}
+
+#[test]
+fn every_pair_of_finals_occurs() {
+    let pairs: BTreeSet<[u8; 2]> =
+        words(&["two_finals"]).flat_map(|word| pairs_in(&word)).collect();
+    assert!(pairs.into_iter().eq((1..=33).flat_map(|first| (1..=33).map(move |one| [first, one]))));
+    for name in ["valid", "long", "shuffled", "beginnings", "damaged", "crowded", "limits"] {
+        assert!(words(&[name]).any(|word| !pairs_in(&word).is_empty()), "{name}");
+    }
+}
+
+/// Of the 32 endings the first 16 are read on the eight heads that carry them: 103F behind
+/// the head, and 1039 behind the first letter, make a syllable of their own. The other 16
+/// are refused everywhere, and all of them on the two heads that carry nothing.
+#[test]
+fn what_comes_near_to_two_finals_is_refused() {
+    let answers = answers(list("near_two_finals"));
+    assert_eq!(answers.len(), 10 * 32);
+    for (number, answer) in answers.iter().enumerate() {
+        let is_read = number / 32 < 8 && number % 32 < 16;
+        assert!(answer.contains(if is_read { " OK " } else { " NO 3 " }), "{answer}");
+    }
+}
+
 #[test]
 fn independent_letters_come_with_every_kind_of_final_and_with_tones() {
-    for name in ["products", "valid", "shuffled"] {
-        let lines = list(name).input.split(|&byte| byte == b'\n');
-        let words = lines.filter_map(|line| decode(line).ok()).map(|word| word.to_vec());
-        assert_eq!(markless::kinds_in(words), markless::kinds(), "{name}");
+    assert_eq!(markless::kinds_in(words(&["products", "two_finals"])), markless::kinds());
+    for name in ["valid", "shuffled"] {
+        assert_eq!(markless::kinds_in(words(&[name])), markless::kinds(), "{name}");
     }
 }
 
@@ -118,6 +156,7 @@ fn every_refusal_of_a_line_occurs() {
     };
     let named = |numbers: &[&str]| numbers.iter().map(|number| number.to_string()).collect();
     assert_eq!(refusals("damaged"), named(&["3", "4"]));
+    assert_eq!(refusals("crowded"), named(&["3", "4"]));
     assert_eq!(refusals("beginnings"), named(&["4"]), "a valid word's beginning is viable");
     assert_eq!(refusals("noise"), named(&["3", "4"]));
     assert_eq!(refusals("foreign"), named(&["2", "7"]));

@@ -108,6 +108,8 @@ fn hand_made() -> Vec<Vec<u8>> {
         two(&removed_ka, &ka),
         two(&removed_ka, &removed_ka),
         record(b"MW", 3, &[0x25, 0x00, 0x3A]),
+        record(b"MW", 5, &[0x18, 0x10, 0x3A, 0x05, 0x3A]),
+        record(b"M-", 6, &[0x25, 0x10, 0x3A, 0x10, 0x3A, 0x38]),
         // Equal live words; of three, the second is the first that is wrong.
         two(&ka, &ka),
         two(&two(&ka, &ka), &ka),
@@ -153,6 +155,12 @@ fn hand_made() -> Vec<Vec<u8>> {
         record(b"MW", 4, &[0x00, 0x25, 0x39, 0x05]),
         record(b"MW", 3, &[0x00, 0x2C, 0x31]),
         record(b"M-", 2, &[0x4C, 0x38]),
+        // A third final, a stacked second one, kinzi as one, and a tone between two.
+        record(b"MW", 7, &[0x00, 0x00, 0x3A, 0x05, 0x3A, 0x19, 0x3A]),
+        record(b"M-", 6, &[0x00, 0x00, 0x3A, 0x05, 0x39, 0x05]),
+        record(b"MW", 7, &[0x00, 0x00, 0x3A, 0x04, 0x3A, 0x39, 0x02]),
+        record(b"M-", 6, &[0x00, 0x10, 0x3A, 0x37, 0x05, 0x3A]),
+        record(b"MW", 6, &[0x00, 0x10, 0x3A, 0x05, 0x37, 0x3A]),
         // Stray bytes.
         two(&ka, b"\0\x01"),
         two(&ka, b"\0\0\0M"),

@@ -87,7 +87,7 @@ fn word_near_the_limit(random: &mut Random) -> Vec<u16> {
         word.extend_from_slice(ending);
         word
     };
-    match random.below(11) {
+    match random.below(13) {
         0 => row(random, WORD_LIMIT),
         1 => row(random, WORD_LIMIT - 1),
         2 => row(random, WORD_LIMIT + 1),
@@ -106,6 +106,16 @@ fn word_near_the_limit(random: &mut Random) -> Vec<u16> {
             let mut word = row(random, length);
             damage(random, &mut word);
             word
+        }
+        10 => {
+            // Two finals that end the longest word, or pass it.
+            let length = random.between(WORD_LIMIT - 6, WORD_LIMIT - 4);
+            ended_by(row(random, length), &[0x1018, 0x1010, KILLER, 0x1005, KILLER])
+        }
+        11 => {
+            // A third final, whose killer is the last value.
+            let finals = [0x1018, 0x1010, KILLER, 0x1005, KILLER, 0x1019, KILLER];
+            ended_by(row(random, WORD_LIMIT - finals.len()), &finals)
         }
         _ => {
             let mut word = row(random, WORD_LIMIT);
@@ -215,9 +225,28 @@ const INDEPENDENT_LETTERS: [&[u16]; 20] = [
     &[0x1021, 0x102F, 0x1000, 0x1039, 0x1000],
 ];
 
+/// Words of document 02: two finals, and what is refused beside them.
+const TWO_FINALS: [&[u16]; 14] = [
+    &[0x1018, 0x1010, 0x103A, 0x1005, 0x103A],
+    &[0x1018, 0x1010, 0x103A, 0x1005, 0x103A, 0x1038],
+    &[0x1018, 0x1010, 0x103A, 0x1005, 0x1037, 0x103A],
+    &[0x1000, 0x1000, 0x103A, 0x1000, 0x103A],
+    &[0x1025, 0x1000, 0x103A, 0x1005, 0x103A],
+    &[0x104E, 0x1000, 0x103A, 0x1005, 0x103A, 0x1038],
+    &[0x1000, 0x1025, 0x103A, 0x1025, 0x103A],
+    &[0x1000, 0x1000, 0x103A, 0x1005, 0x103A, 0x1019],
+    &[0x1000, 0x1000, 0x103A, 0x1005, 0x103A, 0x1019, 0x103A],
+    &[0x1000, 0x1000, 0x103A, 0x1004, 0x103A, 0x1039],
+    &[0x1000, 0x1000, 0x103A, 0x1005, 0x1039],
+    &[0x1000, 0x1010, 0x103A, 0x1037, 0x1005, 0x103A],
+    &[0x1000, 0x1010, 0x1037, 0x103A, 0x1005, 0x103A],
+    &[0x104C, 0x1000, 0x103A, 0x1005, 0x103A],
+];
+
 /// The words of the documents, and words as long as they may be or one longer.
 pub fn examples() -> impl Iterator<Item = Vec<u8>> {
-    let short = WORDS_TO_TRY.into_iter().chain(INDEPENDENT_LETTERS).map(encode);
+    let words = [&WORDS_TO_TRY[..], &INDEPENDENT_LETTERS, &TWO_FINALS].concat();
+    let short = words.into_iter().map(encode);
     let long = [vec![0x1000; WORD_LIMIT], vec![0x1000; WORD_LIMIT + 1]];
     short.chain(long.into_iter().map(|word| encode(&word)))
 }

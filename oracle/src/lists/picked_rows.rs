@@ -22,7 +22,7 @@ impl RowUnderWay {
     /// Puts a writing of the piece that stands next at the end.
     pub fn put(&mut self, writing: &Writing) {
         if self.next.begins_syllable() {
-            self.records.push([0; 7]);
+            self.records.push([0; 8]);
         }
         self.values.extend(writing.values());
         if let Some(record) = self.records.last_mut() {
@@ -39,7 +39,7 @@ impl RowUnderWay {
         self.put(random.pick(&heads));
         while !self.next.begins_syllable() {
             let empty = writings(self.next)
-                .find(|writing| writing.values().is_empty() && writing.record == [0; 7]);
+                .find(|writing| writing.values().is_empty() && writing.record == [0; 8]);
             self.put(empty.expect("every piece but the head may be absent"));
         }
     }
@@ -82,15 +82,16 @@ fn pick_writing(random: &mut Random, piece: Piece) -> &'static Writing {
         }
         Piece::StackedHead | Piece::GreatSaHead => true,
         Piece::MedialGroup | Piece::Vowel => writing.values().is_empty() == (percent < 40),
+        Piece::SecondFinal => writing.values().is_empty() == (percent < 55),
         Piece::Tone => writing.values().is_empty() == (percent < 60),
         Piece::Final => {
             let is_kinzi = writing.values().len() == 3;
             match percent {
-                0..40 => writing.record[5] == link::NONE,
-                40..65 => writing.record[5] == link::PLAIN,
-                65..78 => writing.record[5] == link::STACKED && !is_kinzi,
+                0..40 => writing.link() == link::NONE,
+                40..65 => writing.link() == link::PLAIN,
+                65..78 => writing.link() == link::STACKED && !is_kinzi,
                 78..84 => is_kinzi,
-                _ => writing.record[5] == link::GREAT_SA,
+                _ => writing.link() == link::GREAT_SA,
             }
         }
     };

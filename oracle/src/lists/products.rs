@@ -3,7 +3,8 @@
 use crate::formula::writings;
 use crate::syllable::{link, Piece, Writing, TONES};
 
-type Words = Vec<Vec<u16>>;
+/// What a product gives.
+pub type Words = Vec<Vec<u16>>;
 
 /// All products, one after the other.
 pub fn words() -> impl Iterator<Item = Vec<u16>> {
@@ -28,16 +29,17 @@ pub fn of(piece: Piece) -> Vec<&'static Writing> {
 }
 
 /// The heads after which this piece stands.
-fn heads_before(then: Piece) -> impl Iterator<Item = &'static Writing> {
+pub fn heads_before(then: Piece) -> impl Iterator<Item = &'static Writing> {
     writings(Piece::Head).filter(move |head| head.then == then)
 }
 
-fn joined(parts: &[&[u16]]) -> Vec<u16> {
+/// The values of the parts, one behind the other.
+pub fn joined(parts: &[&[u16]]) -> Vec<u16> {
     parts.concat()
 }
 
 /// Heads in turn, so that a product does not show one letter only.
-fn head_in_turn(number: usize) -> [u16; 1] {
+pub fn head_in_turn(number: usize) -> [u16; 1] {
     [0x1000 + (number % 34) as u16]
 }
 
@@ -47,6 +49,11 @@ fn after_final(ending: &Writing, number: usize) -> [u16; 1] {
         Piece::GreatSaHead => [0x103F],
         _ => [0x1000 + (number % 33) as u16],
     }
+}
+
+/// Whether a tone may stand behind the final.
+fn takes_tone(ending: &Writing) -> bool {
+    matches!(ending.link(), link::NONE | link::PLAIN)
 }
 
 fn heads_by_medials() -> Words {
@@ -84,7 +91,7 @@ fn markless_by_finals_by_tones() -> Words {
     for head in heads_before(Piece::Final) {
         for ending in of(Piece::Final) {
             let (tone, next) = (words.len() % TONES.len(), after_final(ending, words.len()));
-            let tone = if ending.then == Piece::Tone { TONES[tone] } else { &[] };
+            let tone = if takes_tone(ending) { TONES[tone] } else { &[] };
             words.push(joined(&[head.values(), ending.values(), tone, &next]));
         }
         words.extend(TONES.map(|tone| joined(&[head.values(), tone])));
@@ -129,7 +136,7 @@ fn medials_by_finals() -> Words {
 
 fn finals_by_tones() -> Words {
     let mut words = Words::new();
-    for ending in of(Piece::Final).into_iter().filter(|ending| ending.then == Piece::Tone) {
+    for ending in of(Piece::Final).into_iter().filter(|ending| takes_tone(ending)) {
         for tone in of(Piece::Tone) {
             let head = head_in_turn(words.len());
             words.push(joined(&[&head, ending.values(), tone.values()]));
@@ -140,7 +147,7 @@ fn finals_by_tones() -> Words {
 
 fn stacked_finals_by_heads() -> Words {
     let mut words = Words::new();
-    for ending in of(Piece::Final).into_iter().filter(|ending| ending.record[5] == link::STACKED) {
+    for ending in of(Piece::Final).into_iter().filter(|ending| ending.link() == link::STACKED) {
         for head in of(Piece::StackedHead) {
             let first = head_in_turn(words.len());
             words.push(joined(&[&first, ending.values(), head.values()]));
