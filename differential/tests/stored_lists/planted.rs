@@ -57,6 +57,24 @@ fn weights_above_three_bits_are_found() {
 }
 
 #[test]
+fn weights_above_seven_bits_are_found() {
+    let list = entries(80, |value| (weight(value) << 7 | 85).to_string());
+    let object = in_c(&format!("const unsigned short packed[] = {{ {list} }};"));
+    demand(
+        &weights_in(&object, &ARCHIVE),
+        ".rodata.packed at byte 0: 34 entries of two bytes at distance 2 rise by 128, from 1749",
+    );
+}
+
+#[test]
+fn two_numbers_in_turn_are_no_weights() {
+    let list = entries(80, |value| (128 * (value % 2)).to_string());
+    let object = in_c(&format!("const unsigned char turns[] = {{ {list} }};"));
+    let weights = weights_in(&object, &ARCHIVE);
+    assert!(weights.is_empty(), "{weights:?}");
+}
+
+#[test]
 fn weights_in_a_wide_struct_are_found() {
     let list = entries(80, |value| {
         format!("{{ {}, {}, {} }}", uneven(value), uneven(value + 7), weight(value))

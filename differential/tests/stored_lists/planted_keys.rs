@@ -29,7 +29,7 @@ int fill(const byte *heads, int count, byte *key) {
     for (int at = 0; at < count; at++) {
         int rules = rules_of(heads[at]);
         if (rules < 0) {
-            memset(key, 0, 320);
+            memset(key, 0, 384);
             return 0;
         }
         key[2 * at] = head_weight(heads[at]);
