@@ -6,6 +6,7 @@
 pub enum Call {
     Read,
     Record,
+    RecordBytes,
     Part,
     Syllables,
     Spell,
@@ -32,9 +33,10 @@ pub enum Call {
 
 impl Call {
     /// All calls.
-    pub const ALL: [Call; 24] = [
+    pub const ALL: [Call; 25] = [
         Call::Read,
         Call::Record,
+        Call::RecordBytes,
         Call::Part,
         Call::Syllables,
         Call::Spell,
@@ -64,6 +66,7 @@ impl Call {
         match self {
             Call::Read => "read",
             Call::Record => "record",
+            Call::RecordBytes => "record bytes",
             Call::Part => "part",
             Call::Syllables => "syllables",
             Call::Spell => "spell",
@@ -95,6 +98,7 @@ impl Call {
         match self {
             Call::Read | Call::Syllables | Call::Compare | Call::WordOrder => &[0, 1, 2, 3, 4],
             Call::Record | Call::Part => &[0, 1, 2, 3, 4, 128],
+            Call::RecordBytes => &[0, 1, 2, 3, 4, 5, 128],
             Call::Spell | Call::Normalise | Call::Key => &[0, 1, 2, 3, 4, 5],
             Call::StoredForm => &[0, 1, 2, 5],
             Call::TypedPlace => &[0, 1, 2, 128],
@@ -140,6 +144,7 @@ impl Call {
     pub const fn number_names(self) -> &'static [&'static str] {
         match self {
             Call::Record | Call::Part => &["number"],
+            Call::RecordBytes => &["room", "number"],
             Call::Spell => &["room", "room for starts"],
             Call::TypedPlace => &["place"],
             Call::Write

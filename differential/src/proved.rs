@@ -15,6 +15,7 @@ impl Library for Proved {
     fn outcome(&self, case: &Case) -> Outcome {
         match case.call {
             Call::Spell => spell(case),
+            Call::RecordBytes => record_bytes(case),
             Call::Write | Call::Decode => bytes_to_values(case),
             Call::Normalise | Call::StoredForm => stored(case),
             Call::Key => key(case),
@@ -78,6 +79,15 @@ fn of_word(case: &Case) -> Outcome {
         _ => one(jogcairn::read(values).map(|syllables| syllables.len())),
     };
     Outcome { answer, lent: vec![word.after()] }
+}
+
+fn record_bytes(case: &Case) -> Outcome {
+    let word = Lent::input(&case.word);
+    let [room, number] = case.numbers;
+    let mut record = Lent::<u8>::output(room);
+    let count = jogcairn::record_into(word.inside(), number, record.inside_mut());
+    let answer = many_or_nothing(count.map(|count| count.map(|count| vec![count as u64])));
+    Outcome { answer, lent: vec![word.after(), record.after()] }
 }
 
 /// The bytes of each record, the length of each part and its values.

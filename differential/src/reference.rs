@@ -16,6 +16,7 @@ impl Library for Reference {
     fn outcome(&self, case: &Case) -> Outcome {
         match case.call {
             Call::Spell => spell(case),
+            Call::RecordBytes => record_bytes(case),
             Call::Write | Call::Decode => bytes_to_values(case),
             Call::Normalise | Call::StoredForm => stored(case),
             Call::Key => key(case),
@@ -77,6 +78,15 @@ fn of_syllable(call: Call, word: &[u16], number: usize) -> Answer {
         Call::Record => oracle::record(word, number).record.map(u64::from).to_vec(),
         _ => vec![syllable.start as u64, oracle::part(word, number).len() as u64],
     })
+}
+
+fn record_bytes(case: &Case) -> Outcome {
+    let word = Lent::input(&case.word);
+    let [room, number] = case.numbers;
+    let mut record = Lent::output(room);
+    let count = oracle::put_record(word.inside(), number, record.inside_mut());
+    let answer = accepted_or_nothing(count.map(|count| count.map(one)));
+    Outcome { answer, lent: vec![word.after(), record.after()] }
 }
 
 /// The bytes of each record, the length of each part and its values.

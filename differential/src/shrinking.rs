@@ -2,8 +2,9 @@
 
 use crate::call::Call;
 use crate::case::Case;
+use jogcairn::RECORD_SIZE;
 use oracle::word::WORD_LIMIT;
-use std::iter::{once, successors};
+use std::iter::successors;
 use std::ops::Range;
 
 /// The smallest case that is reached from this one by steps after each of which it still differs.
@@ -21,7 +22,8 @@ pub fn smallest(mut case: Case, differs: impl Fn(&Case) -> bool) -> Case {
 fn smaller_cases(case: &Case) -> impl Iterator<Item = Case> + '_ {
     shorter_cases(case)
         .chain(with_smaller_numbers(case))
-        .chain(shorter_cases(case).filter_map(with_number_before))
+        .chain(shorter_cases(case).filter_map(|case| with_number_before(case, 0)))
+        .chain(shorter_cases(case).filter_map(|case| with_number_before(case, 1)))
         .chain(simpler_cases(case))
 }
 
@@ -37,10 +39,20 @@ fn shorter_cases(case: &Case) -> impl Iterator<Item = Case> + '_ {
         .chain(shorter(&case.second).map(|second| Case { second, ..case.clone() }))
 }
 
-/// The bytes of a case with some less, of a book by whole records first.
+/// The bytes of a case with some less, of a book or a row by whole records first.
 fn shorter_bytes(case: &Case) -> impl Iterator<Item = Vec<u8>> + '_ {
     let book = book(case);
-    fewer_records(book).chain(shorter(&case.bytes)).chain(shorter_records(book))
+    let row = if case.call == Call::Write { &case.bytes[..] } else { &[] };
+    fewer_records(book)
+        .chain(fewer_syllables(row))
+        .chain(shorter(&case.bytes))
+        .chain(shorter_records(book))
+}
+
+/// The row without the records of some of its syllables.
+fn fewer_syllables(row: &[u8]) -> impl Iterator<Item = Vec<u8>> + '_ {
+    stretches(row.len() / RECORD_SIZE)
+        .map(|taken| without(row, taken.start * RECORD_SIZE..taken.end * RECORD_SIZE))
 }
 
 /// Cases of an add with as many values less as bytes of the book, so that a record that would end at
@@ -68,16 +80,17 @@ fn simpler_cases(case: &Case) -> impl Iterator<Item = Case> + '_ {
         .into_iter()
         .chain(simpler(&case.bytes, 0))
         .map(|bytes| Case { bytes, ..case.clone() })
+        .chain(with_bare_syllables(case))
         .chain(with_stored_word(case))
         .chain(with_simpler_words(case))
         .chain(simpler(&case.word, 0x1000).map(|word| Case { word, ..case.clone() }))
         .chain(simpler(&case.second, 0x1000).map(|second| Case { second, ..case.clone() }))
 }
 
-/// The case with the number before its first one: a shorter word has the same syllable there, and
+/// The case with the number before one of its own: a shorter word has the same syllable there, and
 /// a shorter outcome as much room.
-fn with_number_before(mut case: Case) -> Option<Case> {
-    case.numbers[0] = case.numbers[0].checked_sub(1)?;
+fn with_number_before(mut case: Case, which: usize) -> Option<Case> {
+    case.numbers[which] = case.numbers[which].checked_sub(1)?;
     Some(case)
 }
 
@@ -150,13 +163,22 @@ fn without_records_before(case: &Case) -> impl Iterator<Item = Case> + '_ {
     })
 }
 
-/// The letters of the word and of the first records of a case on a book.
+/// So many records of a book are looked at together.
+const FEW: usize = 4;
+
+/// The letters of each word of a case that has several: of two words, or of the word and of the first
+/// records of a book.
 fn letters(case: &Case) -> Vec<Vec<u8>> {
-    const FEW: usize = 4;
     let records = records(book(case)).into_iter().take(FEW);
     let records = records.map(|record| case.bytes[record.start + 7..record.end].to_vec());
-    let word = if book(case).is_empty() { &[] } else { &case.word[..] };
-    once(word.iter().map(|&value| value as u8).collect()).chain(records).collect()
+    let is_alone = book(case).is_empty() && case.second.is_empty();
+    let word = if is_alone { &[] } else { &case.word[..] };
+    let words = [word, &case.second].map(low_bytes);
+    words.into_iter().chain(records).collect()
+}
+
+fn low_bytes(word: &[u16]) -> Vec<u8> {
+    word.iter().map(|&value| value as u8).collect()
 }
 
 /// Where letters stand in words: so many before them, or so many behind them.
@@ -218,6 +240,42 @@ fn with_simpler_words(case: &Case) -> impl Iterator<Item = Case> + '_ {
     })
 }
 
+/// Cases in which one syllable is its head alone, the first, the second or another, in every word that
+/// has so many: so a final goes in whichever form each of them has it. Only for books of few records.
+fn with_bare_syllables(case: &Case) -> impl Iterator<Item = Case> + '_ {
+    let most = if records(book(case)).len() > FEW { 0 } else { WORD_LIMIT };
+    (0..most)
+        .map_while(move |number| {
+            let word = with_bare_syllable(&case.word, number)?;
+            let mut barer = Case { word, ..case.clone() };
+            if let Some(second) = with_bare_syllable(&case.second, number) {
+                barer.second = second;
+            }
+            // The last record first, so that those before it stay where they are.
+            for record in records(book(case)).into_iter().rev() {
+                let letters = record.start + 7..record.end;
+                let word = case.bytes[letters.clone()].iter().map(|&byte| 0x1000 + u16::from(byte));
+                let Some(word) = with_bare_syllable(&word.collect::<Vec<_>>(), number) else {
+                    continue;
+                };
+                barer.bytes[record.start + 2] = word.len() as u8;
+                barer.bytes.splice(letters, word.iter().map(|&value| value as u8));
+            }
+            Some(barer)
+        })
+        .filter(move |barer| barer != case)
+}
+
+/// The word with a head alone for the syllable of a number, if it has one.
+fn with_bare_syllable(word: &[u16], number: usize) -> Option<Vec<u16>> {
+    let reading = oracle::read(word).ok()?;
+    let mut records: Vec<_> = reading.syllables().iter().map(|one| one.record).collect();
+    records.get_mut(number)?[1..].fill(0);
+    let mut barer = [0; WORD_LIMIT];
+    let count = oracle::write(&records.concat(), &mut barer).ok()?;
+    Some(barer[..count].to_vec())
+}
+
 /// The case with the word of a book as it is stored, where it is typed otherwise.
 fn with_stored_word(case: &Case) -> Option<Case> {
     let mut stored = [0; WORD_LIMIT];
@@ -233,8 +291,10 @@ fn replaced(case: &Case, place: Place, letters: &[u8], by: Option<u8>) -> Case {
         let stretch = place.stretch(letters.len(), word.len())?;
         (word[stretch.clone()] == *letters).then_some(stretch)
     };
-    if let Some(stretch) = same(&case.word.iter().map(|&value| value as u8).collect::<Vec<_>>()) {
-        smaller.word.splice(stretch, by.map(|letter| 0x1000 + u16::from(letter)));
+    for word in [&mut smaller.word, &mut smaller.second] {
+        if let Some(stretch) = same(&low_bytes(word)) {
+            word.splice(stretch, by.map(|letter| 0x1000 + u16::from(letter)));
+        }
     }
     // The last record first, so that those before it stay where they are.
     for record in records(book(case)).into_iter().rev() {

@@ -7,7 +7,7 @@ use super::words::{self, valid};
 use crate::call::Call;
 use crate::case::Case;
 use oracle::book::BOOK_LIMIT;
-use oracle::lists::{row_of_length, shuffle_runs};
+use oracle::lists::{crowded, row_of_length, shuffle_runs};
 use oracle::random::Random;
 use oracle::word::WORD_LIMIT;
 
@@ -227,8 +227,10 @@ fn put_record(random: &mut Random, shelf: &Shelf, bytes: &mut [u8]) {
 
 /// Puts a word behind the last record that may be unreadable or in no storage order.
 fn put_record_as_typed(random: &mut Random, shelf: &Shelf, bytes: &mut [u8]) {
-    let mut word = valid(random);
-    shuffle_runs(random, &mut word);
+    let mut word = if random.chance(20) { crowded(random) } else { valid(random) };
+    if random.chance(60) {
+        shuffle_runs(random, &mut word);
+    }
     if random.chance(40) {
         words::damage(random, &mut word);
     }

@@ -12,9 +12,10 @@ use crate::case::Case;
 use crate::library::Library;
 use crate::outcome::{Answer, Outcome};
 use crate::reference::Reference;
-use jogcairn::KEY_SIZE;
+use jogcairn::{KEY_SIZE, RECORD_SIZE};
 use oracle::random::Random;
 use shelf::Shelf;
+use std::mem::swap;
 
 /// A maker of inputs.
 pub struct Cases {
@@ -23,10 +24,12 @@ pub struct Cases {
 }
 
 /// The calls on words and lines, each as often as it stands here.
-const WORD_CALLS: [Call; 22] = [
+const WORD_CALLS: [Call; 24] = [
     Call::Read,
     Call::Read,
     Call::Record,
+    Call::RecordBytes,
+    Call::RecordBytes,
     Call::Part,
     Call::Syllables,
     Call::Spell,
@@ -67,6 +70,9 @@ impl Cases {
         };
         if call.takes_two_words() {
             case.second = words::neighbour(&mut self.random, &case.word);
+            if self.random.chance(50) {
+                swap(&mut case.word, &mut case.second);
+            }
         }
         case.numbers = self.numbers(&case);
         case
@@ -82,10 +88,8 @@ impl Cases {
     fn numbers(&mut self, case: &Case) -> [usize; 2] {
         match case.call {
             Call::Key => [self.near(KEY_SIZE), 0],
-            Call::Record | Call::Part => {
-                let syllables = accepted(&Case { call: Call::Read, ..case.clone() })[0];
-                [self.number(syllables), 0]
-            }
+            Call::Record | Call::Part => [self.number(syllables(case)), 0],
+            Call::RecordBytes => [self.near(RECORD_SIZE), self.number(syllables(case))],
             Call::TypedPlace => {
                 let stored = Case { call: Call::StoredForm, numbers: [256; 2], ..case.clone() };
                 [self.number(accepted(&stored)[0]), 0]
@@ -121,6 +125,11 @@ fn near(random: &mut Random, needed: usize) -> usize {
         7 => 0,
         _ => random.below(needed + 1),
     }
+}
+
+/// How many syllables the word has; none where it is refused.
+fn syllables(case: &Case) -> usize {
+    accepted(&Case { call: Call::Read, ..case.clone() })[0]
 }
 
 /// The numbers with which the other implementation accepts a case; zeros where it does not.

@@ -22,7 +22,8 @@ pub fn query(random: &mut Random, shelf: &Shelf) -> Vec<u16> {
     }
     match random.below(10) {
         0 => words::damage(random, &mut query),
-        1..4 => shuffle_runs(random, &mut query),
+        1 => words::change_finals(random, &mut query),
+        2..4 => shuffle_runs(random, &mut query),
         _ => {}
     }
     query
@@ -64,13 +65,15 @@ fn first_syllables(random: &mut Random, word: &[u16]) -> Vec<u16> {
 /// A row of the same weights: finals in other forms, AA for tall AA, and independent vowels written
 /// as marks of 1021.
 fn of_equal_weights(random: &mut Random, word: &[u16]) -> Vec<u16> {
-    let mut spelled = [0; 190];
-    let lengths = oracle::spell_out(word, &mut spelled, &mut [0; WORD_LIMIT]);
-    let count = lengths.expect("a stored word").values;
+    let (mut spelled, mut starts) = ([0; 190], [0; WORD_LIMIT]);
+    let lengths = oracle::spell_out(word, &mut spelled, &mut starts).expect("a stored word");
+    let starts = &starts[..lengths.starts];
     let mut equal = Vec::new();
-    for &value in &spelled[..count] {
+    for (place, &value) in spelled[..lengths.values].iter().enumerate() {
         match value {
-            0x1000..=0x1020 => push_head(random, &mut equal, value),
+            0x1000..=0x1020 if starts.contains(&place) && !has_two_finals(&equal) => {
+                push_head(random, &mut equal, value);
+            }
             0x102B | 0x102C => equal.push(random.pick(&[0x102B, 0x102C])),
             0x1023..=0x102A if random.chance(50) => {
                 equal.push(0x1021);
@@ -80,6 +83,12 @@ fn of_equal_weights(random: &mut Random, word: &[u16]) -> Vec<u16> {
         }
     }
     equal
+}
+
+/// Whether the last syllable of a row has two finals, of which neither can stand on a letter.
+fn has_two_finals(row: &[u16]) -> bool {
+    let last = oracle::read(row).ok().and_then(|read| read.syllables().last().copied());
+    last.is_some_and(|last| last.record[5] > 0)
 }
 
 /// Puts a letter behind a row; a plain final before it may become one that stands on it.

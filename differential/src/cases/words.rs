@@ -2,7 +2,7 @@
 
 use oracle::formula::writings;
 use oracle::letters::{admitted_values, class_of, Class};
-use oracle::lists::{random_row, row_of_length, shuffle_runs, WITH_LETTER_U};
+use oracle::lists::{crowded, random_row, row_of_length, shuffle_runs, WITH_LETTER_U};
 use oracle::random::Random;
 use oracle::syllable::Piece;
 use oracle::word::WORD_LIMIT;
@@ -18,13 +18,14 @@ pub fn word(random: &mut Random) -> Vec<u16> {
         22..26 => long(random),
         26..31 => at_the_limit(random),
         31..43 => shuffled(random),
-        43..61 => damaged(random),
-        61..65 => markless(random),
-        65..72 => beginning(random),
-        72..76 => doubled(random),
-        76..82 => letter_u(random),
-        82..87 => loose_pieces(random),
-        87..91 => admitted(random),
+        43..58 => damaged(random),
+        58..63 => markless(random),
+        63..69 => crowded(random),
+        69..75 => beginning(random),
+        75..79 => doubled(random),
+        79..84 => letter_u(random),
+        84..88 => loose_pieces(random),
+        88..91 => admitted(random),
         91..96 => foreign(random),
         96..99 => any_values(random),
         _ => overlong(random),
@@ -46,9 +47,36 @@ pub fn neighbour(random: &mut Random, first: &[u16]) -> Vec<u16> {
                 }
             }
         }
+        8 => change_finals(random, &mut second),
         _ => second = word(random),
     }
     second
+}
+
+/// Where letters stand that have a killer each, one behind the other.
+fn two_killed(word: &[u16]) -> Vec<usize> {
+    let fits = |four: &[u16]| matches!(four, [0x1000..=0x1020, 0x103A, 0x1000..=0x1020, 0x103A]);
+    let places = word.windows(4).enumerate().filter(|(_, four)| fits(four));
+    places.map(|(place, _)| place).collect()
+}
+
+/// Exchanges two finals, leaves the second or the first one out, or has a vowel instead of the
+/// second; any other damage where no two stand together.
+pub fn change_finals(random: &mut Random, word: &mut Vec<u16>) {
+    let places = two_killed(word);
+    if places.is_empty() {
+        return damage(random, word);
+    }
+    let first = random.pick(&places);
+    match random.below(4) {
+        0 => word.swap(first, first + 2),
+        1 => drop(word.drain(first + 2..first + 4)),
+        2 => drop(word.drain(first..first + 2)),
+        _ => {
+            word.drain(first + 2..first + 4);
+            word.insert(first, random.pick(&[0x102C, 0x102D, 0x1036]));
+        }
+    }
 }
 
 /// A row of up to six syllables.
@@ -64,12 +92,14 @@ fn long(random: &mut Random) -> Vec<u16> {
 
 /// About 64 values, sometimes with an end that is not finished or that is stored shorter.
 fn at_the_limit(random: &mut Random) -> Vec<u16> {
-    let endings: [&[u16]; 6] = [
+    let endings: [&[u16]; 8] = [
         &[],
         &[],
         &[],
         &[0x1000, 0x1010, 0x1039],
         &[0x1000, 0x1004, 0x103A, 0x1039],
+        &[0x1018, 0x1010, 0x103A, 0x1005, 0x103A],
+        &[0x1018, 0x1010, 0x103A, 0x1005, 0x103A, 0x1019, 0x103A],
         &[0x1025, 0x102E],
     ];
     let ending = random.pick(&endings);
@@ -179,8 +209,13 @@ fn markless(random: &mut Random) -> Vec<u16> {
         Class::Stop,
     ]);
     word.push(random.pick(&of_class(class).collect::<Vec<u16>>()));
-    let behind =
-        [(Piece::MedialGroup, 15), (Piece::Vowel, 15), (Piece::Final, 70), (Piece::Tone, 50)];
+    let behind = [
+        (Piece::MedialGroup, 15),
+        (Piece::Vowel, 15),
+        (Piece::Final, 70),
+        (Piece::SecondFinal, 30),
+        (Piece::Tone, 50),
+    ];
     for (piece, percent) in behind {
         if random.chance(percent) {
             word.extend(any_writing(random, piece));
