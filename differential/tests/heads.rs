@@ -44,22 +44,22 @@ fn refused_with<'c>(case: &'c Case, outcome: &Outcome) -> Option<&'c [u16]> {
 fn independent_vowels_carry_finals_and_tones() {
     demand(&[
         ("a tone", |case, outcome| {
-            read_with(case, outcome, &INDEPENDENT, |record| record[5..] == [0, 2])
+            read_with(case, outcome, &INDEPENDENT, |record| record[5..] == [0, 0, 2])
         }),
         ("a plain final", |case, outcome| {
-            read_with(case, outcome, &INDEPENDENT, |record| record[5..] == [1, 0])
+            read_with(case, outcome, &INDEPENDENT, |record| record[5..] == [0, 1, 0])
         }),
         ("a plain final and a tone", |case, outcome| {
-            read_with(case, outcome, &INDEPENDENT, |record| record[5..] == [1, 1])
+            read_with(case, outcome, &INDEPENDENT, |record| record[5..] == [0, 1, 1])
         }),
         ("a stacked final", |case, outcome| {
-            read_with(case, outcome, &INDEPENDENT, |record| record[5] == 2 && record[4] != 5)
+            read_with(case, outcome, &INDEPENDENT, |record| record[6] == 2 && record[4] != 5)
         }),
         ("kinzi", |case, outcome| {
-            read_with(case, outcome, &INDEPENDENT, |record| record[4..6] == [5, 2])
+            read_with(case, outcome, &INDEPENDENT, |record| record[4..7] == [5, 0, 2])
         }),
         ("great sa", |case, outcome| {
-            read_with(case, outcome, &INDEPENDENT, |record| record[5] == 3)
+            read_with(case, outcome, &INDEPENDENT, |record| record[6] == 3)
         }),
         ("an open final", |case, outcome| {
             place_of(outcome, 4).is_some()
@@ -72,21 +72,21 @@ fn independent_vowels_carry_finals_and_tones() {
 fn the_one_sign_carries_finals_and_tones() {
     demand(&[
         ("a tone", |case, outcome| {
-            read_with(case, outcome, &[0x104E], |record| record[5..] == [0, 2])
+            read_with(case, outcome, &[0x104E], |record| record[5..] == [0, 0, 2])
         }),
         ("a plain final", |case, outcome| {
-            read_with(case, outcome, &[0x104E], |record| record[5..] == [1, 0])
+            read_with(case, outcome, &[0x104E], |record| record[5..] == [0, 1, 0])
         }),
         ("a plain final and a tone", |case, outcome| {
-            read_with(case, outcome, &[0x104E], |record| record[5..] == [1, 2])
+            read_with(case, outcome, &[0x104E], |record| record[5..] == [0, 1, 2])
         }),
         ("a stacked final", |case, outcome| {
-            read_with(case, outcome, &[0x104E], |record| record[5] == 2 && record[4] != 5)
+            read_with(case, outcome, &[0x104E], |record| record[6] == 2 && record[4] != 5)
         }),
         ("kinzi", |case, outcome| {
-            read_with(case, outcome, &[0x104E], |record| record[4..6] == [5, 2])
+            read_with(case, outcome, &[0x104E], |record| record[4..7] == [5, 0, 2])
         }),
-        ("great sa", |case, outcome| read_with(case, outcome, &[0x104E], |record| record[5] == 3)),
+        ("great sa", |case, outcome| read_with(case, outcome, &[0x104E], |record| record[6] == 3)),
         ("an open final", |case, outcome| {
             place_of(outcome, 4).is_some()
                 && matches!(case.word[..], [.., 0x104E, 0x1000..=0x1020, 0x1039])
@@ -172,7 +172,7 @@ fn the_letter_u_is_stored_otherwise_beside_heads_that_carry_finals() {
         }),
         ("1025 102E with a final behind", |case, outcome| {
             let stored = stored_otherwise(case, outcome);
-            stored.is_some_and(|stored| has(&stored, &[0x1026], |record| record[5] == 1))
+            stored.is_some_and(|stored| has(&stored, &[0x1026], |record| record[6] == 1))
                 && case.word.windows(2).any(|it| it == [0x1025, 0x102E])
         }),
         ("1025 before its own killer", |case, outcome| {
@@ -194,11 +194,13 @@ fn records_of_such_heads_are_written_and_refused() {
     demand(&[
         ("a final of an independent vowel", |case, outcome| {
             let written = records(case, outcome, 0);
-            written.iter().any(|record| matches!(record, [0x23..=0x2A, 0, 0, 0, 1..=33, 1..=3, 0]))
+            written
+                .iter()
+                .any(|record| matches!(record, [0x23..=0x2A, 0, 0, 0, 1..=33, 0, 1..=3, 0]))
         }),
         ("a final and a tone of the sign", |case, outcome| {
             let written = records(case, outcome, 0);
-            written.iter().any(|record| matches!(record, [0x4E, 0, 0, 0, 1..=33, 1, 1..=2]))
+            written.iter().any(|record| matches!(record, [0x4E, 0, 0, 0, 1..=33, 0, 1, 1..=2]))
         }),
         ("a medial of an independent vowel", |case, outcome| {
             let refused = records(case, outcome, 6);
@@ -211,7 +213,7 @@ fn records_of_such_heads_are_written_and_refused() {
         ("a final of what carries nothing", |case, outcome| {
             let refused = records(case, outcome, 6);
             refused.iter().any(|record| {
-                let [head, 0, 0, 0, 1..=33, 1, _] = *record else { return false };
+                let [head, 0, 0, 0, 1..=33, 0, 1, _] = *record else { return false };
                 carries_nothing(0x1000 + u16::from(head))
             })
         }),
@@ -225,17 +227,17 @@ fn books_have_words_of_such_heads() {
             matches!(outcome.answer, Answer::Accepted(_))
                 && case.call == Call::BookFind
                 && record(&case.bytes).is_some()
-                && has(&word(&case.bytes), &INDEPENDENT, |record| record[5] > 0)
+                && has(&word(&case.bytes), &INDEPENDENT, |record| record[6] > 0)
         }),
         ("added with a final", |case, outcome| {
             matches!(outcome.answer, Answer::Accepted(_))
                 && case.call == Call::BookAdd
-                && has(&case.word, &INDEPENDENT, |record| record[5] > 0)
+                && has(&case.word, &INDEPENDENT, |record| record[6] > 0)
         }),
         ("added, the sign with a tone", |case, outcome| {
             matches!(outcome.answer, Answer::Accepted(_))
                 && case.call == Call::BookAdd
-                && has(&case.word, &[0x104E], |record| record[6] > 0)
+                && has(&case.word, &[0x104E], |record| record[7] > 0)
         }),
         ("a record that is wrong by what its head carries", |case, outcome| {
             let wrong = place_of(outcome, 11).and_then(|place| case.bytes.get(place..));

@@ -31,8 +31,8 @@ fn a_wrong_place_is_found() {
 fn a_syllable_read_otherwise_is_found() {
     let found = finding(|case, outcome| {
         if let (Call::Record, Answer::Accepted(bytes)) = (case.call, &mut outcome.answer) {
-            if bytes[0] == 0x21 && bytes[6] == 2 {
-                bytes[6] = 1;
+            if bytes[0] == 0x21 && bytes[7] == 2 {
+                bytes[7] = 1;
             }
         }
     });

@@ -200,7 +200,7 @@ fn the_final_of_an_independent_vowel_lost_from_its_record_is_found() {
     let found = finding(|case, outcome| {
         if let (Call::Record, Answer::Accepted(bytes)) = (case.call, &mut outcome.answer) {
             if is_independent(0x1000 + bytes[0] as u16) {
-                bytes[4..6].fill(0);
+                bytes[4..7].fill(0);
             }
         }
     });
@@ -212,7 +212,7 @@ fn the_final_of_an_independent_vowel_lost_from_its_record_is_found() {
 fn the_vowel_of_an_independent_vowel_put_into_its_record_is_found() {
     let found = finding(|case, outcome| {
         if let (Call::Record, Answer::Accepted(bytes)) = (case.call, &mut outcome.answer) {
-            if is_independent(0x1000 + bytes[0] as u16) && bytes[5] > 0 {
+            if is_independent(0x1000 + bytes[0] as u16) && bytes[6] > 0 {
                 bytes[2] = 2;
             }
         }
@@ -226,7 +226,7 @@ fn weighed(case: &Case, outcome: &mut Outcome, fault: fn(&mut [u8])) {
     let Memory::Bytes(cells) = &mut outcome.lent[1] else { return };
     let stored = jogcairn::normalise(&case.word).unwrap();
     let syllables = jogcairn::read(&stored).unwrap();
-    for (syllable, weights) in syllables.zip(cells[MARGIN..].chunks_exact_mut(5)) {
+    for (syllable, weights) in syllables.zip(cells[MARGIN..].chunks_exact_mut(6)) {
         if is_independent(syllable.part[0]) && syllable.record.bytes()[4] > 0 {
             fault(weights);
         }
@@ -241,12 +241,12 @@ fn the_final_of_an_independent_vowel_lost_from_a_key_is_found() {
 
 #[test]
 fn the_vowel_of_an_independent_vowel_lost_before_a_final_is_found() {
-    let found = finding(|case, outcome| weighed(case, outcome, |weights| weights[3] = 0));
+    let found = finding(|case, outcome| weighed(case, outcome, |weights| weights[4] = 0));
     one_syllable_and_what_it_asks_for(&found);
 }
 
 /// Writes other records than those that are handed in.
-fn written_for(case: &Case, outcome: &mut Outcome, other: fn(&mut [u8; 7])) {
+fn written_for(case: &Case, outcome: &mut Outcome, other: fn(&mut [u8; 8])) {
     if case.call == Call::Write {
         let mut bytes = case.bytes.clone();
         bytes.as_chunks_mut().0.iter_mut().for_each(other);
@@ -265,7 +265,7 @@ fn an_independent_vowel_written_without_its_vowel_is_found() {
             }
         });
     });
-    let [head, 0, _, 0, _, _, 0] = found.case.bytes[..] else { panic!("{}", found.case) };
+    let [head, 0, _, 0, _, _, _, 0] = found.case.bytes[..] else { panic!("{}", found.case) };
     assert!(is_independent(0x1000 + u16::from(head)), "{}", found.case);
     assert_eq!(found.difference.reference.answer, refused(6, 0));
 }
@@ -274,12 +274,12 @@ fn an_independent_vowel_written_without_its_vowel_is_found() {
 fn another_sign_written_without_its_final_is_found() {
     let found = finding(|case, outcome| {
         written_for(case, outcome, |record| {
-            if matches!(record[0], 0x4C | 0x4D | 0x4F) && record[5] == 1 {
-                record[4..6].fill(0);
+            if matches!(record[0], 0x4C | 0x4D | 0x4F) && record[6] == 1 {
+                record[4..7].fill(0);
             }
         });
     });
-    let [_, 0, 0, 0, _, 1, 0] = found.case.bytes[..] else { panic!("{}", found.case) };
+    let [_, 0, 0, 0, _, _, 1, 0] = found.case.bytes[..] else { panic!("{}", found.case) };
     assert_eq!(found.difference.reference.answer, refused(6, 0));
 }
 

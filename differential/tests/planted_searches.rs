@@ -1,64 +1,17 @@
 //! Searches by first syllables that are planted wrong must be found, and made as small as they can be.
 
 mod faults;
+mod searching;
 
-use differential::{
-    run, Answer, Call, Case, Finding, Lent, Library, Memory, Outcome, Reference, MARGIN,
-};
+use differential::{run, Answer, Call, Case, Finding, Library, Memory, Outcome, Reference, MARGIN};
 use faults::finding;
 use jogcairn::Key;
-
-/// A record of a book.
-struct Record {
-    start: u16,
-    word: Vec<u16>,
-    live: bool,
-}
-
-/// All records of a book, in word order.
-fn records(book: &[u8]) -> Vec<Record> {
-    let mut records = Vec::new();
-    let mut start = 0;
-    while let Some((word, told)) = jogcairn::book::word_at(book, start).unwrap() {
-        records.push(Record { start: start as u16, live: told.live, word });
-        start += 7 + told.count;
-    }
-    records.sort_by(|first, second| jogcairn::compare(&first.word, &second.word).unwrap());
-    records
-}
+use searching::{give, is_search, records, search_by};
 
 /// Whether the weights of a word begin with those of the query.
 fn fits(word: &[u16], query: &[u16]) -> bool {
     let rows = |word| Key::of(word).unwrap().rows().collect::<Vec<_>>();
     rows(word).starts_with(&rows(query))
-}
-
-/// Answers a search by another rule: the records that it keeps, in word order.
-fn search_by(case: &Case, outcome: &mut Outcome, rule: fn(&Record, &[u16]) -> bool) {
-    if !is_search(case, outcome) {
-        return;
-    }
-    let query = jogcairn::normalise(&case.word).unwrap();
-    let kept = records(&case.bytes).into_iter().filter(|record| rule(record, &query));
-    give(case, outcome, &kept.map(|record| record.start).collect::<Vec<u16>>());
-}
-
-/// Whether the answer is that of a search: neither the query nor the buffer is refused.
-fn is_search(case: &Case, outcome: &Outcome) -> bool {
-    case.call == Call::BookFindPrefix && matches!(outcome.answer.tag(), Some(0 | 5))
-}
-
-/// Gives these starts for an answer.
-fn give(case: &Case, outcome: &mut Outcome, starts: &[u16]) {
-    let mut output = Lent::output(case.numbers[0]);
-    outcome.answer = match output.inside_mut().get_mut(..starts.len()) {
-        None => Answer::Refused { number: 5, place: starts.len(), which: 0 },
-        Some(front) => {
-            front.copy_from_slice(starts);
-            Answer::Accepted(vec![starts.len() as u64])
-        }
-    };
-    outcome.lent[2] = output.after();
 }
 
 /// The starts at the front of a list that a search gave.

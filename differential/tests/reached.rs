@@ -4,7 +4,7 @@ mod kinds;
 
 use differential::cases::Cases;
 use differential::{Answer, Call, Case, Library, Outcome, Reference};
-use jogcairn::{BOOK_LIMIT, WORD_LIMIT};
+use jogcairn::{BOOK_LIMIT, KEY_SIZE, RECORD_SIZE, WORD_LIMIT};
 use kinds::{demand, place_of, record, word, INPUTS};
 use std::collections::BTreeSet;
 
@@ -345,7 +345,10 @@ fn outputs_come_in_every_length_from_none_to_enough() {
             }
         }
     }
-    assert!((0..=321).all(|room| rooms_for_keys.contains(&room)));
+    assert!((0..=KEY_SIZE + 1).all(|room| rooms_for_keys.contains(&room)));
+    for room in 0..=RECORD_SIZE + 1 {
+        assert!(rooms.contains(&(Call::RecordBytes, RECORD_SIZE as u64, room)), "{room}");
+    }
 }
 
 /// The room that is needed and the room that there is, by call; and the rooms for keys.

@@ -1,6 +1,7 @@
 //! Every short word and every small book, none left out.
 
 use differential::{difference, Call, Case, Proved, Reference};
+use jogcairn::KEY_SIZE;
 
 /// One value or more of each kind: those that the rules name, and one of the others.
 const REPRESENTATIVES: [u16; 26] = [
@@ -15,6 +16,10 @@ const MADE_INTO_FINALS: [u16; 12] = [
     0x1000, 0x1004, 0x1009, 0x1025, 0x104C, 0x104E, 0x102E, 0x1038, 0x1039, 0x103A, 0x103B, 0x103F,
 ];
 
+/// What two finals are made of, a tone, and what comes near to a second final: a stacked one, kinzi,
+/// and a head that takes no marks.
+const MADE_INTO_TWO_FINALS: [u16; 6] = [0x1000, 0x1004, 0x1025, 0x1038, 0x1039, 0x103A];
+
 /// Demands that both libraries have the same outcome.
 fn demand_agreement(case: &Case) {
     assert!(difference(&Proved, &Reference, case).is_none(), "{case}");
@@ -22,7 +27,7 @@ fn demand_agreement(case: &Case) {
 
 /// Tries each word of so many of the values, with room for whatever is written.
 fn try_all(values: &[u16], length: usize, call: Call) {
-    try_all_at(values, length, call, [320, 64]);
+    try_all_at(values, length, call, [KEY_SIZE, 64]);
 }
 
 /// Tries each word of so many of the values, with these numbers.
@@ -78,6 +83,38 @@ fn every_word_of_five_values_that_are_made_into_finals() {
     }
 }
 
+/// Seven values hold a third final behind two.
+#[test]
+fn every_word_of_six_and_seven_values_that_are_made_into_two_finals() {
+    for length in 6..=7 {
+        for call in [Call::Syllables, Call::Spell, Call::Key] {
+            try_all(&MADE_INTO_TWO_FINALS, length, call);
+        }
+    }
+}
+
+/// Numbers of a final: none, letters, kinzi's and 103F's among them, the last and one beyond.
+const FINALS: [u8; 6] = [0, 1, 5, 31, 33, 34];
+
+/// Two numbers of finals with every link and tone, on a head of each kind and before what a link asks
+/// for or does not.
+#[test]
+fn every_record_of_two_finals() {
+    let next: [&[u8]; 4] =
+        [&[], &[0; 8], &[0x1E, 0, 0, 0, 0, 0, 0, 0], &[0x25, 0, 0, 0, 1, 1, 1, 2]];
+    for head in [0x00, 0x1E, 0x21, 0x25, 0x40, 0x4A, 0x4C, 0x4E] {
+        for (first, second) in FINALS.iter().flat_map(|one| FINALS.map(|other| (*one, other))) {
+            for (link, tone) in (0..5).flat_map(|link| (0..4).map(move |tone| (link, tone))) {
+                for next in next {
+                    let record = [head, 0, 0, 0, first, second, link, tone];
+                    let write = Case::of_bytes(Call::Write, [&record, next].concat());
+                    demand_agreement(&Case { numbers: [64, 0], ..write });
+                }
+            }
+        }
+    }
+}
+
 #[test]
 fn every_place_of_every_word_of_up_to_three_values() {
     for place in 0..=3 {
@@ -88,7 +125,7 @@ fn every_place_of_every_word_of_up_to_three_values() {
 }
 
 /// Words that begin alike in one way or another; each third one is removed.
-const BOOKED: [&[u16]; 32] = [
+const BOOKED: [&[u16]; 38] = [
     &[0x1000],
     &[0x1000, 0x1000],
     &[0x1000, 0x1000, 0x1000],
@@ -96,6 +133,9 @@ const BOOKED: [&[u16]; 32] = [
     &[0x1000, 0x1000, 0x103A, 0x1000],
     &[0x1000, 0x1000, 0x1039, 0x1000],
     &[0x1000, 0x1000, 0x1039, 0x1000, 0x102C],
+    &[0x1000, 0x1000, 0x103A, 0x1000, 0x103A],
+    &[0x1000, 0x1000, 0x103A, 0x1000, 0x103A, 0x1038],
+    &[0x1000, 0x1000, 0x103A, 0x1004, 0x103A, 0x1000],
     &[0x1000, 0x1004, 0x103A],
     &[0x1000, 0x1004, 0x103A, 0x1039, 0x1000],
     &[0x1000, 0x1004, 0x103A, 0x1039, 0x101E],
@@ -116,6 +156,9 @@ const BOOKED: [&[u16]; 32] = [
     &[0x1025, 0x1000, 0x103A],
     &[0x1025, 0x1000, 0x1039, 0x1000],
     &[0x1025, 0x1004, 0x103A, 0x1039, 0x1000],
+    &[0x1025, 0x1000, 0x103A, 0x1000, 0x103A],
+    &[0x1021, 0x102F, 0x1000, 0x103A, 0x1000, 0x103A, 0x1000],
+    &[0x1000, 0x102C, 0x1000, 0x103A],
     &[0x1021, 0x102F, 0x1000, 0x103A],
     &[0x1026],
     &[0x1040, 0x1040],
@@ -142,6 +185,9 @@ fn every_query_of_up_to_two_values_and_of_three_representatives() {
         try_all_in(&values(), length, &case);
     }
     try_all_in(&REPRESENTATIVES, 3, &case);
+    for length in 4..=5 {
+        try_all_in(&MADE_INTO_TWO_FINALS, length, &case);
+    }
 }
 
 #[test]

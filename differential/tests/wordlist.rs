@@ -16,13 +16,13 @@ const SILENCE: Duration = Duration::from_millis(200);
 
 /// The three lines that document 01 gives with their answers: a word, a refused one, an empty one.
 const LINES: [(&str, &str); 3] = [
-    ("တက္ကသိုလ်\n", "1 OK 3 1D00010000-0D00000000-2B001D0B00\n"),
+    ("တက္ကသိုလ်\n", "1 OK 3 1D0001000000-0D0000000000-2B001D000B00\n"),
     ("က္\n", "2 NO 3 1\n"),
     ("\n", "3 OK 0 -\n"),
 ];
 
-/// A last line, which only the end of the input ends.
-const LAST: (&str, &str) = ("ပန်ကာ", "4 OK 2 2200150000-0D00000100\n");
+/// A last line, which only the end of the input ends: its first syllable has two finals.
+const LAST: (&str, &str) = ("ဘတ်စ်ကား", "4 OK 2 250011060000-0D0000000102\n");
 
 /// A program that runs, until it is dropped.
 struct Talk {
