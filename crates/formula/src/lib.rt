@@ -44,14 +44,15 @@ impl Word {
         Window {
             count: 0,
             last: 0,
-            before: 0,
+            joined: 0,
         }
     }
 }
 
-// How far a word is read: the number of its syllables so far, the last of them, and the one before it, each packed in one number.
+// How far a word is read: the number of its syllables so far; the last of them, packed in one number; and the one before it, with the last head as
+// its final and the link left out.
 pub struct Window {
     pub count: usize,
     pub last: u64,
-    pub before: u64,
+    pub joined: u64,
 }

@@ -3,11 +3,10 @@
 use mathlib.Core.Path.{_≡_, refl, ap, sym, subst, _∙_}
 use mathlib.Core.List.{List, [], _++_, reverse, reverse-reverse}
 use mathlib.Core.Option.{none, some, Option·some-injective}
-use Prim.Native.Nat.{ℕ, _+_, _-_, _*_, _/_, _%_, _^_, _≤_, _<_}
+use Prim.Native.Nat.{ℕ, _+_, _-_, _/_, _%_, _≤_, _<_}
 use native.Mathlib.Omega.{arith}
 use lib.ListN.{length, getD, length-reverse}
 use lib.Seq.{take-all}
-use Rattle.letters.specs.Letters.{kindOf}
 use Rattle.formula.specs.Limits.{limit}
 use Rattle.formula.specs.Row.{Row, Gives, Viable}
 use Rattle.formula.specs.Packed.{unread}
@@ -16,11 +15,11 @@ use Rattle.refusals.specs.Outcome.{Outcome, accepts, accepts-both, absent, refu
 use Rattle.rows.specs.Machine.{KeptOk, step, run}
 use Rattle.rows.proofs.Viable.{read-back, stops}
 use Rattle.transitions.specs.State.{stateCount}
-use Rattle.transitions.specs.Transition.{byteOf}
+use Rattle.transitions.specs.Transition.{Makes}
 use Rattle.transitions.specs.Tables.{entryOf, gainOf}
 use Rattle.transitions.proofs.Entered.{Moves}
-use Rattle.syllables.specs.Window.{Fit, WindowOf}
-use Rattle.syllables.proofs.Moved.{window-moves, window-fits}
+use Rattle.syllables.specs.Window.{closedBy, Fit, WindowOf}
+use Rattle.syllables.proofs.Moved.{window-moves, closed-below, window-fits}
 use Rattle.recogniser.specs.Walked.{WalkStopped}
 use Rattle.recogniser.proofs.Kept.{kept-right}
 use Rattle.recogniser.proofs.Answered.{row-viable}
@@ -34,7 +33,7 @@ pub at-start : (word : List ℕ) → Filled word 0 0 unread (zeros keyLimit)
 at-start word =
     record {
       walked = record { kept = []; came = refl; state-is = refl; count-is = refl };
-      window-of = record { count = refl; last = refl; before = λ _. refl };
+      window-of = record { count = refl; last = refl; joined = λ _. tt };
       key-of = key-start;
     }
 
@@ -60,19 +59,19 @@ module _ {word : List ℕ} {at state : ℕ} {window : Window} {bytes : List ℕ}
     after-ok : KeptOk (moves .after)
     after-ok = kept-right word (at + 1) (moves .after) (moved-on word at state (window .count) (r .walked) entry e inside n) .0
 
-    gained : gain ≡ moves .amount * 2 ^ (8 * byteOf (kindOf (getD word at 0)))
-    gained = q ∙ moves .gain-is
+    makes : Makes (getD word at 0) (entry / 32) gain kept (moves .after)
+    makes = rw q (moves .makes)
 
     room : length kept < limit
     room = let b = within in omega (arith, r .walked .count-is)
 
     pub fits : Fit (entry / 32) gain (getD word at 0) window
-    fits = window-fits window (moves .makes) gain gained (moves .begins-is) kept-ok after-ok (let h = room in omega arith) (r .window-of)
+    fits = window-fits window makes (moves .begins-is) kept-ok after-ok (let h = room in omega arith) (r .window-of)
 
     pub next : (after : Window) (new : List ℕ) → Advanced (entry / 32) gain (getD word at 0) window bytes after new
         → Filled word (at + 1) (entry % 32) after new
     next after new a =
-        let o = subst (WindowOf (moves .after)) (sym (a .moved)) (window-moves window (moves .makes) gain gained kept-ok (r .window-of)) in
+        let o = subst (WindowOf (moves .after)) (sym (a .moved)) (window-moves window makes kept-ok (r .window-of)) in
         record {
           walked =
               record {
@@ -84,8 +83,8 @@ module _ {word : List ℕ} {at state : ℕ} {window : Window} {bytes : List ℕ}
           window-of = o;
           key-of =
               subst (KeyOf (moves .after))
-              (sym (a .put ∙ ap (λ (k : ℕ). bytesAfter (entry / 32) k (after .before) bytes) (r .walked .count-is)))
-              (key-moves bytes (after .before) (moves .makes) after-ok room (o .before) (r .key-of));
+              (sym (a .put ∙ ap (λ (k : ℕ). bytesAfter (entry / 32) k (closedBy (getD word at 0) (window .last)) bytes) (r .walked .count-is)))
+              (key-moves bytes (closedBy (getD word at 0) (window .last)) makes after-ok room (λ d. closed-below window makes d (r .window-of)) (r .key-of));
         }
 
   -- where a value is refused

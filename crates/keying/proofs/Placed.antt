@@ -12,13 +12,13 @@ use lib.Seq.{take-at, drop-at, drop-append-add, sets, sets-eq, length-sets}
 use Rattle.letters.specs.Choice.{pick}
 use Rattle.letters.proofs.Branches.{when-equal, when-unequal}
 use Rattle.formula.specs.Limits.{limit, weightCount}
-use Rattle.formula.specs.Syllable.{no-final, plain, plain-pair, great-sa, Syllable, syllable, bare, finalOf, isNoFinal, isSyllable}
+use Rattle.formula.specs.Syllable.{no-final, great-sa, Syllable, syllable, bare, finalOf, isNoFinal, isSyllable}
 use Rattle.formula.specs.Row.{Row}
-use Rattle.formula.specs.Packed.{packed, packedTop, packedBelow}
+use Rattle.formula.specs.Packed.{packed, packedTop}
 use Rattle.formula.specs.Weighing.{weightsOf}
 use Rattle.rows.specs.Machine.{endOf, KeptOk}
-use Rattle.transitions.specs.Transition.{finalBy, Makes, begins, begins-great-sa, adds-medial, adds-vowel, adds-tone, makes-kinzi, closes, closes-second}
-use Rattle.syllables.proofs.Moved.{closed-final}
+use Rattle.transitions.specs.Transition.{Makes, begins, begins-great-sa, adds-medial, adds-vowel, adds-tone, makes-kinzi, closes}
+use Rattle.syllables.proofs.Moved.{made-final}
 use Rattle.weighing.specs.Keys.{keyLimit, usedBytes, zeros, keyOf}
 use Rattle.keying.specs.Weights.{weightsBy}
 use Rattle.syllables.specs.Window.{belowLast}
@@ -133,13 +133,13 @@ module _ (bytes : List ℕ) (p : ℕ) where
   pushed y (s ∷ rest) o h e k = begun y s s rest bytes k (o .1) h p e
 
   -- the bytes after the value are those of the new row, where the syllable below the last is put
-  pub key-moves : {x byte d a : ℕ} {kept b : Row} → Makes x byte d a kept b → KeptOk b → length kept < limit
-      → (T (isNoFinal (endOf b)) → p ≡ packedBelow b) → KeyOf kept bytes → KeyOf b (bytesAfter d (length kept) p bytes)
+  pub key-moves : {x d g : ℕ} {kept b : Row} → Makes x d g kept b → KeptOk b → length kept < limit
+      → (d ≡ 2 → p ≡ packedTop (belowLast b)) → KeyOf kept bytes → KeyOf b (bytesAfter d (length kept) p bytes)
   key-moves {x} {kept = kept} (begins i) o h e k =
-      subst (KeyOf (bare x ∷ kept)) (is-begun 2 (length kept) p bytes refl) (pushed (bare x) kept (o .2) h (e tt) k)
+      subst (KeyOf (bare x ∷ kept)) (is-begun 2 (length kept) p bytes refl) (pushed (bare x) kept (o .2) h (e refl) k)
   key-moves (begins-great-sa {h = g} {m = m} {v = v} {t = t} {kept = kept} y) o h e k =
       subst (KeyOf (bare 0x101E ∷ syllable g m v great-sa t ∷ kept)) (is-begun 2 (suc (length kept)) p bytes refl)
-      (begun (bare 0x101E) (syllable g m v no-final t) (syllable g m v great-sa t) kept bytes k (o .2 .1) h p (e tt))
+      (begun (bare 0x101E) (syllable g m v no-final t) (syllable g m v great-sa t) kept bytes k (o .2 .1) h p (e refl))
   key-moves {kept = kept} {b} (adds-medial i) o h e k =
       subst (KeyOf b) (not-begun 1 (length kept) p bytes (λ (z : 1 ≡ 2). omega arith)) (changed _ _ _ bytes (λ t. t) k)
   key-moves {kept = kept} {b} (adds-vowel i) o h e k =
@@ -148,12 +148,8 @@ module _ (bytes : List ℕ) (p : ℕ) where
       subst (KeyOf b) (not-begun 1 (length kept) p bytes (λ (z : 1 ≡ 2). omega arith)) (changed _ _ _ bytes (λ t. t) k)
   key-moves {kept = kept} {b} makes-kinzi o h e k =
       subst (KeyOf b) (not-begun 1 (length kept) p bytes (λ (z : 1 ≡ 2). omega arith)) (changed _ _ _ bytes (λ t. absurd t) k)
-  key-moves {x} {kept = kept} {b} (closes {c = c} {h = g} {m = m} {v = v} {t = t} {kept = rest} l) o h e k =
-      subst (KeyOf b) (not-begun 0 (length kept) p bytes (λ (z : 0 ≡ 2). omega arith))
-      (closed (bare c) (syllable g m v no-final t) (syllable g m v (finalBy x c) t) rest bytes tt (closed-final x c) k)
-  key-moves {x} {kept = kept} {b} (closes-second {b = f} {c = c} {h = g} {m = m} {v = v} {t = t} {kept = rest} y l) o h e k =
-      subst (KeyOf b) (not-begun 0 (length kept) p bytes (λ (z : 0 ≡ 2). omega arith))
-      (closed (bare c) (syllable g m v (plain f) t) (syllable g m v (plain-pair f c) t) rest bytes tt (λ z. z) k)
+  key-moves {kept = kept} {b} (closes l j i) o h e k =
+      subst (KeyOf b) (not-begun 0 (length kept) p bytes (λ (z : 0 ≡ 2). omega arith)) (closed _ _ _ _ bytes tt (made-final j) k)
 
 -- at the end of the word
 pub key-end : (kept : Row) (bytes : List ℕ) (p : ℕ) → KeptOk kept → p ≡ packedTop kept → KeyOf kept bytes

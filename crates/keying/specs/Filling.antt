@@ -1,4 +1,4 @@
--- The last two syllables and the bytes of the key, as the pass over a word has them. Inner contracts cite it; no public promise does.
+-- The last syllable and the bytes of the key, as the pass over a word has them. Inner contracts cite it; no public promise does.
 -- Assumes nothing.
 use mathlib.Core.Path.{_≡_}
 use mathlib.Core.List.{List, [], _∷_, _++_}
@@ -13,7 +13,7 @@ use Rattle.formula.specs.Row.{Row}
 use Rattle.formula.specs.Weighing.{weightsOf}
 use Rattle.formula.specs.declared.Window.{Window}
 use Rattle.rows.specs.Machine.{endOf}
-use Rattle.syllables.specs.Window.{windowAfter, WindowOf, belowLast}
+use Rattle.syllables.specs.Window.{closedBy, windowAfter, WindowOf, belowLast}
 use Rattle.recogniser.specs.Walked.{Walked}
 use Rattle.weighing.specs.Keys.{keyLimit, zeros, usedBytes}
 use Rattle.keying.specs.Weights.{weightsBy}
@@ -29,7 +29,7 @@ bytesAfter d count packed bytes = pick (eqb d 2) (putLast count packed bytes) by
 -- what a value that makes d syllables more, less 1, and adds g does to the window and to the bytes
 pub record Advanced (d g x : ℕ) (window : Window) (bytes : List ℕ) (after : Window) (new : List ℕ) : Type 0 where
   pub moved : after ≡ windowAfter d g x window
-  pub put : new ≡ bytesAfter d (window .count) (after .before) bytes
+  pub put : new ≡ bytesAfter d (window .count) (closedBy x (window .last)) bytes
 
 -- the weights of what is kept, in the word's order
 abbrev pub keptKey : Row → List ℕ

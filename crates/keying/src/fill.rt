@@ -6,6 +6,7 @@ use letters::weight::medial_weights;
 use recogniser::walk::answer_at;
 use refusals::Counted;
 use refusals::Refusal;
+use syllables::window::closed_by;
 use syllables::window::window_after;
 use transitions::classes::begins;
 use transitions::tables::Rules;
@@ -46,7 +47,7 @@ fn advance(
 {
     let after = window_after(window, change, gain, x);
     if begins(x) {
-        put_last(bytes, window.count, after.before, medials);
+        put_last(bytes, window.count, closed_by(x, window.last), medials);
         return after;
     }
     after

@@ -11,14 +11,14 @@ use lib.Seq.{set-at, append-snoc}
 use Rattle.formula.specs.Limits.{limit}
 use Rattle.formula.specs.Syllable.{no-final, great-sa, Syllable, syllable, bare, finalOf, isNoFinal, headText}
 use Rattle.formula.specs.Row.{Row}
-use Rattle.formula.specs.Packed.{packed, unread}
+use Rattle.formula.specs.Packed.{packed, packedTop, unread}
 use Rattle.formula.specs.declared.Window.{Window}
 use Rattle.rows.specs.Machine.{endOf, KeptOk, keptJoin, step, run}
 use Rattle.transitions.specs.Tables.{entryOf, gainOf}
-use Rattle.transitions.specs.Transition.{Makes, begins, begins-great-sa, adds-medial, adds-vowel, adds-tone, makes-kinzi, closes, closes-second}
-use Rattle.transitions.proofs.Entered.{Moves, makes-length}
-use Rattle.syllables.specs.Window.{windowAfter, Fit, WindowOf}
-use Rattle.syllables.proofs.Moved.{closed-final, window-moves, window-fits}
+use Rattle.transitions.specs.Transition.{Makes, begins, begins-great-sa, adds-medial, adds-vowel, adds-tone, makes-kinzi, closes}
+use Rattle.transitions.proofs.Entered.{Moves}
+use Rattle.syllables.specs.Window.{closedBy, windowAfter, Fit, WindowOf, belowLast}
+use Rattle.syllables.proofs.Moved.{made-final, window-moves, closed-below, window-fits}
 use Rattle.recogniser.proofs.Kept.{kept-right, count-bound}
 use Rattle.recogniser.proofs.Walking.{moved, moved-on}
 use Rattle.reading.specs.Scanned.{keptPacked, keptStarts, SyllablesOf, StartsOf, ArraysOf, Reached}
@@ -88,28 +88,27 @@ closed s t u a l k n f o =
     }
 
 -- no syllable begins, and the arrays stay
-stays : {x byte d a : ℕ} {kept b : Row} (l k : List ℕ) → Makes x byte d a kept b → (d ≡ 2 → ⊥) → ArraysOf kept l k → ArraysOf b l k
+stays : {x d g : ℕ} {kept b : Row} (l k : List ℕ) → Makes x d g kept b → (d ≡ 2 → ⊥) → ArraysOf kept l k → ArraysOf b l k
 stays l k (begins h) n o = absurd (n refl)
 stays l k (begins-great-sa y) n o = absurd (n refl)
 stays l k (adds-medial e) n o = changed _ _ _ l k (λ t. t) o
 stays l k (adds-vowel e) n o = changed _ _ _ l k (λ t. t) o
 stays l k (adds-tone e) n o = changed _ _ _ l k (λ t. t) o
 stays l k makes-kinzi n o = changed _ _ _ l k (λ t. absurd t) o
-stays {x} l k (closes {c = c} i) n o = closed _ _ _ _ l k tt (closed-final x c) o
-stays l k (closes-second y i) n o = closed _ _ _ _ l k tt (λ t. t) o
+stays l k (closes i j e) n o = closed _ _ _ _ l k tt (made-final j) o
 
-module _ (at : ℕ) (w : Window) where
+module _ (at count last : ℕ) where
   -- a syllable begins: the one before it is finished
-  finished : (h : ℕ) (kept : Row) (l : List ℕ) → length kept < limit → WindowOf (bare h ∷ kept) w → SyllablesOf kept l
-      → SyllablesOf (bare h ∷ kept) (set l (w .count - 2) (w .before))
-  finished h [] l r v o =
-      let e : 1 - 2 ≡ 0 = omega arith in
-      rw (v .count, v .before tt, e) (record { place = 0; rest = o .rest; is = first-put l o; size = o .size; fresh = λ _. refl })
-  finished h (t ∷ a) l r v o =
-      let i : suc (suc (length a)) - 2 ≡ length a = omega arith in
+  finished : (h : ℕ) (kept : Row) (l : List ℕ) → length kept < limit → count ≡ length kept → last ≡ packedTop kept → SyllablesOf kept l
+      → SyllablesOf (bare h ∷ kept) (set l (count - 1) last)
+  finished h [] l r c p o =
+      let e : 0 - 1 ≡ 0 = omega arith in
+      rw (c, p, e) (record { place = 0; rest = o .rest; is = first-put l o; size = o .size; fresh = λ _. refl })
+  finished h (t ∷ a) l r c p o =
+      let i : suc (length a) - 1 ≡ length a = omega arith in
       let z = o .size in
       let e : o .rest ≡ suc (o .rest - 1) = omega arith in
-      rw (v .count, v .before tt, i)
+      rw (c, p, i)
       (record {
         place = 0;
         rest = o .rest - 1;
@@ -119,16 +118,15 @@ module _ (at : ℕ) (w : Window) where
       })
 
   -- and its place is where the values so far end
-  started : (h : ℕ) (kept : Row) (k : List ℕ) → length kept < limit → length (keptJoin (bare h ∷ kept)) ≡ suc at → WindowOf (bare h ∷ kept) w
-      → StartsOf kept k → StartsOf (bare h ∷ kept) (set k (w .count - 1) at)
-  started h kept k r j v o = go (o .rest) (o .is) (o .size)
+  started : (h : ℕ) (kept : Row) (k : List ℕ) → length kept < limit → length (keptJoin (bare h ∷ kept)) ≡ suc at → count ≡ length kept
+      → StartsOf kept k → StartsOf (bare h ∷ kept) (set k count at)
+  started h kept k r j c o = go (o .rest) (o .is) (o .size)
     where
-      go : (rest : List ℕ) → k ≡ keptStarts kept ++ rest → length kept + length rest ≡ limit → StartsOf (bare h ∷ kept) (set k (w .count - 1) at)
+      go : (rest : List ℕ) → k ≡ keptStarts kept ++ rest → length kept + length rest ≡ limit → StartsOf (bare h ∷ kept) (set k count at)
       go [] e z = let no : ⊥ = omega arith in absurd no
       go (y ∷ rest) e z =
-          let i : suc (length kept) - 1 ≡ length kept = omega arith in
           let p : length (keptJoin kept) ≡ at = omega (arith, length-append (keptJoin kept) (headText (endOf kept) h ∷ [])) in
-          rw (v .count, i, e)
+          rw (c, e)
           (record {
             rest = rest;
             is =
@@ -137,26 +135,25 @@ module _ (at : ℕ) (w : Window) where
             size = omega arith;
           })
 
-  begun : {x byte d a : ℕ} {kept b : Row} (l k : List ℕ) → Makes x byte d a kept b → d ≡ 2 → length kept < limit → length (keptJoin b) ≡ suc at
-      → WindowOf b w → ArraysOf kept l k → ArraysOf b (set l (w .count - 2) (w .before)) (set k (w .count - 1) at)
-  begun {x} {kept = kept} l k (begins h) e r j v o =
-      record { syllables-of = finished x kept l r v (o .syllables-of); starts-of = started x kept k r j v (o .starts-of) }
-  begun l k (begins-great-sa {h = h} {m = m} {v = u} {t = t} {kept = a} y) e r j v o =
-      let p = changed (syllable h m u no-final t) (syllable h m u great-sa t) a l k (λ n. absurd n) o in
-      record { syllables-of = finished 0x101E _ l r v (p .syllables-of); starts-of = started 0x101E _ k r j v (p .starts-of) }
-  begun l k (adds-medial i) e r j v o = let no : ⊥ = omega arith in absurd no
-  begun l k (adds-vowel i) e r j v o = let no : ⊥ = omega arith in absurd no
-  begun l k (adds-tone i) e r j v o = let no : ⊥ = omega arith in absurd no
-  begun l k makes-kinzi e r j v o = let no : ⊥ = omega arith in absurd no
-  begun l k (closes i) e r j v o = let no : ⊥ = omega arith in absurd no
-  begun l k (closes-second y i) e r j v o = let no : ⊥ = omega arith in absurd no
+  begun : {x d g : ℕ} {kept b : Row} (l k : List ℕ) → Makes x d g kept b → d ≡ 2 → length kept < limit → length (keptJoin b) ≡ suc at
+      → count ≡ length kept → last ≡ packedTop (belowLast b) → ArraysOf kept l k → ArraysOf b (set l (count - 1) last) (set k count at)
+  begun {x} {kept = kept} l k (begins h) e r j c p o =
+      record { syllables-of = finished x kept l r c p (o .syllables-of); starts-of = started x kept k r j c (o .starts-of) }
+  begun l k (begins-great-sa {h = h} {m = m} {v = u} {t = t} {kept = a} y) e r j c p o =
+      let q = changed (syllable h m u no-final t) (syllable h m u great-sa t) a l k (λ n. absurd n) o in
+      record { syllables-of = finished 0x101E _ l r c p (q .syllables-of); starts-of = started 0x101E _ k r j c (q .starts-of) }
+  begun l k (adds-medial i) e r j c p o = let no : ⊥ = omega arith in absurd no
+  begun l k (adds-vowel i) e r j c p o = let no : ⊥ = omega arith in absurd no
+  begun l k (adds-tone i) e r j c p o = let no : ⊥ = omega arith in absurd no
+  begun l k makes-kinzi e r j c p o = let no : ⊥ = omega arith in absurd no
+  begun l k (closes i f n) e r j c p o = let no : ⊥ = omega arith in absurd no
 
 -- nothing read yet
 pub at-start : (word : List ℕ) → Reached word 0 0 unread (replicate limit 0) (replicate limit 0)
 at-start word =
     record {
       walked = record { kept = []; came = refl; state-is = refl; count-is = refl };
-      window-of = record { count = refl; last = refl; before = λ _. refl };
+      window-of = record { count = refl; last = refl; joined = λ _. tt };
       arrays-of =
           record {
             syllables-of = record { place = 0; rest = limit - 1; is = refl; size = refl; fresh = λ _. refl };
@@ -168,12 +165,10 @@ at-start word =
 pub count-fits : (word : List ℕ) (at state : ℕ) (w : Window) (l k : List ℕ) → Reached word at state w l k → w .count ≤ at
 count-fits word at state w l k r = let c = r .window-of .count in omega (arith, count-bound word at (r .walked .kept) (r .walked .came))
 
--- a turn of the loop, by the window after it: a syllable begins, and the one before it is finished, or the arrays stay
-pub record Turned (word : List ℕ) (at entry : ℕ) (l k : List ℕ) (v : Window) : Type 0 where
-  pub few : v .count ≤ limit
-  pub starts-one : entry / 32 ≡ 2 → 1 ≤ v .count
-  pub begun : entry / 32 ≡ 2 → (i : ℕ) → i ≡ v .count - 2 → (m : List ℕ) → m ≡ set l i (v .before) → (n : List ℕ) → n ≡ set k (v .count - 1) at
-      → Reached word (at + 1) (entry % 32) v m n
+-- a turn of the loop, by the windows before and after it: a syllable begins, and the one before it is finished, or the arrays stay
+pub record Turned (word : List ℕ) (at entry : ℕ) (w : Window) (l k : List ℕ) (v : Window) : Type 0 where
+  pub begun : entry / 32 ≡ 2 → (i : ℕ) → i ≡ w .count - 1 → (p : ℕ) → p ≡ closedBy (getD word at 0) (w .last) → (m : List ℕ) → m ≡ set l i p
+      → (n : List ℕ) → n ≡ set k (w .count) at → Reached word (at + 1) (entry % 32) v m n
   pub stays : (entry / 32 ≡ 2 → ⊥) → (m : List ℕ) → m ≡ l → (n : List ℕ) → n ≡ k → Reached word (at + 1) (entry % 32) v m n
 
 module _ (word : List ℕ) (at state : ℕ) (w : Window) (l k : List ℕ) (r : Reached word at state w l k) (entry : ℕ)
@@ -188,15 +183,18 @@ module _ (word : List ℕ) (at state : ℕ) (w : Window) (l k : List ℕ) (r : R
   kept-ok : KeptOk (r .walked .kept)
   kept-ok = kept-right word at (r .walked .kept) (r .walked .came) .0
 
+  makes : Makes (getD word at 0) (entry / 32) gain (r .walked .kept) (move .after)
+  makes = rw g (move .makes)
+
   -- the numbers of the window fit
   pub turn-fits : Fit (entry / 32) gain (getD word at 0) w
   turn-fits =
-      window-fits w (move .makes) gain (g ∙ move .gain-is) (move .begins-is) kept-ok
+      window-fits w makes (move .begins-is) kept-ok
       (kept-right word (at + 1) (move .after) came .0) (let b = count-fits word at state w l k r in omega (arith, r .window-of .count)) (r .window-of)
 
   module _ (v : Window) (f : v ≡ windowAfter (entry / 32) gain (getD word at 0) w) where
     window-is : WindowOf (move .after) v
-    window-is = rw f (window-moves w (move .makes) gain (g ∙ move .gain-is) kept-ok (r .window-of))
+    window-is = rw f (window-moves w makes kept-ok (r .window-of))
 
     reached : (m n : List ℕ) → ArraysOf (move .after) m n → Reached word (at + 1) (entry % 32) v m n
     reached m n o =
@@ -206,17 +204,16 @@ module _ (word : List ℕ) (at state : ℕ) (w : Window) (l k : List ℕ) (r : R
           arrays-of = o;
         }
 
-    pub turned : Turned word at entry l k v
+    pub turned : Turned word at entry w l k v
     turned =
-        let b = count-bound word (at + 1) (move .after) came in
         let c = count-fits word at state w l k r in
         let joined : length (keptJoin (move .after)) ≡ suc at =
         omega (arith, ap length (kept-right word (at + 1) (move .after) came .1), length-take (at + 1) word) in
         record {
-          few = omega (arith, window-is .count);
-          starts-one = λ d. omega (arith, window-is .count, makes-length (move .makes));
-          begun = λ d i j m a n f.
+          begun = λ d i j p e m a n f.
               rw (a, f, j)
-              (reached _ _ (begun at v l k (move .makes) d (omega (arith, r .window-of .count)) joined window-is (r .arrays-of)));
-          stays = λ d m a n f. rw (a, f) (reached l k (stays l k (move .makes) d (r .arrays-of)));
+              (reached _ _
+              (begun at (w .count) p l k makes d (omega (arith, r .window-of .count)) joined (r .window-of .count)
+              (e ∙ closed-below w makes d (r .window-of)) (r .arrays-of)));
+          stays = λ d m a n f. rw (a, f) (reached l k (stays l k makes d (r .arrays-of)));
         }

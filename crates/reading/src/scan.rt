@@ -1,5 +1,6 @@
 // One pass over a word: how far it is read, its syllables, and where each begins.
 use formula::Word;
+use syllables::window::closed_by;
 use syllables::window::window_after;
 use transitions::classes::begins;
 use transitions::tables::Rules;
@@ -54,14 +55,13 @@ pub(crate) fn scan_word(word: &[u16]) -> Scan
             };
         }
         let change = entry / 32;
-        window = window_after(window, change, gain(state, rules), x);
         if begins(x) {
             let count = window.count;
-            let finished = less(count, 2);
-            let before = window.before;
-            syllables[finished] = before;
-            starts[count - 1] = at as u8;
+            let finished = less(count, 1);
+            syllables[finished] = closed_by(x, window.last);
+            starts[count] = at as u8;
         }
+        window = window_after(window, change, gain(state, rules), x);
         state = (entry % 32) as usize;
         at += 1;
     }

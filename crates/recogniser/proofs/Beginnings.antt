@@ -4,7 +4,7 @@ use mathlib.Core.Path.{_≡_, refl, ap, sym, subst, _∙_}
 use mathlib.Core.Bool.{Bool, true, false, _&&_, _||_}
 use mathlib.Core.List.{List, [], _∷_, _++_, reverse, reverseAux}
 use mathlib.Core.Option.{Option, none, some, Option·some-injective, Option·none-ne-some}
-use Prim.Native.Nat.{ℕ, _+_, _≤_}
+use Prim.Native.Nat.{ℕ, _+_, _*_, _≤_}
 use native.Mathlib.Omega.{arith}
 use lib.Dec.{T, eqb}
 use lib.ListN.{length}
@@ -26,7 +26,7 @@ use Rattle.rows.proofs.Viable.{read-back}
 use Rattle.rows.proofs.Admitted.{run-admitted}
 use Rattle.rows.proofs.Earlier.{asks, earlier-exactly, earlier-gives, earlier-viable}
 use Rattle.transitions.specs.State.{stateOf}
-use Rattle.transitions.specs.Transition.{Transition, refuse, to, transition, byteOf, Makes, begins, begins-great-sa, adds-medial, adds-vowel, adds-tone, makes-kinzi, closes, closes-second, finalBy, Agrees}
+use Rattle.transitions.specs.Transition.{Transition, refuse, to, transition, bitOf, Joins, first-plain, first-stacked, second-plain, Makes, begins, begins-great-sa, adds-medial, adds-vowel, adds-tone, makes-kinzi, closes, Agrees}
 use Rattle.transitions.proofs.Followed.{followed}
 use Rattle.recogniser.specs.Answer.{Answers, unfinished}
 use Rattle.recogniser.proofs.Determined.{answers-alike}
@@ -56,15 +56,16 @@ bare-asks : (edition : Edition) (h : ℕ) → T (asks edition h no-final no-tone
 bare-asks base h = both (isConsonant h || true) true (or-right (isConsonant h) true tt) tt
 bare-asks independent-finals h = tt
 
-tone-was : (t n : ToneMark) (a : ℕ) → toneWeight n ≡ toneWeight t + a → T (isNoTone n) → T (isNoTone t)
-tone-was no-tone n a e i = tt
-tone-was dot no-tone a e i = let z : ⊥ = omega arith in absurd z
-tone-was visarga no-tone a e i = let z : ⊥ = omega arith in absurd z
+tone-was : (t n : ToneMark) (g : ℕ) → 0x100000000 * toneWeight n ≡ 0x100000000 * toneWeight t + g → T (isNoTone n) → T (isNoTone t)
+tone-was no-tone n g e i = tt
+tone-was dot no-tone g e i = let z : ⊥ = omega arith in absurd z
+tone-was visarga no-tone g e i = let z : ⊥ = omega arith in absurd z
 
-made-final : (b : Bool) (c : ℕ) → isNoFinal (pick b (stacked c) (plain c)) ≡ false
-unfolding pick
-made-final true c = refl
-made-final false c = refl
+-- what a letter joins is a final, and where that is a single one it joins a single one or none
+made-final : {c : ℕ} {f made : Final} → Joins c f made → (isNoFinal made ≡ false) × (T (isSingle made) → T (isSingle f))
+made-final first-plain = (refl, λ i. tt)
+made-final first-stacked = (refl, λ i. tt)
+made-final second-plain = (refl, λ i. tt)
 
 module _ (edition : Edition) where
   -- each syllable is one of the edition
@@ -86,30 +87,26 @@ module _ (edition : Edition) where
   bare-in : (c : ℕ) → T (isSyllable (bare c)) → T (isSyllableIn edition (bare c))
   bare-in c i = subst T (sym (earlier-exactly edition c _ _ no-final no-tone)) (both (isSyllable (bare c)) _ i (bare-asks edition c))
 
-  back : {x byte d a : ℕ} {kept b : Row} → Makes x byte d a kept b → KeptOk kept → AllIn b → AllIn kept
+  back : {x d g : ℕ} {kept b : Row} → Makes x d g kept b → KeptOk kept → AllIn b → AllIn kept
   back {x = x} (begins i) k q = both-right (isSyllableIn edition (bare x)) _ q
   back (begins-great-sa {h = h} {m = m} {v = v} {t = t} {kept = kept} e) k q =
       changed h m m v v no-final great-sa t t kept (final-asks edition h no-final great-sa t t refl (λ i. tt)) k
       (both-right (isSyllableIn edition (bare 0x101E)) _ q)
   back (adds-medial {h = h} {m = m} {n = n} {v = v} {f = f} {t = t} {kept = kept} e) k q = changed h m n v v f f t t kept (λ i. i) k q
   back (adds-vowel {h = h} {m = m} {v = v} {u = u} {f = f} {t = t} {kept = kept} e) k q = changed h m m v u f f t t kept (λ i. i) k q
-  back (adds-tone {a = a} {h = h} {m = m} {v = v} {f = f} {t = t} {n = n} {kept = kept} e) k q =
-      changed h m m v v f f t n kept (tone-asks edition h f t n (tone-was t n a e)) k q
+  back (adds-tone {g = g} {h = h} {m = m} {v = v} {f = f} {t = t} {n = n} {kept = kept} e) k q =
+      changed h m m v v f f t n kept (tone-asks edition h f t n (tone-was t n g e)) k q
   back (makes-kinzi {h = h} {m = m} {v = v} {t = t} {kept = kept}) k q =
       changed h m m v v (plain 0x1004) kinzi t t kept (final-asks edition h (plain 0x1004) kinzi t t refl (λ i. tt)) k q
-  back {x = x} (closes {c = c} {h = h} {m = m} {v = v} {t = t} {kept = kept} l) k q =
+  back (closes {c = c} {h = h} {m = m} {v = v} {f = f} {made = made} {t = t} {kept = kept} l j e) k q =
       both (isSyllableIn edition (bare c)) _ (bare-in c (k .1))
-      (changed h m m v v no-final (finalBy x c) t t kept
-      (final-asks edition h no-final (finalBy x c) t t (made-final (eqb x 0x1039) c) (λ i. tt)) (k .2) q)
-  back {x = x} (closes-second {b = b} {c = c} {h = h} {m = m} {v = v} {t = t} {kept = kept} y l) k q =
-      both (isSyllableIn edition (bare c)) _ (bare-in c (k .1))
-      (changed h m m v v (plain b) (plain-pair b c) t t kept (final-asks edition h (plain b) (plain-pair b c) t t refl (λ i. tt)) (k .2) q)
+      (changed h m m v v f made t t kept (final-asks edition h f made t t (made-final j .0) (made-final j .1)) (k .2) q)
 
   -- one value, and any number of them
   step-back : (x : ℕ) (kept b : Row) → KeptOk kept → T (isNotGreatSa (endOf kept)) → step kept x ≡ some b → AllIn b → AllIn kept
   step-back x kept b k n e q = go (transition (kindOf x) x (stateOf kept)) (followed x kept k n)
     where
-      go : (t : Transition) → Agrees x (byteOf (kindOf x)) t kept (step kept x) → AllIn kept
+      go : (t : Transition) → Agrees x (bitOf (kindOf x)) t kept (step kept x) → AllIn kept
       go refuse a = absurd (Option·none-ne-some b (sym a ∙ e))
       go (to d m s) a = back (a .3) k (subst AllIn (Option·some-injective b (a .0) (sym e ∙ a .1)) q)
 

@@ -12,7 +12,7 @@ use Rattle.formula.proofs.Lists.{both-left, both-right}
 use Rattle.formula.proofs.Pieces.{each-vowel, each-medial}
 use Rattle.formula.specs.Syllable.{Final, no-final, plain, plain-pair, stacked, kinzi, great-sa, Syllable, syllable, isFinal, isSyllable}
 use Rattle.formula.specs.Record.{finalNumberOf, secondFinalNumberOf, linkOf}
-use Rattle.formula.specs.Packed.{secondLinkOf, packed}
+use Rattle.formula.specs.Packed.{packed}
 use Rattle.rows.proofs.Sound.{apart}
 use Rattle.syllables.specs.Window.{packedLimit}
 use Rattle.syllables.specs.Parts.{headPart, medialPart, finalPart, linkPart, vowelPart, tallPart, tonePart, secondFinalPart}
@@ -33,18 +33,17 @@ tone-small visarga = omega arith
 letter-small : (c : ℕ) → T (isFinalLetter c) → finalNumber c ≤ 33
 letter-small c t = let b = within-bounds 0x1000 0x1020 c t in omega arith
 
-final-small : (f : Final) → T (isFinal f) → (finalNumberOf f ≤ 33) × (linkOf f ≤ 3) × (secondFinalNumberOf f ≤ 33) × (secondLinkOf f ≤ 1)
-final-small no-final t = (omega arith, omega arith, omega arith, omega arith)
-final-small (plain c) t = (letter-small c t, omega arith, omega arith, omega arith)
+final-small : (f : Final) → T (isFinal f) → (finalNumberOf f ≤ 33) × (linkOf f ≤ 3) × (secondFinalNumberOf f ≤ 33)
+final-small no-final t = (omega arith, omega arith, omega arith)
+final-small (plain c) t = (letter-small c t, omega arith, omega arith)
 final-small (plain-pair c d) t = (
   letter-small c (both-left (isFinalLetter c) (isFinalLetter d) t),
   omega arith,
   letter-small d (both-right (isFinalLetter c) (isFinalLetter d) t),
-  omega arith,
 )
-final-small (stacked c) t = (letter-small c (both-left (isFinalLetter c) _ t), omega arith, omega arith, omega arith)
-final-small kinzi t = (omega arith, omega arith, omega arith, omega arith)
-final-small great-sa t = (omega arith, omega arith, omega arith, omega arith)
+final-small (stacked c) t = (letter-small c (both-left (isFinalLetter c) _ t), omega arith, omega arith)
+final-small kinzi t = (omega arith, omega arith, omega arith)
+final-small great-sa t = (omega arith, omega arith, omega arith)
 
 -- each part of a syllable as its bytes have it
 pub record Parted (s : Syllable) (h : ℕ) (m : MedialGroup) (v : Vowel) (f : Final) (t : ToneMark) : Type 0 where

@@ -24,7 +24,7 @@ use Rattle.formula.specs.Syllable.{carriesMarks, carriesFinal}
 use Rattle.formula.specs.Row.{Row}
 use Rattle.rows.specs.Machine.{endOf, KeptOk, isNotGreatSa, step}
 use Rattle.transitions.specs.State.{State, done, pair-final, plain-final, nga-final, waiting, head-stays, head-second, head-closes, head-nga, after-ya-ra, after-wa, after-ha, with-e, with-e-aa, with-i, with-u, with-vowel, stateOf, stateNumber, stateCount}
-use Rattle.transitions.specs.Transition.{Transition, refuse, to, transition, byteOf, beginsBy, Makes, begins, begins-great-sa, adds-medial, adds-vowel, adds-tone, makes-kinzi, closes, closes-second, Agrees}
+use Rattle.transitions.specs.Transition.{Transition, refuse, to, transition, bitOf, beginsBy, Makes, begins, begins-great-sa, adds-medial, adds-vowel, adds-tone, makes-kinzi, closes, Agrees}
 use Rattle.transitions.specs.Tables.{stateAt, entry, amountOf, entryOf, gainOf, classIn, classOf, examples, rulesAt, rulesIn, rulesOf, nextBy, gainBy}
 use Rattle.transitions.proofs.Tested.{numbered}
 use Rattle.transitions.proofs.Followed.{followed}
@@ -132,24 +132,21 @@ begins-told q x h n =
     told-at : (y : ℕ) → 0x1000 ≤ y → y ≤ 0x104F → T (eqb (entryOf q y) 96 || same (beginsBy y) (eqb (entryOf q y / 32) 2))
     told-at y l u = below (λ (k : ℕ). eqb (entryOf k y) 96 || same (beginsBy y) (eqb (entryOf k y / 32) 2)) stateCount (tells-tested y l u) q h
 
-pub makes-length : {x byte d a : ℕ} {kept b : Row} → Makes x byte d a kept b → length b + 1 ≡ length kept + d
+pub makes-length : {x d g : ℕ} {kept b : Row} → Makes x d g kept b → length b + 1 ≡ length kept + d
 makes-length (begins h) = omega arith
 makes-length (begins-great-sa y) = omega arith
 makes-length (adds-medial e) = omega arith
 makes-length (adds-vowel e) = omega arith
 makes-length (adds-tone e) = omega arith
 makes-length makes-kinzi = omega arith
-makes-length (closes l) = omega arith
-makes-length (closes-second y l) = omega arith
+makes-length (closes l j e) = omega arith
 
 -- what an entry that is no refusal says of the machine's step: the row after it, its state and what was made of the row before
 pub record Moves (x e gain : ℕ) (kept : Row) (o : Option Row) : Type 0 where
   pub after : Row
   pub stepped : o ≡ some after
   pub state-is : e % 32 ≡ stateNumber (stateOf after)
-  pub amount : ℕ
-  pub makes : Makes x (byteOf (kindOf x)) (e / 32) amount kept after
-  pub gain-is : gain ≡ amount * 2 ^ (8 * byteOf (kindOf x))
+  pub makes : Makes x (e / 32) gain kept after
   pub begins-is : beginsBy x ≡ eqb (e / 32) 2
 
 pub record Enters (x e gain : ℕ) (kept : Row) (o : Option Row) : Type 0 where
@@ -175,18 +172,17 @@ state-small with-i = omega arith
 state-small with-u = omega arith
 state-small with-vowel = omega arith
 
-small-change : {x byte d a : ℕ} {kept b : Row} → Makes x byte d a kept b → d ≤ 2
+small-change : {x d g : ℕ} {kept b : Row} → Makes x d g kept b → d ≤ 2
 small-change (begins h) = omega arith
 small-change (begins-great-sa y) = omega arith
 small-change (adds-medial e) = omega arith
 small-change (adds-vowel e) = omega arith
 small-change (adds-tone e) = omega arith
 small-change makes-kinzi = omega arith
-small-change (closes l) = omega arith
-small-change (closes-second y l) = omega arith
+small-change (closes l j e) = omega arith
 
-enters-by : (x : ℕ) (t : Transition) (e gain : ℕ) (kept : Row) (o : Option Row) → e ≡ entry t → gain ≡ amountOf t * 2 ^ (8 * byteOf (kindOf x))
-    → ((e ≡ 96 → ⊥) → beginsBy x ≡ eqb (e / 32) 2) → Agrees x (byteOf (kindOf x)) t kept o → Enters x e gain kept o
+enters-by : (x : ℕ) (t : Transition) (e gain : ℕ) (kept : Row) (o : Option Row) → e ≡ entry t → gain ≡ amountOf t * 2 ^ bitOf (kindOf x)
+    → ((e ≡ 96 → ⊥) → beginsBy x ≡ eqb (e / 32) 2) → Agrees x (bitOf (kindOf x)) t kept o → Enters x e gain kept o
 enters-by x refuse e gain kept o q g b a = record { refuses = λ _. a; moves = λ n. absurd (n q) }
 enters-by x (to d m s) e gain kept o q g b a =
     let l : d ≤ 2 = small-change (a .3) in
@@ -200,9 +196,7 @@ enters-by x (to d m s) e gain kept o q g b a =
             after = a .0;
             stepped = a .1;
             state-is = r ∙ ap stateNumber (a .2);
-            amount = m;
-            makes = subst (λ (k : ℕ). Makes x (byteOf (kindOf x)) k m kept (a .0)) (sym p) (a .3);
-            gain-is = g;
+            makes = rw (p, g) (a .3);
             begins-is = b n;
           };
     }
@@ -214,5 +208,5 @@ enters x kept k n state e =
     let s : stateAt state ≡ stateOf kept = ap stateAt e ∙ numbered (stateOf kept) in
     enters-by x (transition (kindOf x) x (stateOf kept)) (entryOf state x) (gainOf state x) kept (step kept x)
     (ap (λ (t : State). entry (transition (kindOf x) x t)) s)
-    (ap (λ (t : State). amountOf (transition (kindOf x) x t) * 2 ^ (8 * byteOf (kindOf x))) s)
+    (ap (λ (t : State). amountOf (transition (kindOf x) x t) * 2 ^ bitOf (kindOf x)) s)
     (begins-told state x (let h : stateNumber (stateOf kept) < stateCount = state-small (stateOf kept) in omega arith)) (followed x kept k n)

@@ -4,7 +4,7 @@ use mathlib.Core.Path.{_≡_, refl, sym, _∙_}
 use mathlib.Core.Bool.{Bool, true, false, not, _&&_}
 use mathlib.Core.List.{[], _∷_}
 use mathlib.Core.Option.{Option, none, some}
-use Prim.Native.Nat.{ℕ, _-_}
+use Prim.Native.Nat.{ℕ, _-_, _*_, _^_}
 use native.Mathlib.Omega.{arith}
 use lib.Dec.{T, eqb, eqb→eq}
 use Rattle.letters.specs.Choice.{pick}
@@ -20,21 +20,21 @@ use Rattle.formula.specs.Syllable.{Final, no-final, plain, plain-pair, stacked,
 use Rattle.formula.specs.Row.{Row}
 use Rattle.rows.specs.Machine.{toneOf, when, onto, endOf, KeptOk, isNotGreatSa, admits, stepHead, stepTone, stepGreatSa, act, step}
 use Rattle.transitions.specs.State.{State, done, head-stays, Room, no-room, headState, begunState, toneState, roomOnTop, stateOf}
-use Rattle.transitions.specs.Transition.{refuse, to, takesHead, roomAt, onHead, onTone, onGreatSa, transition, byteOf, begins, begins-great-sa, adds-tone, Agrees}
+use Rattle.transitions.specs.Transition.{refuse, to, takesHead, roomAt, onHead, onTone, onGreatSa, transition, bitOf, begins, begins-great-sa, adds-tone, Agrees}
 use Rattle.transitions.proofs.Tested.{in-class}
 use Rattle.transitions.proofs.Known.{admits-is, known, room-is}
 use Rattle.transitions.proofs.Marked.{Follows, medial-followed, vowel-followed}
 use Rattle.transitions.proofs.Closing.{killer-followed, stacker-followed}
 
-pushed : (x byte : ℕ) (kept : Row) (p q : Bool) (room : Room) → q ≡ p → room ≡ roomOnTop kept → T (isHead x)
-    → Agrees x byte (pick p (to 2 0 (pick (carriesFinal x) (begunState room x) done)) refuse) kept (when q (some (bare x ∷ kept)))
+pushed : (x bit : ℕ) (kept : Row) (p q : Bool) (room : Room) → q ≡ p → room ≡ roomOnTop kept → T (isHead x)
+    → Agrees x bit (pick p (to 2 0 (pick (carriesFinal x) (begunState room x) done)) refuse) kept (when q (some (bare x ∷ kept)))
 unfolding pick
-pushed x byte kept true q room e i h = rw (e, i) (bare x ∷ kept, refl, refl, begins h)
-pushed x byte kept false q room e i h = rw e refl
+pushed x bit kept true q room e i h = rw (e, i) (bare x ∷ kept, refl, refl, begins h)
+pushed x bit kept false q room e i h = rw e refl
 
-head-followed : (x byte : ℕ) (kept : Row) → T (isHead x) → KeptOk kept → T (isNotGreatSa (endOf kept)) → Follows x byte (onHead x) (stepHead x) kept
-head-followed x byte kept h k n =
-    pushed x byte kept (takesHead x (stateOf kept)) (admits (endOf kept) x) (roomAt (stateOf kept)) (admits-is x kept k n) (room-is kept) h
+head-followed : (x bit : ℕ) (kept : Row) → T (isHead x) → KeptOk kept → T (isNotGreatSa (endOf kept)) → Follows x bit (onHead x) (stepHead x) kept
+head-followed x bit kept h k n =
+    pushed x bit kept (takesHead x (stateOf kept)) (admits (endOf kept) x) (roomAt (stateOf kept)) (admits-is x kept k n) (room-is kept) h
 
 -- 103F
 great-sa-shut : (y h : ℕ) (m : MedialGroup) (v : Vowel) (t : ToneMark) (a : Row)
@@ -46,9 +46,9 @@ great-sa-shut y h m v t a = go (carriesFinal h)
     go true = refl
     go false = refl
 
-module _ (x byte : ℕ) (y : x ≡ 0x103F) where
+module _ (x bit : ℕ) (y : x ≡ 0x103F) where
   great-sa-on : (p q : Bool) (h : ℕ) (m : MedialGroup) (v : Vowel) (t : ToneMark) (a : Row) → p ≡ q
-      → Agrees x byte (pick p (to 2 0 head-stays) refuse) (syllable h m v no-final t ∷ a)
+      → Agrees x bit (pick p (to 2 0 head-stays) refuse) (syllable h m v no-final t ∷ a)
       (when q (some (bare 0x101E ∷ syllable h m v great-sa t ∷ a)))
   unfolding pick carriesMarks carriesFinal
   great-sa-on p true h m v t a e =
@@ -56,11 +56,11 @@ module _ (x byte : ℕ) (y : x ≡ 0x103F) where
   great-sa-on p false h m v t a e = rw e refl
 
   great-sa-no : (p c : Bool) (kept : Row) (o : Option Row) → p ≡ (c && false)
-      → Agrees x byte (pick p (to 2 0 head-stays) refuse) kept (when (c && false) o)
+      → Agrees x bit (pick p (to 2 0 head-stays) refuse) kept (when (c && false) o)
   unfolding pick
   great-sa-no p c kept o e = let z = and-no-right c false refl in rw (e ∙ z, z) refl
 
-  great-sa-followed : (kept : Row) → Follows x byte onGreatSa stepGreatSa kept
+  great-sa-followed : (kept : Row) → Follows x bit onGreatSa stepGreatSa kept
   unfolding pick
   great-sa-followed [] = refl
   great-sa-followed (syllable h m v no-final t ∷ a) = great-sa-on _ _ h m v t a (known h m v no-final t a .0)
@@ -92,16 +92,16 @@ no-tone-weight no-tone i = refl
 
 tone-on : (x : ℕ) (p q : Bool) (o : Option ToneMark) (h : ℕ) (m : MedialGroup) (v : Vowel) (f : Final) (t : ToneMark) (a : Row) → p ≡ q
     → (T q → T (isNoTone t)) → T (toneRight x o)
-    → Agrees x 4 (pick p (to 1 (x - 0x1036) done) refuse) (syllable h m v f t ∷ a) (when q (onto (λ (n : ToneMark). syllable h m v f n ∷ a) o))
+    → Agrees x 32 (pick p (to 1 (x - 0x1036) done) refuse) (syllable h m v f t ∷ a) (when q (onto (λ (n : ToneMark). syllable h m v f n ∷ a) o))
 unfolding pick
 tone-on x p true (some n) h m v f t a e z i =
     let w : toneWeight n ≡ x - 0x1036 = eqb→eq _ _ (both-right (not (isNoTone n)) _ i) in
     let u : toneWeight t ≡ 0 = no-tone-weight t (z tt) in
-    rw e (syllable h m v f n ∷ a, refl, toned-state n _ (carriesFinal h) (both-left (not (isNoTone n)) _ i), adds-tone {a = x - 0x1036} {t = t} {n = n} (omega arith))
+    rw e (syllable h m v f n ∷ a, refl, toned-state n _ (carriesFinal h) (both-left (not (isNoTone n)) _ i), adds-tone {g = (x - 0x1036) * 2 ^ 32} {t = t} {n = n} (omega arith))
 tone-on x p true none h m v f t a e z i = absurd i
 tone-on x p false o h m v f t a e z i = rw e refl
 
-tone-followed : (x : ℕ) (kept : Row) → T (isTone x) → Follows x 4 (onTone x) (stepTone x) kept
+tone-followed : (x : ℕ) (kept : Row) → T (isTone x) → Follows x 32 (onTone x) (stepTone x) kept
 unfolding pick
 tone-followed x [] i = refl
 tone-followed x (syllable h m v f t ∷ a) i =
@@ -110,14 +110,14 @@ tone-followed x (syllable h m v f t ∷ a) i =
 
 -- every value
 followed-by : (j : Kind) (x : ℕ) (kept : Row) → T (inClass j x) → KeptOk kept → T (isNotGreatSa (endOf kept))
-    → Follows x (byteOf j) (transition j x) (act j x) kept
+    → Follows x (bitOf j) (transition j x) (act j x) kept
 followed-by Consonant x kept i k n = head-followed x 0 kept (head-of Consonant x i tt) k n
 followed-by IndependentVowel x kept i k n = head-followed x 0 kept (head-of IndependentVowel x i tt) k n
 followed-by Medial x kept i k n = medial-followed x kept k i
 followed-by VowelMark x kept i k n = vowel-followed x kept k i
 followed-by Tone x kept i k n = tone-followed x kept i
-followed-by Killer x kept i k n = killer-followed x (eqb→eq x 0x103A i) kept k
-followed-by Stacker x kept i k n = stacker-followed x (eqb→eq x 0x1039 i) kept k
+followed-by Killer x kept i k n = killer-followed x kept k
+followed-by Stacker x kept i k n = stacker-followed x kept k
 followed-by GreatSa x kept i k n = great-sa-followed x 0 (eqb→eq x 0x103F i) kept
 followed-by Digit x kept i k n = head-followed x 0 kept (head-of Digit x i tt) k n
 followed-by Stop x kept i k n = head-followed x 0 kept (head-of Stop x i tt) k n
@@ -125,5 +125,5 @@ followed-by Sign x kept i k n = head-followed x 0 kept (head-of Sign x i tt) k n
 followed-by Foreign x kept i k n = refl
 
 pub followed : (x : ℕ) (kept : Row) → KeptOk kept → T (isNotGreatSa (endOf kept))
-    → Agrees x (byteOf (kindOf x)) (transition (kindOf x) x (stateOf kept)) kept (step kept x)
+    → Agrees x (bitOf (kindOf x)) (transition (kindOf x) x (stateOf kept)) kept (step kept x)
 followed x kept k n = followed-by (kindOf x) x kept (kind-class x) k n

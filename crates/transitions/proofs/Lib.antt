@@ -1,4 +1,3 @@
-pub mod Shifted
 pub mod Tested
 pub mod Known
 pub mod Marked

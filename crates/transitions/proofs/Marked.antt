@@ -4,7 +4,7 @@ use mathlib.Core.Path.{_≡_, refl, ap, sym, subst, _∙_}
 use mathlib.Core.Bool.{Bool, true, false, not, _&&_}
 use mathlib.Core.List.{[], _∷_}
 use mathlib.Core.Option.{Option, none, some}
-use Prim.Native.Nat.{ℕ, _+_, _-_, _≤_}
+use Prim.Native.Nat.{ℕ, _+_, _-_, _*_, _^_, _≤_}
 use native.Mathlib.Omega.{arith}
 use lib.Dec.{T, leb, leb→le}
 use Rattle.letters.specs.Choice.{pick}
@@ -24,7 +24,7 @@ use Rattle.transitions.specs.Tables.{same}
 use Rattle.transitions.proofs.Tested.{each-open, everywhere, in-class, same-equal}
 use Rattle.transitions.proofs.Known.{known, open-state, unmarked-state}
 
--- a mark that changes a piece of the last syllable, whose byte grows from w v to w n
+-- a mark that changes a piece of the last syllable, whose number grows from w v to w n
 abbrev pub changed : {A : Type 0} → (A → ℕ) → A → (A → State) → Option A → Transition
 changed w v f none = refuse
 changed w v f (some n) = to 1 (w n - w v) (f n)
@@ -36,13 +36,13 @@ grown w v (some n) = leb (w v) (w n)
 pub gained : (m n : ℕ) → T (leb m n) → n ≡ m + (n - m)
 gained m n t = let l : m ≤ n = leb→le m n t in omega arith
 
-changed-agrees : {A : Type 0} (x byte : ℕ) (w : A → ℕ) (v : A) (f : A → State) (g : A → Row) (kept : Row) (p : Bool) (o : Option A)
-    → ((n : A) → f n ≡ stateOf (g n)) → ((n : A) → w n ≡ w v + (w n - w v) → Makes x byte 1 (w n - w v) kept (g n)) → T (grown w v o)
-    → Agrees x byte (pick p (changed w v f o) refuse) kept (when p (onto g o))
+changed-agrees : {A : Type 0} (x bit : ℕ) (w : A → ℕ) (v : A) (f : A → State) (g : A → Row) (kept : Row) (p : Bool) (o : Option A)
+    → ((n : A) → f n ≡ stateOf (g n)) → ((n : A) → w n ≡ w v + (w n - w v) → Makes x 1 ((w n - w v) * 2 ^ bit) kept (g n)) → T (grown w v o)
+    → Agrees x bit (pick p (changed w v f o) refuse) kept (when p (onto g o))
 unfolding pick
-changed-agrees x byte w v f g kept true none e l t = refl
-changed-agrees x byte w v f g kept true (some n) e l t = (g n, refl, e n, l n (gained (w v) (w n) t))
-changed-agrees x byte w v f g kept false o e l t = refl
+changed-agrees x bit w v f g kept true none e l t = refl
+changed-agrees x bit w v f g kept true (some n) e l t = (g n, refl, e n, l n (gained (w v) (w n) t))
+changed-agrees x bit w v f g kept false o e l t = refl
 
 -- a state that is not open takes no such mark
 pub record Shut (x : ℕ) (s : State) : Type 0 where
@@ -58,15 +58,15 @@ shut x plain-final t = record { medial = refl; vowel = refl; killer = refl }
 shut x nga-final t = record { medial = refl; vowel = refl; killer = refl }
 shut x waiting t = record { medial = refl; vowel = refl; killer = refl }
 
-pub refused : (x byte : ℕ) (t : Transition) (kept : Row) (o : Option Row) → t ≡ refuse → o ≡ none → Agrees x byte t kept o
-refused x byte t kept o e i = rw e i
+pub refused : (x bit : ℕ) (t : Transition) (kept : Row) (o : Option Row) → t ≡ refuse → o ≡ none → Agrees x bit t kept o
+refused x bit t kept o e i = rw e i
 
 -- what this does to the state is what that does to the row
 abbrev pub Follows : ℕ → ℕ → (State → Transition) → (Row → Option Row) → Row → Type 0
-Follows x byte moved step kept = Agrees x byte (moved (stateOf kept)) kept (step kept)
+Follows x bit moved step kept = Agrees x bit (moved (stateOf kept)) kept (step kept)
 
 -- the cases of a mark that only an open syllable takes whose head carries marks
-module _ (x byte : ℕ) (moved : State → Transition) (step : Row → Option Row) (h : ℕ) (m : MedialGroup) (v : Vowel) (f : Final) (t : ToneMark) (a : Row)
+module _ (x bit : ℕ) (moved : State → Transition) (step : Row → Option Row) (h : ℕ) (m : MedialGroup) (v : Vowel) (f : Final) (t : ToneMark) (a : Row)
     (ok : T (isSyllable (syllable h m v f t))) (at-vowel : moved with-vowel ≡ refuse) where
   abbrev row : Row
   row = syllable h m v f t ∷ a
@@ -91,21 +91,21 @@ module _ (x byte : ℕ) (moved : State → Transition) (step : Row → Option Ro
 
   pub if-marked : (T (not (isOpenState (stateOf row))) → moved (stateOf row) ≡ refuse)
       → ((carriesMarks h && isOpen f t) ≡ false → step row ≡ none)
-      → (T (carriesMarks h) → T (isOpen f t) → Follows x byte moved step row) → Follows x byte moved step row
+      → (T (carriesMarks h) → T (isOpen f t) → Follows x bit moved step row) → Follows x bit moved step row
   if-marked no-move no-step at-open = go (carriesMarks h && isOpen f t) refl
     where
-      go : (b : Bool) → (carriesMarks h && isOpen f t) ≡ b → Follows x byte moved step row
+      go : (b : Bool) → (carriesMarks h && isOpen f t) ≡ b → Follows x bit moved step row
       go true e =
           let i : T (carriesMarks h && isOpen f t) = subst T (sym e) tt in
           at-open (both-left (carriesMarks h) (isOpen f t) i) (both-right (carriesMarks h) (isOpen f t) i)
-      go false e = refused x byte (moved (stateOf row)) row (step row) (not-taken no-move e) (no-step e)
+      go false e = refused x bit (moved (stateOf row)) row (step row) (not-taken no-move e) (no-step e)
 
 -- what is shown of the state of an open syllable and of what the machine does where the head carries marks
-pub on-open : (x byte : ℕ) (moved : State → Transition) (u : Transition) (h : ℕ) (m : MedialGroup) (v : Vowel) (a : Row) (o : Bool → Option Row)
+pub on-open : (x bit : ℕ) (moved : State → Transition) (u : Transition) (h : ℕ) (m : MedialGroup) (v : Vowel) (a : Row) (o : Bool → Option Row)
     → T (carriesMarks h) → moved (vowelState v (medialState m (headState (roomOnTop a) h))) ≡ u
-    → Agrees x byte u (syllable h m v no-final no-tone ∷ a) (o true)
-    → Agrees x byte (moved (stateOf (syllable h m v no-final no-tone ∷ a))) (syllable h m v no-final no-tone ∷ a) (o (carriesMarks h))
-on-open x byte moved u h m v a o c e g =
+    → Agrees x bit u (syllable h m v no-final no-tone ∷ a) (o true)
+    → Agrees x bit (moved (stateOf (syllable h m v no-final no-tone ∷ a))) (syllable h m v no-final no-tone ∷ a) (o (carriesMarks h))
+on-open x bit moved u h m v a o c e g =
     let q : moved (stateOf (syllable h m v no-final no-tone ∷ a)) ≡ u = ap moved (sym (open-state h m v a c)) ∙ e in
     let i : carriesMarks h ≡ true = is-true (carriesMarks h) c in
     rw (q, i) g
@@ -124,26 +124,26 @@ medial-right x m v room h i =
     each-open (medialRight x) (in-class isMedial (λ (y : ℕ). everywhere (medialRight y)) tt x i (omega arith)) m v room h
 
 medial-open : (x h : ℕ) (m : MedialGroup) (v : Vowel) (f : Final) (t : ToneMark) (a : Row) → T (isMedial x) → T (carriesMarks h) → T (isOpen f t)
-    → Follows x 1 (onMedial x) (stepMedial x) (syllable h m v f t ∷ a)
+    → Follows x 8 (onMedial x) (stepMedial x) (syllable h m v f t ∷ a)
 medial-open x h m v no-final no-tone a i c o =
     let r = medial-right x m v (roomOnTop a) h i in
-    on-open x 1 (onMedial x) _ h m v a
+    on-open x 8 (onMedial x) _ h m v a
     (λ (b : Bool). when (b && (isNoVowel v && true)) (onto (λ (n : MedialGroup). syllable h n v no-final no-tone ∷ a) (medialAnd x m))) c
     (same-equal _ _ (both-right (grown medialSet m (medialAnd x m)) _ r))
-    (changed-agrees x 1 medialSet m (λ (n : MedialGroup). vowelState v (medialState n (headState (roomOnTop a) h)))
+    (changed-agrees x 8 medialSet m (λ (n : MedialGroup). vowelState v (medialState n (headState (roomOnTop a) h)))
     (λ (n : MedialGroup). syllable h n v no-final no-tone ∷ a)
-    (syllable h m v no-final no-tone ∷ a) (isNoVowel v && true) (medialAnd x m) (λ n. open-state h n v a c) (λ n e. adds-medial e)
+    (syllable h m v no-final no-tone ∷ a) (isNoVowel v && true) (medialAnd x m) (λ n. open-state h n v a c) (λ n e. adds-medial (omega (arith, e)))
     (both-left (grown medialSet m (medialAnd x m)) _ r))
 
 not-marked : (c p o : Bool) → (c && o) ≡ false → (c && (p && o)) ≡ false
 not-marked true p o e = and-no-right p o e
 not-marked false p o e = refl
 
-pub medial-followed : (x : ℕ) (kept : Row) → KeptOk kept → T (isMedial x) → Follows x 1 (onMedial x) (stepMedial x) kept
+pub medial-followed : (x : ℕ) (kept : Row) → KeptOk kept → T (isMedial x) → Follows x 8 (onMedial x) (stepMedial x) kept
 unfolding pick
-medial-followed x [] k i = refused x 1 _ [] none (shut x done tt .medial) refl
+medial-followed x [] k i = refused x 8 _ [] none (shut x done tt .medial) refl
 medial-followed x (syllable h m v f t ∷ a) k i =
-    if-marked x 1 (onMedial x) (stepMedial x) h m v f t a (k .1) refl (λ n. shut x (stateOf (syllable h m v f t ∷ a)) n .medial)
+    if-marked x 8 (onMedial x) (stepMedial x) h m v f t a (k .1) refl (λ n. shut x (stateOf (syllable h m v f t ∷ a)) n .medial)
     (λ e. rw (not-marked (carriesMarks h) (isNoVowel v) (isOpen f t) e) refl) (medial-open x h m v f t a i)
 
 -- vowels
@@ -159,20 +159,20 @@ vowel-right x m v room h i =
     each-open (vowelRight x) (in-class isVowelMark (λ (y : ℕ). everywhere (vowelRight y)) tt x i (omega arith)) m v room h
 
 vowel-open : (x h : ℕ) (m : MedialGroup) (v : Vowel) (f : Final) (t : ToneMark) (a : Row) → T (isVowelMark x) → T (carriesMarks h) → T (isOpen f t)
-    → Follows x 3 (onVowel x) (stepVowel x) (syllable h m v f t ∷ a)
+    → Follows x 24 (onVowel x) (stepVowel x) (syllable h m v f t ∷ a)
 unfolding pick
 vowel-open x h m v no-final no-tone a i c o =
     let r = vowel-right x m v (roomOnTop a) h i in
-    on-open x 3 (onVowel x) _ h m v a (λ (b : Bool). when (b && true) (onto (λ (n : Vowel). syllable h m n no-final no-tone ∷ a) (vowelAnd x v))) c
+    on-open x 24 (onVowel x) _ h m v a (λ (b : Bool). when (b && true) (onto (λ (n : Vowel). syllable h m n no-final no-tone ∷ a) (vowelAnd x v))) c
     (same-equal _ _ (both-right (grown vowelByte v (vowelAnd x v)) _ r))
-    (changed-agrees x 3 vowelByte v (λ (n : Vowel). vowelState n (medialState m (headState (roomOnTop a) h)))
+    (changed-agrees x 24 vowelByte v (λ (n : Vowel). vowelState n (medialState m (headState (roomOnTop a) h)))
     (λ (n : Vowel). syllable h m n no-final no-tone ∷ a)
-    (syllable h m v no-final no-tone ∷ a) true (vowelAnd x v) (λ n. open-state h m n a c) (λ n e. adds-vowel e)
+    (syllable h m v no-final no-tone ∷ a) true (vowelAnd x v) (λ n. open-state h m n a c) (λ n e. adds-vowel (omega (arith, e)))
     (both-left (grown vowelByte v (vowelAnd x v)) _ r))
 
-pub vowel-followed : (x : ℕ) (kept : Row) → KeptOk kept → T (isVowelMark x) → Follows x 3 (onVowel x) (stepVowel x) kept
+pub vowel-followed : (x : ℕ) (kept : Row) → KeptOk kept → T (isVowelMark x) → Follows x 24 (onVowel x) (stepVowel x) kept
 unfolding pick
-vowel-followed x [] k i = refused x 3 _ [] none (shut x done tt .vowel) refl
+vowel-followed x [] k i = refused x 24 _ [] none (shut x done tt .vowel) refl
 vowel-followed x (syllable h m v f t ∷ a) k i =
-    if-marked x 3 (onVowel x) (stepVowel x) h m v f t a (k .1) refl (λ n. shut x (stateOf (syllable h m v f t ∷ a)) n .vowel) (λ e. rw e refl)
+    if-marked x 24 (onVowel x) (stepVowel x) h m v f t a (k .1) refl (λ n. shut x (stateOf (syllable h m v f t ∷ a)) n .vowel) (λ e. rw e refl)
     (vowel-open x h m v f t a i)

@@ -10,7 +10,7 @@ use Rattle.letters.specs.Letters.{kindOf}
 use Rattle.letters.specs.declared.kind.Kind.{Kind}
 use Rattle.letters.specs.declared.kind.Kind.the-variants.{Consonant, IndependentVowel, Medial, VowelMark, Tone, Killer, Stacker, GreatSa, Digit, Stop, Sign, Foreign}
 use Rattle.transitions.specs.State.{State, done, pair-final, plain-final, nga-final, waiting, head-stays, head-second, head-closes, head-nga, after-ya-ra, after-wa, after-ha, with-e, with-e-aa, with-i, with-u, with-vowel, stateNumber}
-use Rattle.transitions.specs.Transition.{Transition, refuse, to, transition, byteOf}
+use Rattle.transitions.specs.Transition.{Transition, refuse, to, transition, bitOf}
 use Rattle.transitions.specs.declared.tables.Rules.{Rules}
 
 -- the states in the order of their numbers
@@ -56,7 +56,7 @@ unfoldable pub entryOf : ℕ → ℕ → ℕ
 entryOf state x = entry (transition (kindOf x) x (stateAt state))
 
 unfoldable pub gainOf : ℕ → ℕ → ℕ
-gainOf state x = amountOf (transition (kindOf x) x (stateAt state)) * 2 ^ (8 * byteOf (kindOf x))
+gainOf state x = amountOf (transition (kindOf x) x (stateAt state)) * 2 ^ bitOf (kindOf x)
 
 -- 4 is the class of the heads that carry a final and no marks, 23 of those that carry nothing
 abbrev pub classIn : Kind → ℕ → ℕ
@@ -135,14 +135,14 @@ numberIn base (n ∷ ns) = numberIn base ns * base + n
 abbrev pub transitionsAt : ℕ → List Transition
 transitionsAt x = map (transition (kindOf x) x) states
 
--- three bits a state pick an outcome, 0 none; a byte an outcome, with the refusal first; and a byte an outcome of what it adds, with the byte
--- of the syllable that it adds to first
+-- three bits a state pick an outcome, 0 none; a byte an outcome, with the refusal first; and a byte an outcome of what it adds, with the bit
+-- from which on it is added first
 abbrev pub rulesAt : ℕ → Rules
 rulesAt x =
     record {
       picks = numberIn 8 (map (chosenFrom 1 (outcomes (transitionsAt x))) (transitionsAt x));
       outcomes = numberIn 256 (entry refuse ∷ map entry (outcomes (transitionsAt x)));
-      amounts = numberIn 256 (byteOf (kindOf x) ∷ map amountOf (outcomes (transitionsAt x)));
+      amounts = numberIn 256 (bitOf (kindOf x) ∷ map amountOf (outcomes (transitionsAt x)));
     }
 
 -- the rules of a class are those of its example
@@ -153,7 +153,7 @@ rulesIn class = rulesAt (getD examples class 0)
 abbrev pub rulesOf : ℕ → Rules
 rulesOf x = rulesIn (classOf x)
 
--- the outcome that a state picks, its byte, and what it adds to the packed syllable
+-- the outcome that a state picks, its byte, and what it adds to the packed syllable, which has 64 bits
 abbrev pub chosenBy : ℕ → Rules → ℕ
 chosenBy state rules = rules .picks / 2 ^ (3 * state) % 8
 
@@ -161,4 +161,4 @@ abbrev pub nextBy : ℕ → Rules → ℕ
 nextBy state rules = rules .outcomes / 2 ^ (8 * chosenBy state rules) % 256
 
 abbrev pub gainBy : ℕ → Rules → ℕ
-gainBy state rules = (rules .amounts / 2 ^ (8 * chosenBy state rules) % 256) * 2 ^ (8 * (rules .amounts % 8))
+gainBy state rules = (rules .amounts / 2 ^ (8 * chosenBy state rules) % 256) * 2 ^ (rules .amounts % 64) % 0x10000000000000000

@@ -4,7 +4,7 @@ use mathlib.Core.Path.{_≡_}
 use mathlib.Core.Bool.{Bool, not, _&&_, _||_}
 use mathlib.Core.List.{_∷_}
 use mathlib.Core.Option.{Option, none, some}
-use Prim.Native.Nat.{ℕ, _+_, _-_, _*_}
+use Prim.Native.Nat.{ℕ, _+_, _-_, _*_, _^_}
 use lib.Dec.{T, eqb, leb, ltb}
 use Rattle.letters.specs.Choice.{pick}
 use Rattle.letters.specs.Letters.{within}
@@ -13,11 +13,12 @@ use Rattle.letters.specs.Marks.{MedialGroup, Vowel, ToneMark}
 use Rattle.letters.specs.Weights.{isHead, isFinalLetter, medialSet, vowelWeight, vowelTall, toneWeight}
 use Rattle.letters.specs.declared.kind.Kind.{Kind}
 use Rattle.formula.specs.Syllable.{Final, no-final, plain, plain-pair, stacked, kinzi, great-sa, syllable, bare, carriesFinal}
+use Rattle.formula.specs.Record.{linkOf}
 use Rattle.formula.specs.Row.{Row}
 use Rattle.transitions.specs.State.{State, done, pair-final, plain-final, nga-final, waiting, head-stays, head-second, head-closes, head-nga, after-ya-ra, after-wa, after-ha, with-e, with-e-aa, with-i, with-u, with-vowel, Room, any-final, second-final, no-room, begunState, stateOf, stateNumber}
 
--- a value is refused; or what becomes of the number of syllables, 0 for one fewer, 1 for as many, 2 for one more; what is added to a byte of
--- the last syllable; and the state after it
+-- a value is refused; or what becomes of the number of syllables, 0 for one fewer, 1 for as many, 2 for one more; what is added to the last
+-- syllable from a bit on; and the state after it
 pub data Transition : Type 0 where
   refuse : Transition
   to : ℕ → ℕ → State → Transition
@@ -86,16 +87,17 @@ onVowel x state =
 abbrev pub onTone : ℕ → State → Transition
 onTone x state = pick (takesToneState state) (to 1 (x - 0x1036) done) refuse
 
--- 103A makes the letter a plain final of the syllable before, its first or its second, or ends the vowel 1031 AA 103A, which makes 8 of weight to 9
+-- 103A makes the letter a plain final of the syllable before, its first, whose link is 1, or its second, or ends the vowel 1031 AA 103A, which makes
+-- 8 of weight to 9: 1 more, which is 4 from the bit of the link on
 abbrev pub onKiller : State → Transition
 onKiller state =
-    pick (is head-closes state) (to 0 0 plain-final)
-    (pick (is head-nga state) (to 0 0 nga-final)
-    (pick (is head-second state) (to 0 0 pair-final) (pick (is with-e-aa state) (to 1 1 with-vowel) refuse)))
+    pick (is head-closes state) (to 0 1 plain-final)
+    (pick (is head-nga state) (to 0 1 nga-final)
+    (pick (is head-second state) (to 0 0 pair-final) (pick (is with-e-aa state) (to 1 4 with-vowel) refuse)))
 
--- 1039 makes the letter a stacked final of the syllable before, or a plain 1004 kinzi, whose link is 1 more
+-- 1039 makes the letter a stacked final of the syllable before, whose link is 2, or a plain 1004 kinzi, whose link is 1 more
 abbrev pub onStacker : State → Transition
-onStacker state = pick (is head-closes state) (to 0 0 waiting) (pick (is nga-final state) (to 1 0x40 waiting) refuse)
+onStacker state = pick (is head-closes state) (to 0 2 waiting) (pick (is nga-final state) (to 1 1 waiting) refuse)
 
 -- 103F is the final of an open syllable and the head of its own
 abbrev pub onGreatSa : State → Transition
@@ -117,42 +119,42 @@ transition kind x state =
     })
     kind
 
--- the byte of a syllable that a mark of the kind adds to: 1 the set of medials, 2 the final, 3 the vowel, 4 the tone
-abbrev pub byteOf : Kind → ℕ
-byteOf kind = byKind (record { head = 0; medial = 1; vowel = 3; tone = 4; killer = 3; stacker = 2; great-sa = 0; foreign = 0 }) kind
+-- the bit of a packed syllable from which on a mark of the kind adds: 8 the set of medials, 22 the link, 24 the vowel, 32 the tone
+abbrev pub bitOf : Kind → ℕ
+bitOf kind = byKind (record { head = 0; medial = 8; vowel = 24; tone = 32; killer = 22; stacker = 22; great-sa = 0; foreign = 0 }) kind
 
 -- what a vowel has in its byte of a packed syllable: its weight, and 16 more for a tall AA
 abbrev pub vowelByte : Vowel → ℕ
 vowelByte v = vowelWeight v + 16 * vowelTall v
 
--- 103A makes a letter a plain final of a syllable without one, and 1039 a stacked one
-abbrev pub finalBy : ℕ → ℕ → Final
-finalBy x c = pick (eqb x 0x1039) (stacked c) (plain c)
-
 -- a value that is read begins a syllable unless it is one of the marks from 102B to 103E, whatever is read before it
 unfoldable pub beginsBy : ℕ → Bool
 beginsBy x = ltb x 0x102B || ltb 0x103E x
 
--- the value x makes of the row on the left the one on the right, last syllable first, by a transition with d for the count and the amount a,
--- which is added to this byte
-pub data Makes (x : ℕ) : ℕ → ℕ → ℕ → Row → Row → Type 0 where
-  begins : {byte : ℕ} {kept : Row} → T (isHead x) → Makes x byte 2 0 kept (bare x ∷ kept)
-  begins-great-sa : {byte h : ℕ} {m : MedialGroup} {v : Vowel} {t : ToneMark} {kept : Row} → x ≡ 0x103F
-      → Makes x byte 2 0 (syllable h m v no-final t ∷ kept) (bare 0x101E ∷ syllable h m v great-sa t ∷ kept)
-  adds-medial : {a h : ℕ} {m n : MedialGroup} {v : Vowel} {f : Final} {t : ToneMark} {kept : Row} → medialSet n ≡ medialSet m + a
-      → Makes x 1 1 a (syllable h m v f t ∷ kept) (syllable h n v f t ∷ kept)
-  adds-vowel : {a h : ℕ} {m : MedialGroup} {v u : Vowel} {f : Final} {t : ToneMark} {kept : Row} → vowelByte u ≡ vowelByte v + a
-      → Makes x 3 1 a (syllable h m v f t ∷ kept) (syllable h m u f t ∷ kept)
-  adds-tone : {a h : ℕ} {m : MedialGroup} {v : Vowel} {f : Final} {t n : ToneMark} {kept : Row} → toneWeight n ≡ toneWeight t + a
-      → Makes x 4 1 a (syllable h m v f t ∷ kept) (syllable h m v f n ∷ kept)
-  makes-kinzi : {h : ℕ} {m : MedialGroup} {v : Vowel} {t : ToneMark} {kept : Row}
-      → Makes x 2 1 0x40 (syllable h m v (plain 0x1004) t ∷ kept) (syllable h m v kinzi t ∷ kept)
-  closes : {byte c h : ℕ} {m : MedialGroup} {v : Vowel} {t : ToneMark} {kept : Row} → T (isFinalLetter c)
-      → Makes x byte 0 0 (bare c ∷ syllable h m v no-final t ∷ kept) (syllable h m v (finalBy x c) t ∷ kept)
-  closes-second : {byte b c h : ℕ} {m : MedialGroup} {v : Vowel} {t : ToneMark} {kept : Row} → x ≡ 0x103A → T (isFinalLetter c)
-      → Makes x byte 0 0 (bare c ∷ syllable h m v (plain b) t ∷ kept) (syllable h m v (plain-pair b c) t ∷ kept)
+-- the letter c joins the final on the left, which becomes the one on the right
+pub data Joins (c : ℕ) : Final → Final → Type 0 where
+  first-plain : Joins c no-final (plain c)
+  first-stacked : Joins c no-final (stacked c)
+  second-plain : {b : ℕ} → Joins c (plain b) (plain-pair b c)
 
--- the transition by x takes the row kept to o
+-- the value x makes of the row on the left the one on the right, last syllable first, by a transition with d for the count, which adds g to the
+-- packed syllable
+pub data Makes (x : ℕ) : ℕ → ℕ → Row → Row → Type 0 where
+  begins : {g : ℕ} {kept : Row} → T (isHead x) → Makes x 2 g kept (bare x ∷ kept)
+  begins-great-sa : {g h : ℕ} {m : MedialGroup} {v : Vowel} {t : ToneMark} {kept : Row} → x ≡ 0x103F
+      → Makes x 2 g (syllable h m v no-final t ∷ kept) (bare 0x101E ∷ syllable h m v great-sa t ∷ kept)
+  adds-medial : {g h : ℕ} {m n : MedialGroup} {v : Vowel} {f : Final} {t : ToneMark} {kept : Row} → 0x100 * medialSet n ≡ 0x100 * medialSet m + g
+      → Makes x 1 g (syllable h m v f t ∷ kept) (syllable h n v f t ∷ kept)
+  adds-vowel : {g h : ℕ} {m : MedialGroup} {v u : Vowel} {f : Final} {t : ToneMark} {kept : Row} → 0x1000000 * vowelByte u ≡ 0x1000000 * vowelByte v + g
+      → Makes x 1 g (syllable h m v f t ∷ kept) (syllable h m u f t ∷ kept)
+  adds-tone : {g h : ℕ} {m : MedialGroup} {v : Vowel} {f : Final} {t n : ToneMark} {kept : Row} → 0x100000000 * toneWeight n ≡ 0x100000000 * toneWeight t + g
+      → Makes x 1 g (syllable h m v f t ∷ kept) (syllable h m v f n ∷ kept)
+  makes-kinzi : {h : ℕ} {m : MedialGroup} {v : Vowel} {t : ToneMark} {kept : Row}
+      → Makes x 1 0x400000 (syllable h m v (plain 0x1004) t ∷ kept) (syllable h m v kinzi t ∷ kept)
+  closes : {g c h : ℕ} {m : MedialGroup} {v : Vowel} {f made : Final} {t : ToneMark} {kept : Row} → T (isFinalLetter c) → Joins c f made
+      → 0x400000 * linkOf made ≡ 0x400000 * linkOf f + g → Makes x 0 g (bare c ∷ syllable h m v f t ∷ kept) (syllable h m v made t ∷ kept)
+
+-- the transition by x, which adds from this bit on, takes the row kept to o
 abbrev pub Agrees : ℕ → ℕ → Transition → Row → Option Row → Type 0
-Agrees x byte refuse kept o = o ≡ none
-Agrees x byte (to d a state) kept o = (b : Row) × (o ≡ some b) × (state ≡ stateOf b) × Makes x byte d a kept b
+Agrees x bit refuse kept o = o ≡ none
+Agrees x bit (to d a state) kept o = (b : Row) × (o ≡ some b) × (state ≡ stateOf b) × Makes x d (a * 2 ^ bit) kept b

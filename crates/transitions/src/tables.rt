@@ -7,7 +7,7 @@ ghost use Rattle.transitions.specs.Tables.{stateLimit, rulesIn, rulesOf,
 
 // What a value does at each state. Three bits a state, the first lowest, pick one of at most seven outcomes, or 0 for a refusal. An outcome has a
 // byte of `outcomes`, five bits for the state after it and above them what becomes of the count (0 one fewer, 1 as many, 2 one more), and a byte
-// of `amounts`, what it adds to the packed syllable; the lowest bytes are the refusal's and the place of the byte that is added to.
+// of `amounts`, what it adds to the packed syllable; the lowest bytes are the refusal's and the bit from which on is added.
 pub struct Rules {
     pub picks: u64,
     pub outcomes: u64,
@@ -52,87 +52,87 @@ fn rules_in(class: u8) -> Rules
         5 => Rules {
             picks: 0o2111111100000,
             outcomes: 0x2D3060,
-            amounts: 0x121103,
+            amounts: 0x121118,
         },
         6 => Rules {
             picks: 0o2111111100000,
             outcomes: 0x2D3060,
-            amounts: 0x20103,
+            amounts: 0x20118,
         },
         7 => Rules {
             picks: 0o111111100000,
             outcomes: 0x2E60,
-            amounts: 0x203,
+            amounts: 0x218,
         },
         8 => Rules {
             picks: 0o111111100000,
             outcomes: 0x3060,
-            amounts: 0x303,
+            amounts: 0x318,
         },
         9 => Rules {
             picks: 0o200111111100000,
             outcomes: 0x302F60,
-            amounts: 0x90403,
+            amounts: 0x90418,
         },
         10 => Rules {
             picks: 0o111111100000,
             outcomes: 0x3060,
-            amounts: 0x503,
+            amounts: 0x518,
         },
         11 => Rules {
             picks: 0o111111100000,
             outcomes: 0x2C60,
-            amounts: 0x603,
+            amounts: 0x618,
         },
         12 => Rules {
             picks: 0o111111100000,
             outcomes: 0x3060,
-            amounts: 0x703,
+            amounts: 0x718,
         },
         13 => Rules {
             picks: 0o2000111111100000,
             outcomes: 0x303060,
-            amounts: 0x80A03,
+            amounts: 0x80A18,
         },
         14 => Rules {
             picks: 0o11111111111101110,
             outcomes: 0x2060,
-            amounts: 0x104,
+            amounts: 0x120,
         },
         15 => Rules {
             picks: 0o11111111111101110,
             outcomes: 0x2060,
-            amounts: 0x204,
+            amounts: 0x220,
         },
         16 => Rules {
             picks: 0o20001000,
             outcomes: 0x42460,
-            amounts: 0x4002,
+            amounts: 0x20116,
         },
         17 => Rules {
             picks: 0o40000321000000,
             outcomes: 0x3003020160,
-            amounts: 0x100000003,
+            amounts: 0x401010016,
         },
         18 => Rules {
             picks: 0o111100000,
             outcomes: 0x2960,
-            amounts: 0x101,
+            amounts: 0x108,
         },
         19 => Rules {
             picks: 0o111100000,
             outcomes: 0x2960,
-            amounts: 0x201,
+            amounts: 0x208,
         },
         20 => Rules {
             picks: 0o1111100000,
             outcomes: 0x2A60,
-            amounts: 0x401,
+            amounts: 0x408,
         },
         21 => Rules {
             picks: 0o11111100000,
             outcomes: 0x2B60,
-            amounts: 0x801,
+            amounts: 0x808,
         },
         22 => Rules {
             picks: 0o11111111111100000,
@@ -182,5 +182,5 @@ pub fn gain(state: usize, rules: Rules) -> u64
     ensures { λ r. ⌜ r ≡ gainBy state rules ⌝ }
 {
     let outcome = chosen(state, rules);
-    ((rules.amounts >> (8 * outcome)) % 256) << (8 * (rules.amounts % 8))
+    ((rules.amounts >> (8 * outcome)) % 256) << (rules.amounts % 64)
 }

@@ -1,11 +1,13 @@
 -- `reading::scan::scan_word` meets its contract: before each turn the state, the window and the arrays show what the machine has kept of the
 -- values read. The measure is what is left of the word. Assumes nothing.
-use mathlib.Core.Path.{_≡_, ap, _∙_}
+use mathlib.Core.Path.{_≡_, refl, ap, _∙_}
+use mathlib.Core.Bool.{true, false}
 use mathlib.Core.Logic.{⊎-elim}
-use Prim.Native.Nat.{_-_, _/_, _≤_, _<_}
+use Prim.Native.Nat.{ℕ, _-_, _/_, _≤_, _<_}
 use native.Mathlib.Omega.{arith}
 use borrow.Author.Needs.{needs}
 use lib.ListN.{length, getD}
+use Rattle.formula.specs.Limits.{limit}
 use Rattle.transitions.specs.State.{stateCount}
 use Rattle.transitions.specs.Tables.{entryOf, gainOf, nextBy, gainBy}
 use Rattle.transitions.proofs.Entered.{next-entry, next-gain}
@@ -73,66 +75,86 @@ returns c =
       whole = λ e. let z : ⊥ = omega arith in absurd z;
     }
 
-gain-requires : tie.Need-gain-requires Inv-loop μ-loop
-gain-requires c κs = let b = state-small (c .before .before .before .before .before) in omega arith
-
--- what is added is what the value adds at the state
-gained : (c : tie.After-gain Inv-loop μ-loop) → let l = c .before .before .before .before .before .before in
-    c .gain .result ≡ gainOf (l .loop .state) (getD (l .before .before .before .args .word .now) (l .loop .at) 0)
-gained c =
-    let n = c .before .before in
-    let l = n .before .before .before .before in
-    let b = state-small l in
-    c .gain .ensures ∙ ap (gainBy (l .loop .state)) (n .before .rules-of .ensures)
-    ∙ next-gain (l .loop .state) _ (omega arith) (λ e. c .before .if1 .left (entered n ∙ e))
-
--- the numbers of the window fit
-fits : (c : tie.After-gain Inv-loop μ-loop) → let n = c .before .before in let l = n .before .before .before .before in
-    Fit (n .next .result / 32) (c .gain .result) (getD (l .before .before .before .args .word .now) (l .loop .at) 0) (l .loop .window)
-fits c =
-    let n = c .before .before in
+-- the numbers of the window fit, by what the value adds at the state
+fits : (c : tie.Else1 Inv-loop μ-loop) → let n = c .before in let l = n .before .before .before .before in
+    let x = getD (l .before .before .before .args .word .now) (l .loop .at) 0 in (gain : ℕ) → gain ≡ gainOf (l .loop .state) x
+    → Fit (n .next .result / 32) gain x (l .loop .window)
+fits c gain g =
+    let n = c .before in
     let l = n .before .before .before .before in
     let s = l .before .before .before in
     turn-fits (s .args .word .now) (l .loop .at) (l .loop .state) (l .loop .window) (l .loop .syllables) (l .loop .starts) (l .loop .inv .1)
-    (n .next .result) (entered n) (n .before .before .before .loop-test .taken) (c .before .if1 .left) (s .pre) (c .gain .result) (gained c)
-
-window-after-requires : tie.Need-window-after-requires Inv-loop μ-loop
-window-after-requires c κs = fits c
-
-turns : (c : tie.After-window-after Inv-loop μ-loop) → let n = c .before .before .before in let l = n .before .before .before .before in
-    Turned (l .before .before .before .args .word .now) (l .loop .at) (n .next .result) (l .loop .syllables) (l .loop .starts) (c .window-after .result)
-turns c =
-    let g = c .before in
-    let n = g .before .before in
-    let l = n .before .before .before .before in
-    let s = l .before .before .before in
-    turned (s .args .word .now) (l .loop .at) (l .loop .state) (l .loop .window) (l .loop .syllables) (l .loop .starts) (l .loop .inv .1)
-    (n .next .result) (entered n) (n .before .before .before .loop-test .taken) (g .before .if1 .left) (s .pre) (g .gain .result) (gained g)
-    (c .window-after .result) (c .window-after .ensures)
+    (n .next .result) (entered n) (n .before .before .before .loop-test .taken) (c .if1 .left) (s .pre) gain g
 
 begins-requires : tie.Need-begins-requires Inv-loop μ-loop
 begins-requires c κs = search needs
 
+-- the value begins a syllable, or none
+more : (c : tie.After-begins Inv-loop μ-loop) → c .begins .result ≡ true → c .before .before .next .result / 32 ≡ 2
+more c t = one-more (fits (c .before) _ refl) _ (c .begins .ensures) t
+
+no-more : (c : tie.After-begins Inv-loop μ-loop) → c .begins .result ≡ false → c .before .before .next .result / 32 ≡ 2 → ⊥
+no-more c t = none-more (fits (c .before) _ refl) _ (c .begins .ensures) t
+
 less-requires : tie.Need-less-requires Inv-loop μ-loop
 less-requires c κs = search needs
 
+closed-by-requires : tie.Need-closed-by-requires Inv-loop μ-loop
+closed-by-requires c κs = fits (c .before .before .before) _ refl .last
+
+-- the window has at most as many syllables as the word has values
+few : (c : tie.At-loop Inv-loop μ-loop) → c .loop .window .count ≤ c .loop .at
+few c =
+    count-fits (c .before .before .before .args .word .now) (c .loop .at) (c .loop .state) (c .loop .window) (c .loop .syllables) (c .loop .starts) (c .loop .inv .1)
+
+-- so that there is room for one more
+room : (c : tie.After-less Inv-loop μ-loop) → c .before .before .before .before .before .before .before .before .loop .window .count < limit
+room c =
+    let i = c .before .before .before .before .before .before .before in
+    let l = i .before in
+    omega (arith, few l, i .loop-test .taken, l .before .before .before .pre)
+
 mul-syllables : tie.Need-mul-syllables Inv-loop μ-loop
-mul-syllables c = omega (arith, c .less .ensures, turns (c .before .before .before) .few)
+mul-syllables c = omega (arith, c .before .less .ensures, room (c .before))
 
 array-write-syllables : tie.Need-array-write-syllables Inv-loop μ-loop
-array-write-syllables c = omega (arith, c .less .ensures, turns (c .before .before .before) .few)
+array-write-syllables c = omega (arith, c .before .less .ensures, room (c .before))
 
 cast-starts : tie.Need-cast-starts Inv-loop μ-loop
 cast-starts c = omega arith
 
-sub-starts : tie.Need-sub-starts Inv-loop μ-loop
-sub-starts c =
-    let t = c .before in
-    let b = t .before in
-    turns (b .before) .starts-one (one-more (fits (b .before .before)) _ (b .begins .ensures) (t .if2 .taken))
-
 array-write-starts : tie.Need-array-write-starts Inv-loop μ-loop
-array-write-starts c = omega (arith, turns (c .before .before .before) .few)
+array-write-starts c = room (c .before)
+
+gain-requires : tie.Need-gain-requires Inv-loop μ-loop
+gain-requires c κs = let b = state-small (c .before .before .before .before .before .before .before) in omega arith
+
+-- what is added is what the value adds at the state
+gained : (c : tie.After-gain Inv-loop μ-loop) → let l = c .before .before .before .before .before .before .before .before in
+    c .gain .result ≡ gainOf (l .loop .state) (getD (l .before .before .before .args .word .now) (l .loop .at) 0)
+gained c =
+    let e = c .before .before .before in
+    let n = e .before in
+    let l = n .before .before .before .before in
+    let b = state-small l in
+    c .gain .ensures ∙ ap (gainBy (l .loop .state)) (n .before .rules-of .ensures)
+    ∙ next-gain (l .loop .state) _ (omega arith) (λ z. e .if1 .left (entered n ∙ z))
+
+window-after-requires : tie.Need-window-after-requires Inv-loop μ-loop
+window-after-requires c κs = fits (c .before .before .before) (c .gain .result) (gained c)
+
+turns : (c : tie.After-window-after Inv-loop μ-loop) → let n = c .before .before .before .before .before in let l = n .before .before .before .before in
+    Turned (l .before .before .before .args .word .now) (l .loop .at) (n .next .result) (l .loop .window) (l .loop .syllables) (l .loop .starts)
+    (c .window-after .result)
+turns c =
+    let g = c .before in
+    let e = g .before .before .before in
+    let n = e .before in
+    let l = n .before .before .before .before in
+    let s = l .before .before .before in
+    turned (s .args .word .now) (l .loop .at) (l .loop .state) (l .loop .window) (l .loop .syllables) (l .loop .starts) (l .loop .inv .1)
+    (n .next .result) (entered n) (n .before .before .before .loop-test .taken) (e .if1 .left) (s .pre) (g .gain .result) (gained g)
+    (c .window-after .result) (c .window-after .ensures)
 
 cast-state : tie.Need-cast-state Inv-loop μ-loop
 cast-state c = omega arith
@@ -145,23 +167,18 @@ loop-less c = omega arith
 
 loop-again : tie.Need-loop-again Inv-loop μ-loop
 loop-again c =
-    let b = c .before in
-    let t = turns (b .before) in
-    let f = fits (b .before .before) in (
+    let j = c .before .before in
+    let b = j .before in
+    let t = turns c in (
       omega arith,
       ⊎-elim
-          (λ w. t .begun (one-more f _ (b .begins .ensures) (w .0 .taken)) (w .1 .result) (w .1 .ensures) (c .if2 .syllables) (w .2) (c .if2 .starts) (w .3))
-          (λ w. t .stays (none-more f _ (b .begins .ensures) (w .0 .left)) (c .if2 .syllables) (w .1) (c .if2 .starts) (w .2))
-          (c .if2 .came),
+          (λ w. t .begun (more b (w .0 .taken)) (w .1 .result) (w .1 .ensures) (w .2 .result) (w .2 .ensures) (j .if2 .syllables) (w .3) (j .if2 .starts) (w .4))
+          (λ w. t .stays (no-more b (w .0 .left)) (j .if2 .syllables) (w .1) (j .if2 .starts) (w .2))
+          (j .if2 .came),
     )
 
 less-requires-2 : tie.Need-less-requires-2 Inv-loop μ-loop
 less-requires-2 c κs = search needs
-
--- the window has at most as many syllables as the word has values
-few : (c : tie.At-loop Inv-loop μ-loop) → c .loop .window .count ≤ c .loop .at
-few c =
-    count-fits (c .before .before .before .args .word .now) (c .loop .at) (c .loop .state) (c .loop .window) (c .loop .syllables) (c .loop .starts) (c .loop .inv .1)
 
 mul-syllables-2 : tie.Need-mul-syllables-2 Inv-loop μ-loop
 mul-syllables-2 c = let n = few (c .before .before) in omega (arith, c .less2 .ensures)
@@ -199,15 +216,15 @@ scan-word-spec =
     rules-of-requires
     next-requires
     returns
-    gain-requires
-    window-after-requires
     begins-requires
     less-requires
+    closed-by-requires
     mul-syllables
     array-write-syllables
     cast-starts
-    sub-starts
     array-write-starts
+    gain-requires
+    window-after-requires
     cast-state
     add-at
     loop-less
