@@ -14,8 +14,8 @@ use Rattle.formula.specs.declared.Window.{Window}
 use Rattle.refusals.specs.Outcome.{Outcome, accepts, accepts-both, absent, refuses}
 use Rattle.rows.specs.Machine.{KeptOk, step, run}
 use Rattle.rows.proofs.Viable.{read-back, stops}
-use Rattle.transitions.specs.State.{stateCount}
-use Rattle.transitions.specs.Transition.{Makes}
+use Rattle.states.specs.State.{stateCount}
+use Rattle.states.specs.Transition.{Makes}
 use Rattle.transitions.specs.Tables.{entryOf, gainOf}
 use Rattle.transitions.proofs.Entered.{Moves}
 use Rattle.syllables.specs.Window.{closedBy, Fit, WindowOf}

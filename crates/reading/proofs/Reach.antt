@@ -15,7 +15,7 @@ use Rattle.formula.specs.Packed.{packed, packedTop, unread}
 use Rattle.formula.specs.declared.Window.{Window}
 use Rattle.rows.specs.Machine.{endOf, KeptOk, keptJoin, step, run}
 use Rattle.transitions.specs.Tables.{entryOf, gainOf}
-use Rattle.transitions.specs.Transition.{Makes, begins, begins-great-sa, adds-medial, adds-vowel, adds-tone, makes-kinzi, closes}
+use Rattle.states.specs.Transition.{Makes, begins, begins-great-sa, adds-medial, adds-vowel, adds-tone, makes-kinzi, closes}
 use Rattle.transitions.proofs.Entered.{Moves}
 use Rattle.syllables.specs.Window.{closedBy, windowAfter, Fit, WindowOf, belowLast}
 use Rattle.syllables.proofs.Moved.{made-final, window-moves, closed-below, window-fits}

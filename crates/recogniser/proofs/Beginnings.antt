@@ -25,9 +25,9 @@ use Rattle.rows.proofs.Complete.{run-append}
 use Rattle.rows.proofs.Viable.{read-back}
 use Rattle.rows.proofs.Admitted.{run-admitted}
 use Rattle.rows.proofs.Earlier.{asks, earlier-exactly, earlier-gives, earlier-viable}
-use Rattle.transitions.specs.State.{stateOf}
-use Rattle.transitions.specs.Transition.{Transition, refuse, to, transition, bitOf, Joins, first-plain, first-stacked, second-plain, Makes, begins, begins-great-sa, adds-medial, adds-vowel, adds-tone, makes-kinzi, closes, Agrees}
-use Rattle.transitions.proofs.Followed.{followed}
+use Rattle.states.specs.State.{stateOf}
+use Rattle.states.specs.Transition.{Transition, refuse, to, transition, bitOf, Joins, first-plain, first-stacked, second-plain, Makes, begins, begins-great-sa, adds-medial, adds-vowel, adds-tone, makes-kinzi, closes, Agrees}
+use Rattle.states.proofs.Followed.{followed}
 use Rattle.recogniser.specs.Answer.{Answers, unfinished}
 use Rattle.recogniser.proofs.Determined.{answers-alike}
 

@@ -10,10 +10,12 @@ use lib.Dec.{eqb}
 use lib.ListN.{length, getD, take}
 use Rattle.rows.specs.Machine.{step, run}
 use Rattle.rows.proofs.Viable.{goes-on}
-use Rattle.transitions.specs.State.{waiting, stateOf, stateNumber, stateCount}
+use Rattle.states.specs.State.{waiting, stateOf, stateNumber, stateCount}
 use Rattle.transitions.specs.Tables.{entryOf, gainOf}
-use Rattle.transitions.proofs.Known.{waiting-is}
-use Rattle.transitions.proofs.Entered.{Moves, makes-length, Enters, state-small, enters}
+use Rattle.states.proofs.Known.{waiting-is}
+use Rattle.states.proofs.Tested.{state-small}
+use Rattle.states.proofs.Lengths.{makes-length}
+use Rattle.transitions.proofs.Entered.{Moves, Enters, enters}
 use Rattle.recogniser.specs.Concluded.{Halted}
 use Rattle.recogniser.specs.Walked.{Walked, WalkStopped}
 use Rattle.recogniser.proofs.Kept.{kept-right, count-bound}

@@ -8,7 +8,7 @@ use lib.ListN.{length, getD, take}
 use Rattle.formula.specs.Limits.{limit}
 use Rattle.formula.specs.Row.{Row}
 use Rattle.rows.specs.Machine.{step, run}
-use Rattle.transitions.specs.State.{stateOf, stateNumber}
+use Rattle.states.specs.State.{stateOf, stateNumber}
 
 -- the state after the first `at` values of the word
 pub record Walked (word : List ℕ) (at state count : ℕ) : Type 0 where

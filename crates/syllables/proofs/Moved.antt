@@ -21,8 +21,9 @@ use Rattle.formula.specs.Row.{Row}
 use Rattle.formula.specs.Packed.{packed, packedTop}
 use Rattle.formula.specs.declared.Window.{Window}
 use Rattle.rows.specs.Machine.{KeptOk, isNotGreatSa}
-use Rattle.transitions.specs.Transition.{beginsBy, Joins, first-plain, first-stacked, second-plain, Makes, begins, begins-great-sa, adds-medial, adds-vowel, adds-tone, makes-kinzi, closes}
-use Rattle.transitions.proofs.Entered.{makes-length}
+use Rattle.transitions.specs.Tables.{beginsBy}
+use Rattle.states.specs.Transition.{Joins, first-plain, first-stacked, second-plain, Makes, begins, begins-great-sa, adds-medial, adds-vowel, adds-tone, makes-kinzi, closes}
+use Rattle.states.proofs.Lengths.{makes-length}
 use Rattle.syllables.specs.Parts.{linkPart}
 use Rattle.syllables.specs.Window.{packedLimit, begunBy, closedBy, plainBit, joinedBy, lastKept, windowAfter, Fit, JoinedTo, WindowOf, belowLast}
 use Rattle.syllables.proofs.Parted.{packed-small, parted}

@@ -12,7 +12,7 @@ use Rattle.formula.specs.Row.{Row}
 use Rattle.formula.specs.Packed.{packed, packedTop}
 use Rattle.formula.specs.declared.Window.{Window}
 use Rattle.rows.specs.Machine.{endOf, isNotGreatSa}
-use Rattle.transitions.specs.Transition.{beginsBy}
+use Rattle.transitions.specs.Tables.{beginsBy}
 
 -- what the value x begins a syllable with, and what it makes of the syllable that it ends
 unfoldable pub begunBy : ℕ → ℕ

@@ -23,11 +23,12 @@ use Rattle.formula.proofs.Lists.{both-left, both-right}
 use Rattle.formula.specs.Syllable.{carriesMarks, carriesFinal}
 use Rattle.formula.specs.Row.{Row}
 use Rattle.rows.specs.Machine.{endOf, KeptOk, isNotGreatSa, step}
-use Rattle.transitions.specs.State.{State, done, pair-final, plain-final, nga-final, waiting, head-stays, head-second, head-closes, head-nga, after-ya-ra, after-wa, after-ha, with-e, with-e-aa, with-i, with-u, with-vowel, stateOf, stateNumber, stateCount}
-use Rattle.transitions.specs.Transition.{Transition, refuse, to, transition, bitOf, beginsBy, Makes, begins, begins-great-sa, adds-medial, adds-vowel, adds-tone, makes-kinzi, closes, Agrees}
-use Rattle.transitions.specs.Tables.{stateAt, entry, amountOf, entryOf, gainOf, classIn, classOf, examples, rulesAt, rulesIn, rulesOf, nextBy, gainBy}
-use Rattle.transitions.proofs.Tested.{numbered}
-use Rattle.transitions.proofs.Followed.{followed}
+use Rattle.states.specs.State.{State, stateOf, stateNumber, stateAt, stateCount}
+use Rattle.states.specs.Transition.{Transition, refuse, to, transition, bitOf, Makes, Agrees}
+use Rattle.states.proofs.Tested.{numbered, state-small}
+use Rattle.states.proofs.Lengths.{small-change}
+use Rattle.states.proofs.Followed.{followed}
+use Rattle.transitions.specs.Tables.{beginsBy, entry, amountOf, entryOf, gainOf, classIn, classOf, examples, rulesAt, rulesIn, rulesOf, nextBy, gainBy}
 
 -- what is so of every value of the chart and of all foreign values
 chart-or-foreign : (P : ℕ → Type 0) → ((x : ℕ) → 0x1000 ≤ x → x ≤ 0x104F → P x) → ((x : ℕ) → kindOf x ≡ Foreign → P x) → (x : ℕ) → P x
@@ -132,15 +133,6 @@ begins-told q x h n =
     told-at : (y : ℕ) → 0x1000 ≤ y → y ≤ 0x104F → T (eqb (entryOf q y) 96 || same (beginsBy y) (eqb (entryOf q y / 32) 2))
     told-at y l u = below (λ (k : ℕ). eqb (entryOf k y) 96 || same (beginsBy y) (eqb (entryOf k y / 32) 2)) stateCount (tells-tested y l u) q h
 
-pub makes-length : {x d g : ℕ} {kept b : Row} → Makes x d g kept b → length b + 1 ≡ length kept + d
-makes-length (begins h) = omega arith
-makes-length (begins-great-sa y) = omega arith
-makes-length (adds-medial e) = omega arith
-makes-length (adds-vowel e) = omega arith
-makes-length (adds-tone e) = omega arith
-makes-length makes-kinzi = omega arith
-makes-length (closes l j e) = omega arith
-
 -- what an entry that is no refusal says of the machine's step: the row after it, its state and what was made of the row before
 pub record Moves (x e gain : ℕ) (kept : Row) (o : Option Row) : Type 0 where
   pub after : Row
@@ -152,34 +144,6 @@ pub record Moves (x e gain : ℕ) (kept : Row) (o : Option Row) : Type 0 where
 pub record Enters (x e gain : ℕ) (kept : Row) (o : Option Row) : Type 0 where
   pub refuses : e ≡ 96 → o ≡ none
   pub moves : (e ≡ 96 → ⊥) → Moves x e gain kept o
-
-pub state-small : (s : State) → stateNumber s < stateCount
-state-small done = omega arith
-state-small pair-final = omega arith
-state-small plain-final = omega arith
-state-small nga-final = omega arith
-state-small waiting = omega arith
-state-small head-stays = omega arith
-state-small head-second = omega arith
-state-small head-closes = omega arith
-state-small head-nga = omega arith
-state-small after-ya-ra = omega arith
-state-small after-wa = omega arith
-state-small after-ha = omega arith
-state-small with-e = omega arith
-state-small with-e-aa = omega arith
-state-small with-i = omega arith
-state-small with-u = omega arith
-state-small with-vowel = omega arith
-
-small-change : {x d g : ℕ} {kept b : Row} → Makes x d g kept b → d ≤ 2
-small-change (begins h) = omega arith
-small-change (begins-great-sa y) = omega arith
-small-change (adds-medial e) = omega arith
-small-change (adds-vowel e) = omega arith
-small-change (adds-tone e) = omega arith
-small-change makes-kinzi = omega arith
-small-change (closes l j e) = omega arith
 
 enters-by : (x : ℕ) (t : Transition) (e gain : ℕ) (kept : Row) (o : Option Row) → e ≡ entry t → gain ≡ amountOf t * 2 ^ bitOf (kindOf x)
     → ((e ≡ 96 → ⊥) → beginsBy x ≡ eqb (e / 32) 2) → Agrees x (bitOf (kindOf x)) t kept o → Enters x e gain kept o

@@ -1,6 +1,1 @@
-pub mod Tested
-pub mod Known
-pub mod Marked
-pub mod Closing
-pub mod Followed
 pub mod Entered

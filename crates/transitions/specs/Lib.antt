@@ -1,3 +1,1 @@
-pub mod State
-pub mod Transition
 pub mod Tables

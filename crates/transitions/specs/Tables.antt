@@ -1,42 +1,17 @@
 -- The tables of the code: a class for the values that do the same, and for each class what it does to the states, in three numbers.
 -- Inner contracts cite it; no public promise does. Assumes nothing.
-use mathlib.Core.Bool.{Bool, true, false, _&&_, _||_}
+use mathlib.Core.Bool.{Bool, false, _||_}
 use mathlib.Core.List.{List, [], _∷_, map}
 use Prim.Native.Nat.{ℕ, _+_, _-_, _*_, _/_, _%_, _^_}
-use lib.Dec.{eqb}
+use lib.Dec.{eqb, ltb}
 use lib.ListN.{getD}
 use Rattle.letters.specs.Choice.{pick}
 use Rattle.letters.specs.Letters.{kindOf}
 use Rattle.letters.specs.declared.kind.Kind.{Kind}
 use Rattle.letters.specs.declared.kind.Kind.the-variants.{Consonant, IndependentVowel, Medial, VowelMark, Tone, Killer, Stacker, GreatSa, Digit, Stop, Sign, Foreign}
-use Rattle.transitions.specs.State.{State, done, pair-final, plain-final, nga-final, waiting, head-stays, head-second, head-closes, head-nga, after-ya-ra, after-wa, after-ha, with-e, with-e-aa, with-i, with-u, with-vowel, stateNumber}
-use Rattle.transitions.specs.Transition.{Transition, refuse, to, transition, bitOf}
+use Rattle.states.specs.State.{stateNumber, states, stateAt}
+use Rattle.states.specs.Transition.{Transition, refuse, to, same, transition, bitOf}
 use Rattle.transitions.specs.declared.tables.Rules.{Rules}
-
--- the states in the order of their numbers
-abbrev pub states : List State
-states =
-    done
-    ∷ pair-final
-    ∷ plain-final
-    ∷ nga-final
-    ∷ waiting
-    ∷ head-stays
-    ∷ head-second
-    ∷ head-closes
-    ∷ head-nga
-    ∷ after-ya-ra
-    ∷ after-wa
-    ∷ after-ha
-    ∷ with-e
-    ∷ with-e-aa
-    ∷ with-i
-    ∷ with-u
-    ∷ with-vowel
-    ∷ []
-
-abbrev pub stateAt : ℕ → State
-stateAt n = getD states n done
 
 -- how many states three bits each have room for
 abbrev pub stateLimit : ℕ
@@ -57,6 +32,10 @@ entryOf state x = entry (transition (kindOf x) x (stateAt state))
 
 unfoldable pub gainOf : ℕ → ℕ → ℕ
 gainOf state x = amountOf (transition (kindOf x) x (stateAt state)) * 2 ^ bitOf (kindOf x)
+
+-- a value that is read begins a syllable unless it is one of the marks from 102B to 103E, whatever is read before it
+unfoldable pub beginsBy : ℕ → Bool
+beginsBy x = ltb x 0x102B || ltb 0x103E x
 
 -- 4 is the class of the heads that carry a final and no marks, 23 of those that carry nothing
 abbrev pub classIn : Kind → ℕ → ℕ
@@ -104,13 +83,6 @@ examples =
     ∷ 0x103F
     ∷ 0x1040
     ∷ []
-
--- two transitions that are the same, as a test
-abbrev pub same : Transition → Transition → Bool
-same refuse refuse = true
-same refuse (to e b r) = false
-same (to d a s) refuse = false
-same (to d a s) (to e b r) = eqb d e && (eqb a b && eqb (stateNumber s) (stateNumber r))
 
 abbrev pub isIn : Transition → List Transition → Bool
 isIn t [] = false

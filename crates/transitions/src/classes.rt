@@ -1,7 +1,6 @@
 // What a value says by itself: its class, of which all do the same to every state, and whether it begins a syllable.
 ghost use mathlib.Core.Path.{_≡_};
-ghost use Rattle.transitions.specs.Transition.{beginsBy};
-ghost use Rattle.transitions.specs.Tables.{classOf};
+ghost use Rattle.transitions.specs.Tables.{beginsBy, classOf};
 
 // Neighbours stand in different arms, so that the compiler makes one table of bytes; 3 is the class of the foreign values,
 // 4 of an I and 104E, which carry a final, and 23 of the heads that carry nothing.

@@ -8,7 +8,7 @@ use native.Mathlib.Omega.{arith}
 use borrow.Author.Needs.{needs}
 use lib.ListN.{length, getD}
 use Rattle.formula.specs.Limits.{limit}
-use Rattle.transitions.specs.State.{stateCount}
+use Rattle.states.specs.State.{stateCount}
 use Rattle.transitions.specs.Tables.{entryOf, gainOf, nextBy, gainBy}
 use Rattle.transitions.proofs.Entered.{next-entry, next-gain}
 use Rattle.syllables.specs.Window.{Fit}

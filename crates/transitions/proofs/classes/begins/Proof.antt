@@ -1,7 +1,7 @@
 -- `transitions::classes::begins` meets its contract: one test after the other.
 -- Assumes nothing.
 use borrow.Author.Tests.{lt-ltb, le-ltb}
-use Rattle.transitions.specs.Transition.{beginsBy}
+use Rattle.transitions.specs.Tables.{beginsBy}
 use Rattle.transitions.proofs.classes.begins.Statement.{statement}
 use Rattle.transitions.proofs.classes.begins.Tie as tie
 

@@ -19,12 +19,12 @@ use Rattle.formula.proofs.Lists.{both-left, both-right}
 use Rattle.formula.specs.Syllable.{Final, no-final, plain, plain-pair, stacked, kinzi, great-sa, syllable, bare, carriesMarks, carriesFinal, isNoTone, isClosed}
 use Rattle.formula.specs.Row.{Row}
 use Rattle.rows.specs.Machine.{toneOf, when, onto, endOf, KeptOk, isNotGreatSa, admits, stepHead, stepTone, stepGreatSa, act, step}
-use Rattle.transitions.specs.State.{State, done, head-stays, Room, no-room, headState, begunState, toneState, roomOnTop, stateOf}
-use Rattle.transitions.specs.Transition.{refuse, to, takesHead, roomAt, onHead, onTone, onGreatSa, transition, bitOf, begins, begins-great-sa, adds-tone, Agrees}
-use Rattle.transitions.proofs.Tested.{in-class}
-use Rattle.transitions.proofs.Known.{admits-is, known, room-is}
-use Rattle.transitions.proofs.Marked.{Follows, medial-followed, vowel-followed}
-use Rattle.transitions.proofs.Closing.{killer-followed, stacker-followed}
+use Rattle.states.specs.State.{State, done, head-stays, Room, no-room, headState, begunState, toneState, roomOnTop, stateOf}
+use Rattle.states.specs.Transition.{refuse, to, takesHead, roomAt, onHead, onTone, onGreatSa, transition, bitOf, begins, begins-great-sa, adds-tone, Agrees}
+use Rattle.states.proofs.Tested.{in-class}
+use Rattle.states.proofs.Known.{admits-is, known, room-is}
+use Rattle.states.proofs.Marked.{Follows, medial-followed, vowel-followed}
+use Rattle.states.proofs.Closing.{killer-followed, stacker-followed}
 
 pushed : (x bit : ℕ) (kept : Row) (p q : Bool) (room : Room) → q ≡ p → room ≡ roomOnTop kept → T (isHead x)
     → Agrees x bit (pick p (to 2 0 (pick (carriesFinal x) (begunState room x) done)) refuse) kept (when q (some (bare x ∷ kept)))

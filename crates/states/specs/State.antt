@@ -1,9 +1,10 @@
 -- The state of a reading: all that the next value asks of the row read so far, one of seventeen. A device of proofs and of inner contracts:
 -- no public promise cites it. Assumes nothing.
 use mathlib.Core.Bool.{true, false}
-use mathlib.Core.List.{[], _∷_}
+use mathlib.Core.List.{List, [], _∷_}
 use Prim.Native.Nat.{ℕ}
 use lib.Dec.{eqb}
+use lib.ListN.{getD}
 use Rattle.letters.specs.Choice.{pick}
 use Rattle.letters.specs.Marks.{neither, ya, ra, MedialGroup, group, Vowel, no-vowel, vowel-aa, vowel-i, vowel-ii, vowel-u, vowel-uu, vowel-e, vowel-ai, vowel-e-aa, vowel-e-aa-killer, vowel-am, vowel-i-u, vowel-u-am, ToneMark, no-tone, dot, visarga}
 use Rattle.letters.specs.Weights.{isFinalLetter}
@@ -113,6 +114,31 @@ stateNumber with-e-aa = 13
 stateNumber with-i = 14
 stateNumber with-u = 15
 stateNumber with-vowel = 16
+
+-- the states in the order of their numbers
+abbrev pub states : List State
+states =
+    done
+    ∷ pair-final
+    ∷ plain-final
+    ∷ nga-final
+    ∷ waiting
+    ∷ head-stays
+    ∷ head-second
+    ∷ head-closes
+    ∷ head-nga
+    ∷ after-ya-ra
+    ∷ after-wa
+    ∷ after-ha
+    ∷ with-e
+    ∷ with-e-aa
+    ∷ with-i
+    ∷ with-u
+    ∷ with-vowel
+    ∷ []
+
+abbrev pub stateAt : ℕ → State
+stateAt n = getD states n done
 
 -- how many they are
 abbrev pub stateCount : ℕ

@@ -18,11 +18,10 @@ use Rattle.formula.specs.Syllable.{Final, no-final, syllable, carriesMarks, car
 use Rattle.formula.specs.Row.{Row}
 use Rattle.rows.specs.Machine.{medialAnd, vowelAnd, when, onto, KeptOk, isOpen, stepMedial, stepVowel}
 use Rattle.formula.proofs.Classes.{within-bounds, mark-bounds}
-use Rattle.transitions.specs.State.{State, done, pair-final, plain-final, nga-final, waiting, with-vowel, Room, headState, medialState, vowelState, roomOnTop, stateOf}
-use Rattle.transitions.specs.Transition.{Transition, refuse, to, isOpenState, onMedial, onVowel, onKiller, vowelByte, Makes, adds-medial, adds-vowel, Agrees}
-use Rattle.transitions.specs.Tables.{same}
-use Rattle.transitions.proofs.Tested.{each-open, everywhere, in-class, same-equal}
-use Rattle.transitions.proofs.Known.{known, open-state, unmarked-state}
+use Rattle.states.specs.State.{State, done, pair-final, plain-final, nga-final, waiting, with-vowel, Room, headState, medialState, vowelState, roomOnTop, stateOf}
+use Rattle.states.specs.Transition.{Transition, refuse, to, same, isOpenState, onMedial, onVowel, onKiller, vowelByte, Makes, adds-medial, adds-vowel, Agrees}
+use Rattle.states.proofs.Tested.{each-open, everywhere, in-class, same-equal}
+use Rattle.states.proofs.Known.{known, open-state, unmarked-state}
 
 -- a mark that changes a piece of the last syllable, whose number grows from w v to w n
 abbrev pub changed : {A : Type 0} → (A → ℕ) → A → (A → State) → Option A → Transition

@@ -3,7 +3,8 @@
 use mathlib.Core.Path.{_≡_, refl, ap, sym, _∙_}
 use mathlib.Core.Bool.{Bool, true, false, not, _&&_, _||_}
 use mathlib.Core.List.{List, [], _∷_}
-use Prim.Native.Nat.{ℕ, _+_, _≤_}
+use Prim.Native.Nat.{ℕ, _+_, _≤_, _<_}
+use native.Mathlib.Omega.{arith}
 use lib.Dec.{T, eqb, eqb→eq}
 use Rattle.letters.specs.Choice.{pick}
 use Rattle.letters.specs.Marks.{MedialGroup, medialGroups, Vowel, vowels}
@@ -12,9 +13,8 @@ use Rattle.letters.proofs.Counted.{on-chart}
 use Rattle.letters.proofs.Table.{upTo}
 use Rattle.formula.proofs.Lists.{both-left, both-right, every, every-all, All}
 use Rattle.formula.proofs.Pieces.{each-vowel, each-medial}
-use Rattle.transitions.specs.State.{State, done, pair-final, plain-final, nga-final, waiting, head-stays, head-second, head-closes, head-nga, after-ya-ra, after-wa, after-ha, with-e, with-e-aa, with-i, with-u, with-vowel, Room, any-final, second-final, no-room, headState, stateNumber}
-use Rattle.transitions.specs.Transition.{Transition, refuse, to}
-use Rattle.transitions.specs.Tables.{stateAt, same}
+use Rattle.states.specs.State.{State, done, pair-final, plain-final, nga-final, waiting, head-stays, head-second, head-closes, head-nga, after-ya-ra, after-wa, after-ha, with-e, with-e-aa, with-i, with-u, with-vowel, Room, any-final, second-final, no-room, headState, stateNumber, stateAt, stateCount}
+use Rattle.states.specs.Transition.{Transition, refuse, to, same}
 
 -- a state is known by its number
 pub numbered : (s : State) → stateAt (stateNumber s) ≡ s
@@ -35,6 +35,26 @@ numbered with-e-aa = refl
 numbered with-i = refl
 numbered with-u = refl
 numbered with-vowel = refl
+
+-- which is below their number
+pub state-small : (s : State) → stateNumber s < stateCount
+state-small done = omega arith
+state-small pair-final = omega arith
+state-small plain-final = omega arith
+state-small nga-final = omega arith
+state-small waiting = omega arith
+state-small head-stays = omega arith
+state-small head-second = omega arith
+state-small head-closes = omega arith
+state-small head-nga = omega arith
+state-small after-ya-ra = omega arith
+state-small after-wa = omega arith
+state-small after-ha = omega arith
+state-small with-e = omega arith
+state-small with-e-aa = omega arith
+state-small with-i = omega arith
+state-small with-u = omega arith
+state-small with-vowel = omega arith
 
 -- the states of heads, and that a test which passes at each of the list passes at any
 abbrev heads : List State

@@ -17,9 +17,9 @@ use Rattle.formula.specs.Row.{Row}
 use Rattle.rows.specs.Machine.{endOf, KeptOk, isNotGreatSa, isOpen, admits}
 use Rattle.rows.proofs.Sound.{apart}
 use Rattle.rows.proofs.Complete.{final-consonant}
-use Rattle.transitions.specs.State.{State, done, plain-final, nga-final, waiting, head-stays, head-second, head-closes, head-nga, after-ya-ra, after-wa, after-ha, with-e, with-e-aa, with-i, with-u, with-vowel, headState, begunState, medialState, vowelState, finalState, toneState, Room, no-room, roomAfter, roomOnTop, stateOf}
-use Rattle.transitions.specs.Transition.{is, isOpenState, takesHead, takesToneState, roomAt}
-use Rattle.transitions.proofs.Tested.{each-open}
+use Rattle.states.specs.State.{State, done, plain-final, nga-final, waiting, head-stays, head-second, head-closes, head-nga, after-ya-ra, after-wa, after-ha, with-e, with-e-aa, with-i, with-u, with-vowel, headState, begunState, medialState, vowelState, finalState, toneState, Room, no-room, roomAfter, roomOnTop, stateOf}
+use Rattle.states.specs.Transition.{is, isOpenState, takesHead, takesToneState, roomAt}
+use Rattle.states.proofs.Tested.{each-open}
 
 -- what the last syllable may take, by its final and tone and by the state
 abbrev pub waits : Final → ToneMark → Bool

@@ -1,11 +1,11 @@
 -- What a value does to the state of a reading, to the number of syllables and to the last of them. A device of proofs and of inner contracts:
 -- no public promise cites it. Assumes nothing.
 use mathlib.Core.Path.{_≡_}
-use mathlib.Core.Bool.{Bool, not, _&&_, _||_}
+use mathlib.Core.Bool.{Bool, true, false, not, _&&_, _||_}
 use mathlib.Core.List.{_∷_}
 use mathlib.Core.Option.{Option, none, some}
 use Prim.Native.Nat.{ℕ, _+_, _-_, _*_, _^_}
-use lib.Dec.{T, eqb, leb, ltb}
+use lib.Dec.{T, eqb, leb}
 use Rattle.letters.specs.Choice.{pick}
 use Rattle.letters.specs.Letters.{within}
 use Rattle.letters.specs.Kinds.{byKind}
@@ -15,13 +15,20 @@ use Rattle.letters.specs.declared.kind.Kind.{Kind}
 use Rattle.formula.specs.Syllable.{Final, no-final, plain, plain-pair, stacked, kinzi, great-sa, syllable, bare, carriesFinal}
 use Rattle.formula.specs.Record.{linkOf}
 use Rattle.formula.specs.Row.{Row}
-use Rattle.transitions.specs.State.{State, done, pair-final, plain-final, nga-final, waiting, head-stays, head-second, head-closes, head-nga, after-ya-ra, after-wa, after-ha, with-e, with-e-aa, with-i, with-u, with-vowel, Room, any-final, second-final, no-room, begunState, stateOf, stateNumber}
+use Rattle.states.specs.State.{State, done, pair-final, plain-final, nga-final, waiting, head-stays, head-second, head-closes, head-nga, after-ya-ra, after-wa, after-ha, with-e, with-e-aa, with-i, with-u, with-vowel, Room, any-final, second-final, no-room, begunState, stateOf, stateNumber}
 
 -- a value is refused; or what becomes of the number of syllables, 0 for one fewer, 1 for as many, 2 for one more; what is added to the last
 -- syllable from a bit on; and the state after it
 pub data Transition : Type 0 where
   refuse : Transition
   to : ℕ → ℕ → State → Transition
+
+-- two transitions that are the same, as a test
+abbrev pub same : Transition → Transition → Bool
+same refuse refuse = true
+same refuse (to e b r) = false
+same (to d a s) refuse = false
+same (to d a s) (to e b r) = eqb d e && (eqb a b && eqb (stateNumber s) (stateNumber r))
 
 -- the state is this one; it is one of those from the first to the last
 abbrev pub is : State → State → Bool
@@ -126,10 +133,6 @@ bitOf kind = byKind (record { head = 0; medial = 8; vowel = 24; tone = 32; kille
 -- what a vowel has in its byte of a packed syllable: its weight, and 16 more for a tall AA
 abbrev pub vowelByte : Vowel → ℕ
 vowelByte v = vowelWeight v + 16 * vowelTall v
-
--- a value that is read begins a syllable unless it is one of the marks from 102B to 103E, whatever is read before it
-unfoldable pub beginsBy : ℕ → Bool
-beginsBy x = ltb x 0x102B || ltb 0x103E x
 
 -- the letter c joins the final on the left, which becomes the one on the right
 pub data Joins (c : ℕ) : Final → Final → Type 0 where

@@ -18,12 +18,11 @@ use Rattle.formula.specs.Row.{Row}
 use Rattle.formula.specs.Record.{linkOf}
 use Rattle.rows.specs.Machine.{vowelAnd, when, onto, KeptOk, isOpen, plainAnd, stackedAnd, close, killed, stepKiller, stepStacker}
 use Rattle.rows.proofs.Sound.{apart}
-use Rattle.transitions.specs.State.{State, done, pair-final, plain-final, nga-final, waiting, head-stays, head-second, head-closes, head-nga, Room, no-room, headState, medialState, vowelState, finalState, toneState, roomAfter, roomOnTop, stateOf}
-use Rattle.transitions.specs.Transition.{Transition, refuse, to, is, isOpenState, onKiller, onStacker, vowelByte, Joins, first-plain, first-stacked, second-plain, Makes, adds-vowel, makes-kinzi, closes, Agrees}
-use Rattle.transitions.specs.Tables.{same}
-use Rattle.transitions.proofs.Tested.{each-open, same-equal}
-use Rattle.transitions.proofs.Known.{carried, opened, letter-marks, open-state}
-use Rattle.transitions.proofs.Marked.{changed, grown, gained, Follows, if-marked, on-open, refused, shut}
+use Rattle.states.specs.State.{State, done, pair-final, plain-final, nga-final, waiting, head-stays, head-second, head-closes, head-nga, Room, no-room, headState, medialState, vowelState, finalState, toneState, roomAfter, roomOnTop, stateOf}
+use Rattle.states.specs.Transition.{Transition, refuse, to, same, is, isOpenState, onKiller, onStacker, vowelByte, Joins, first-plain, first-stacked, second-plain, Makes, adds-vowel, makes-kinzi, closes, Agrees}
+use Rattle.states.proofs.Tested.{each-open, same-equal}
+use Rattle.states.proofs.Known.{carried, opened, letter-marks, open-state}
+use Rattle.states.proofs.Marked.{changed, grown, gained, Follows, if-marked, on-open, refused, shut}
 
 -- 103A and 1039 on a head alone: it is one more letter in the final of the syllable before, where that has room and the letter may be one
 close-none : (p : Bool) → when p none ≡ none
