@@ -8,7 +8,7 @@ use Prim.Native.Nat.{ℕ, zero, suc, _+_, _*_, _/_, _%_, _^_, _≤_, _<_}
 use native.Mathlib.Decide.{decLt}
 use native.Mathlib.Nat.{le-of-suc-le-suc, not-suc-le-zero}
 use native.Mathlib.Omega.{arith}
-use lib.Dec.{T, eqb, eqb→eq}
+use lib.Dec.{T, eqb, eqb→eq, ltb, ltb→lt}
 use lib.ListN.{length, getD}
 use borrow.Author.Tests.{ne-eqb}
 use Rattle.letters.specs.Choice.{pick}
@@ -28,7 +28,7 @@ use Rattle.states.specs.Transition.{Transition, refuse, to, transition, bitOf, 
 use Rattle.states.proofs.Tested.{numbered, state-small}
 use Rattle.states.proofs.Lengths.{small-change}
 use Rattle.states.proofs.Followed.{followed}
-use Rattle.transitions.specs.Tables.{beginsBy, entry, amountOf, entryOf, gainOf, classIn, classOf, examples, rulesAt, rulesIn, rulesOf, nextBy, gainBy}
+use Rattle.transitions.specs.Tables.{beginsBy, entry, amountOf, entryOf, gainOf, classIn, classOf, examples, exampleIn, rulesAt, rulesIn, rulesOf, nextBy, gainBy}
 
 -- what is so of every value of the chart and of all foreign values
 chart-or-foreign : (P : ℕ → Type 0) → ((x : ℕ) → 0x1000 ≤ x → x ≤ 0x104F → P x) → ((x : ℕ) → kindOf x ≡ Foreign → P x) → (x : ℕ) → P x
@@ -58,10 +58,10 @@ beyond (y ∷ l) zero h = absurd (not-suc-le-zero h)
 beyond (y ∷ l) (suc k) h = beyond l k (le-of-suc-le-suc h)
 
 -- a class that no arm has is none of those that have an example, where the arms have every one of these
-no-example : (arms : List (List ℕ)) → T (upTo (inArms arms) (length examples)) → (class : ℕ) → InNone arms class → getD examples class 0 ≡ 0
+no-example : (arms : List (List ℕ)) → T (upTo (inArms arms) (length examples)) → (class : ℕ) → InNone arms class → exampleIn class ≡ 0
 no-example arms t class n = go (decLt class (length examples))
   where
-    go : Dec (class < length examples) → getD examples class 0 ≡ 0
+    go : Dec (class < length examples) → exampleIn class ≡ 0
     go (yes h) = absurd (subst T (in-none arms class n) (below (inArms arms) (length examples) t class h))
     go (no h) = beyond examples class (omega arith)
 
@@ -74,44 +74,67 @@ pub no-rules : (arms : List (List ℕ)) → T (upTo (inArms arms) (length exampl
 unfolding rulesIn
 no-rules arms t class n = ap rulesAt (no-example arms t class n) ∙ no-rules-at
 
--- the entry that a class has for a state, and what it adds there
-abbrev entryIn : ℕ → ℕ → ℕ
-entryIn class q = nextBy q (rulesIn class)
+-- the rules of a class say what its example does at each state
+abbrev ruleAt : ℕ → ℕ → Bool
+ruleAt class q =
+    eqb (nextBy q (rulesIn class)) (entryOf q (exampleIn class))
+    && (eqb (entryOf q (exampleIn class)) 96 || eqb (gainBy q (rulesIn class)) (gainOf q (exampleIn class)))
 
-abbrev gainIn : ℕ → ℕ → ℕ
-gainIn class q = gainBy q (rulesIn class)
+ruled : (class : ℕ) → class < length examples → (q : ℕ) → q < stateCount → T (ruleAt class q)
+unfolding entryOf gainOf rulesIn pick carriesMarks carriesFinal
+ruled class l q h =
+    below (ruleAt class) stateCount (below (λ (k : ℕ). upTo (ruleAt k) stateCount) (length examples) tt class l) q h
 
-ruleRight : ℕ → Bool
-ruleRight x = upTo (λ (q : ℕ). eqb (entryIn (classOf x) q) (entryOf q x) && (eqb (entryOf q x) 96 || eqb (gainIn (classOf x) q) (gainOf q x))) stateCount
+-- and every value of the class does the same
+abbrev alikeAt : ℕ → ℕ → Bool
+alikeAt x q = eqb (entryOf q (exampleIn (classOf x))) (entryOf q x) && eqb (gainOf q (exampleIn (classOf x))) (gainOf q x)
 
-tested : (x : ℕ) → 0x1000 ≤ x → x ≤ 0x104F → T (ruleRight x)
-unfolding ruleRight entryOf gainOf classOf rulesIn pick carriesMarks carriesFinal
-tested x l h = on-chart ruleRight tt x l h
+alikeTest : ℕ → Bool
+alikeTest x = ltb (classOf x) (length examples) && upTo (alikeAt x) stateCount
 
-refusing : (q : ℕ) → q < stateCount → T (eqb (entryIn 3 q) 96)
-unfolding rulesIn pick
-refusing q h = below (λ (k : ℕ). eqb (entryIn 3 k) 96) stateCount tt q h
+alike : (x : ℕ) → 0x1000 ≤ x → x ≤ 0x104F → (classOf x < length examples) × ((q : ℕ) → q < stateCount → T (alikeAt x q))
+unfolding alikeTest entryOf gainOf classOf pick carriesMarks carriesFinal
+alike x l h =
+    let t : T (alikeTest x) = on-chart alikeTest tt x l h in (
+      ltb→lt (classOf x) (length examples) (both-left (ltb (classOf x) (length examples)) _ t),
+      λ q i. below (alikeAt x) stateCount (both-right (ltb (classOf x) (length examples)) _ t) q i,
+    )
 
-tested-at : (q x : ℕ) → q < stateCount → 0x1000 ≤ x → x ≤ 0x104F
-    → T (eqb (entryIn (classOf x) q) (entryOf q x) && (eqb (entryOf q x) 96 || eqb (gainIn (classOf x) q) (gainOf q x)))
-unfolding ruleRight
-tested-at q x h l u =
-    below (λ (k : ℕ). eqb (entryIn (classOf x) k) (entryOf k x) && (eqb (entryOf k x) 96 || eqb (gainIn (classOf x) k) (gainOf k x))) stateCount
-    (tested x l u) q h
+-- so of a value of the chart its rules say what it does
+module _ (q x : ℕ) (h : q < stateCount) (l : 0x1000 ≤ x) (u : x ≤ 0x104F) where
+  abbrev example : ℕ
+  example = exampleIn (classOf x)
+
+  rule : T (ruleAt (classOf x) q)
+  rule = ruled (classOf x) (alike x l u .0) q h
+
+  same-entry : entryOf q example ≡ entryOf q x
+  same-entry = eqb→eq _ _ (both-left (eqb (entryOf q example) (entryOf q x)) _ (alike x l u .1 q h))
+
+  chart-entry : nextBy q (rulesOf x) ≡ entryOf q x
+  chart-entry = eqb→eq _ _ (both-left (eqb (nextBy q (rulesOf x)) (entryOf q example)) _ rule) ∙ same-entry
+
+  chart-gain : (entryOf q x ≡ 96 → ⊥) → gainBy q (rulesOf x) ≡ gainOf q x
+  chart-gain n =
+      eqb→eq _ _
+      (or-second (eqb (entryOf q example) 96) _ (ne-eqb (entryOf q example) 96 (λ e. n (sym same-entry ∙ e)))
+      (both-right (eqb (nextBy q (rulesOf x)) (entryOf q example)) _ rule))
+      ∙ eqb→eq _ _ (both-right (eqb (entryOf q example) (entryOf q x)) _ (alike x l u .1 q h))
+
+foreign-next : (q x : ℕ) → q < stateCount → kindOf x ≡ Foreign → nextBy q (rulesOf x) ≡ entryOf q x
+foreign-next q x h e =
+    ap (λ (k : ℕ). nextBy q (rulesIn k)) (foreign-class x e)
+    ∙ eqb→eq _ _ (both-left (eqb (nextBy q (rulesIn 3)) (entryOf q (exampleIn 3))) _ (ruled 3 (omega arith) q h))
+    ∙ foreign-entry q (exampleIn 3) (unadmitted-foreign (exampleIn 3) refl) ∙ sym (foreign-entry q x e)
 
 -- what the rules of a value say at a state is what the value does there
 pub next-entry : (q x : ℕ) → q < stateCount → nextBy q (rulesOf x) ≡ entryOf q x
-next-entry q x h =
-    chart-or-foreign (λ (y : ℕ). entryIn (classOf y) q ≡ entryOf q y)
-    (λ y l u. eqb→eq (entryIn (classOf y) q) (entryOf q y) (both-left (eqb (entryIn (classOf y) q) (entryOf q y)) _ (tested-at q y h l u)))
-    (λ y e. ap (λ (k : ℕ). entryIn k q) (foreign-class y e) ∙ eqb→eq (entryIn 3 q) 96 (refusing q h) ∙ sym (foreign-entry q y e)) x
+next-entry q x h = chart-or-foreign (λ (y : ℕ). nextBy q (rulesOf y) ≡ entryOf q y) (λ y l u. chart-entry q y h l u) (λ y e. foreign-next q y h e) x
 
 -- and so is what it adds
 pub next-gain : (q x : ℕ) → q < stateCount → (entryOf q x ≡ 96 → ⊥) → gainBy q (rulesOf x) ≡ gainOf q x
 next-gain q x h n =
-    chart-or-foreign (λ (y : ℕ). (entryOf q y ≡ 96 → ⊥) → gainIn (classOf y) q ≡ gainOf q y)
-    (λ y l u m. eqb→eq (gainIn (classOf y) q) (gainOf q y)
-    (or-second (eqb (entryOf q y) 96) _ (ne-eqb (entryOf q y) 96 m) (both-right (eqb (entryIn (classOf y) q) (entryOf q y)) _ (tested-at q y h l u))))
+    chart-or-foreign (λ (y : ℕ). (entryOf q y ≡ 96 → ⊥) → gainBy q (rulesOf y) ≡ gainOf q y) (λ y l u m. chart-gain q y h l u m)
     (λ y e m. absurd (m (foreign-entry q y e))) x n
 
 -- what a value that is read says by itself: whether it begins a syllable

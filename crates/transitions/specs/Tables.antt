@@ -84,6 +84,10 @@ examples =
     ∷ 0x1040
     ∷ []
 
+abbrev pub exampleIn : ℕ → ℕ
+exampleIn class = getD examples class 0
+
+-- a transition is one of these
 abbrev pub isIn : Transition → List Transition → Bool
 isIn t [] = false
 isIn t (u ∷ us) = same t u || isIn t us
@@ -119,7 +123,7 @@ rulesAt x =
 
 -- the rules of a class are those of its example
 unfoldable pub rulesIn : ℕ → Rules
-rulesIn class = rulesAt (getD examples class 0)
+rulesIn class = rulesAt (exampleIn class)
 
 -- what a value does at each state, as the code looks it up
 abbrev pub rulesOf : ℕ → Rules
