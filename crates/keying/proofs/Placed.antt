@@ -20,10 +20,10 @@ use Rattle.rows.specs.Machine.{endOf, KeptOk}
 use Rattle.states.specs.Transition.{Makes, begins, begins-great-sa, adds-medial, adds-vowel, adds-tone, makes-kinzi, closes}
 use Rattle.syllables.proofs.Moved.{made-final}
 use Rattle.weighing.specs.Keys.{keyLimit, usedBytes, zeros, keyOf}
-use Rattle.keying.specs.Weights.{weightsBy}
+use Rattle.syllable_weights.specs.Weights.{weightsBy}
 use Rattle.syllables.specs.Window.{belowLast}
 use Rattle.keying.specs.Filling.{putLast, bytesAfter, keptKey, KeyOf}
-use Rattle.keying.proofs.Weighted.{weights-packed}
+use Rattle.syllable_weights.proofs.Weighted.{weights-packed}
 
 weights-long : (s : Syllable) → length (weightsOf s) ≡ weightCount
 unfolding weightsOf

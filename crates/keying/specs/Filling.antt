@@ -16,7 +16,7 @@ use Rattle.rows.specs.Machine.{endOf}
 use Rattle.syllables.specs.Window.{closedBy, windowAfter, WindowOf, belowLast}
 use Rattle.recogniser.specs.Walked.{Walked}
 use Rattle.weighing.specs.Keys.{keyLimit, zeros, usedBytes}
-use Rattle.keying.specs.Weights.{weightsBy}
+use Rattle.syllable_weights.specs.Weights.{weightsBy}
 
 -- the bytes with the last of so many syllables put at its place
 unfoldable pub putLast : ℕ → ℕ → List ℕ → List ℕ

@@ -1,11 +1,11 @@
 // The reading of a word and its key in one pass.
-use crate::weights::put_weights;
 use formula::Window;
 use formula::Word;
 use letters::weight::medial_weights;
 use recogniser::walk::answer_at;
 use refusals::Counted;
 use refusals::Refusal;
+use syllable_weights::put_weights;
 use syllables::window::closed_by;
 use syllables::window::window_after;
 use transitions::classes::begins;

@@ -1,4 +1,4 @@
--- `keying::weights::put_weights` meets its contract: its stores are those of the six weights one after the other.
+-- `syllable_weights::put_weights` meets its contract: its stores are those of the six weights one after the other.
 -- Assumes nothing.
 use mathlib.Core.Path.{ap}
 use mathlib.Core.List.{List}
@@ -7,9 +7,9 @@ use native.Mathlib.Omega.{arith}
 use lib.ListN.{getD}
 use borrow.Author.Needs.{needs}
 use Rattle.letters.proofs.Heads.{independent-vowel-limit}
-use Rattle.keying.proofs.Weighted.{looked-up, stores-six}
-use Rattle.keying.proofs.weights.put_weights.Statement.{statement}
-use Rattle.keying.proofs.weights.put_weights.Tie as tie
+use Rattle.syllable_weights.proofs.Weighted.{looked-up, stores-six}
+use Rattle.syllable_weights.proofs.put_weights.Statement.{statement}
+use Rattle.syllable_weights.proofs.put_weights.Tie as tie
 
 head-requires : tie.Need-head-requires
 head-requires c κs = search needs

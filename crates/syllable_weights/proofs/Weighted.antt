@@ -19,7 +19,7 @@ use Rattle.formula.specs.Weighing.{finalWeightOf, secondFinalWeightOf, weightsO
 use Rattle.rows.proofs.Sound.{apart}
 use Rattle.syllables.specs.Parts.{headPart, medialPart, finalPart, vowelPart, tonePart, secondFinalPart}
 use Rattle.syllables.proofs.Parted.{parted}
-use Rattle.keying.specs.Weights.{weightsBy}
+use Rattle.syllable_weights.specs.Weights.{weightsBy}
 
 head-back : (h : ℕ) → T (isHead h) → 0x1000 + (h - 0x1000) ≡ h
 head-back h t = let l = head-bounds h t .0 in omega arith
