@@ -1,7 +1,4 @@
 // The calls on words.
-use crate::outputs::put_key;
-use crate::outputs::put_record;
-use crate::outputs::put_values;
 ghost use Rattle.recogniser.specs.Answer.{Answers};
 ghost use Rattle.reading.specs.Parts.{PartAnswers};
 ghost use Rattle.normaliser.specs.Normal.{NormaliseRight};
@@ -12,7 +9,7 @@ ghost use Rattle.writing.specs.Write.{WriteRight};
 ghost use Rattle.spelling.specs.Spell.{lists, SpellRight};
 ghost use Rattle.packing.specs.Packing.{Packed};
 ghost use Rattle.packing.specs.Answers.{outcomeNumbers, compareNumbers};
-ghost use Rattle.interface.specs.Outputs.{RecordWritten, KeyWritten, DecodeWritten};
+ghost use Rattle.outputs.specs.Outputs.{RecordWritten, KeyWritten, DecodeWritten};
 
 // How many syllables a word has.
 #[no_mangle]
@@ -28,7 +25,7 @@ pub extern "C" fn jogcairn_read(word: &[u16]) -> u64
 pub extern "C" fn jogcairn_record(word: &[u16], number: usize, bytes: &mut [u8]) -> u64
     ensures { λ r. ⌜ Packed (RecordWritten (now (word .entry)) number (now (bytes .entry)) (now (bytes .exit))) outcomeNumbers r ⌝ }
 {
-    packing::of_reply(put_record(word, number, bytes))
+    packing::of_reply(outputs::put_record(word, number, bytes))
 }
 
 // Place and length of the part of the syllable `number`, from 0.
@@ -86,7 +83,7 @@ pub extern "C" fn jogcairn_typed_place(word: &[u16], place: usize) -> u64
 pub extern "C" fn jogcairn_key(word: &[u16], key: &mut [u8]) -> u64
     ensures { λ r. ⌜ Packed (KeyWritten (now (word .entry)) (now (key .entry)) (now (key .exit))) outcomeNumbers r ⌝ }
 {
-    packing::of_counted(put_key(word, key))
+    packing::of_counted(outputs::put_key(word, key))
 }
 
 // How the first word stands to the second.
@@ -102,5 +99,5 @@ pub extern "C" fn jogcairn_compare(first: &[u16], second: &[u16]) -> u64
 pub extern "C" fn jogcairn_decode(line: &[u8], word: &mut [u16]) -> u64
     ensures { λ r. ⌜ Packed (DecodeWritten (now (line .entry)) (now (word .entry)) (now (word .exit))) outcomeNumbers r ⌝ }
 {
-    packing::of_counted(put_values(line, word))
+    packing::of_counted(outputs::put_values(line, word))
 }

@@ -1,3 +1,5 @@
 pub mod Laws
 pub mod WordFits
 pub mod BookFits
+pub mod OutputFits
+pub mod Unpacked

@@ -1,12 +1,12 @@
--- `interface::outputs::put_key` meets its contract: the weights are written out where there is room for them.
+-- `outputs::put_key` meets its contract: the weights are written out where there is room for them.
 -- Assumes nothing.
 use borrow.Author.Needs.{needs}
 use mathlib.Core.Path.{refl, sym}
 use native.Mathlib.Omega.{arith}
 use Rattle.collation.proofs.Weighing.{Weighed}
-use Rattle.interface.proofs.Keying.{refused-right, short-right, written-right}
-use Rattle.interface.proofs.outputs.put_key.Statement.{statement}
-use Rattle.interface.proofs.outputs.put_key.Tie as tie
+use Rattle.outputs.proofs.Keying.{refused-right, short-right, written-right}
+use Rattle.outputs.proofs.put_key.Statement.{statement}
+use Rattle.outputs.proofs.put_key.Tie as tie
 
 -- the word, once it is weighed
 abbrev weighed : tie.After-answer2 → Weighed

@@ -20,13 +20,13 @@ use Rattle.ranking.specs.Whole.{OrderRight}
 use Rattle.book_word.specs.WordAt.{WordRight}
 use Rattle.wordbook.specs.Calls.{AddPromise, RemovePromise}
 use Rattle.wordbook.specs.Prefix.{PrefixPromise}
+use Rattle.outputs.specs.Outputs.{RecordWritten, KeyWritten, DecodeWritten}
 use Rattle.packing.specs.Packing.{pack, unpack, Packed}
 use Rattle.packing.specs.Answers.{outcomeNumbers, compareNumbers, FindAnswers}
 use Rattle.packing.proofs.Laws.{unpack-pack, packed-unpacked}
 use Rattle.packing.proofs.WordFits.{read-fits, part-fits, normalise-fits, form-fits, typed-fits, write-fits, spell-fits, compare-fits}
 use Rattle.packing.proofs.BookFits.{check-fits, rank-fits, order-fits, prefix-fits, record-word-fits, find-fits, add-fits, tidy-fits, remove-fits}
-use Rattle.interface.specs.Outputs.{RecordWritten, KeyWritten, DecodeWritten}
-use Rattle.interface.proofs.OutputFits.{record-fits, key-fits, decode-fits}
+use Rattle.packing.proofs.OutputFits.{record-fits, key-fits, decode-fits}
 
 module _ (word : List ℕ) (n : ℕ) where
   pub read-unpacked : (p : Packed (Answers word) outcomeNumbers n) → unpack n ≡ outcomeNumbers (p .outcome)

@@ -18,7 +18,7 @@ use Rattle.normaliser.specs.Normal.{Stores}
 use Rattle.weighing.specs.Keys.{keyLimit, keyBytes}
 use Rattle.collation.specs.Keyed.{KeyFor, WeighRight}
 use Rattle.collation.proofs.Weighing.{Weighed, weighed-refused, weighed-stores}
-use Rattle.interface.specs.Outputs.{StoredRow, KeyWritten}
+use Rattle.outputs.specs.Outputs.{StoredRow, KeyWritten}
 
 pub refused-right : (word : List ℕ) (answer : Counted) (bytes : List ℕ) → WeighRight word answer bytes → (refusal : Refusal)
     → answer ≡ Refused refusal → (before after : List ℕ) → after ≡ before → KeyWritten word before after (refuses (numberOf refusal) (placeOf refusal))

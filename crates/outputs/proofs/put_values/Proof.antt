@@ -1,11 +1,11 @@
--- `interface::outputs::put_values` meets its contract: the decoded word is written out where there is room for it.
+-- `outputs::put_values` meets its contract: the decoded word is written out where there is room for it.
 -- Assumes nothing.
 use borrow.Author.Needs.{needs}
 use mathlib.Core.Path.{refl}
 use Rattle.refusals.specs.Outcome.{outcomeOf}
-use Rattle.interface.proofs.Decoding.{refused-right, held-room, held-count, written-right}
-use Rattle.interface.proofs.outputs.put_values.Statement.{statement}
-use Rattle.interface.proofs.outputs.put_values.Tie as tie
+use Rattle.outputs.proofs.Decoding.{refused-right, held-room, held-count, written-right}
+use Rattle.outputs.proofs.put_values.Statement.{statement}
+use Rattle.outputs.proofs.put_values.Tie as tie
 
 decode-requires : tie.Need-decode-requires
 decode-requires c κs = search needs

@@ -15,12 +15,11 @@ use Rattle.reading.specs.Records.{HasRecord}
 use Rattle.storage.specs.Stored.{storedForm}
 use Rattle.normaliser.specs.Normal.{StoreRefusedWith}
 use Rattle.weighing.proofs.Laws.{key-length}
+use Rattle.outputs.specs.Outputs.{RecordWritten, answered, no-syllable, StoredRow, KeyWritten, DecodeWritten}
+use Rattle.outputs.proofs.Sizes.{record-long, word-short}
 use Rattle.packing.specs.Packing.{Fits}
 use Rattle.packing.specs.Answers.{outcomeNumbers}
 use Rattle.packing.proofs.WordFits.{writes-fits, word-refused-fits, store-refused-fits}
-use Rattle.interface.specs.Outputs.{RecordWritten, answered, no-syllable, StoredRow, KeyWritten, DecodeWritten}
-use Rattle.interface.proofs.Decoding.{word-short}
-use Rattle.interface.proofs.Recording.{record-long}
 
 pub record-fits : (word : List ℕ) (number : ℕ) (before after : List ℕ) (o : Outcome) → RecordWritten word number before after o → Fits (outcomeNumbers o)
 record-fits word number before after o (answered w) =

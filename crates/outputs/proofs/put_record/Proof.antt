@@ -1,12 +1,12 @@
--- `interface::outputs::put_record` meets its contract: the record is written out where there is one and room for it.
+-- `outputs::put_record` meets its contract: the record is written out where there is one and room for it.
 -- Assumes nothing.
 use borrow.Author.Needs.{needs}
 use mathlib.Core.Path.{_≡_, refl}
 use native.Mathlib.Omega.{arith}
 use Rattle.reading.specs.declared.records.RecordAnswer.the-variants.{Found}
-use Rattle.interface.proofs.Recording.{found-long, refused-right, absent-right, short-right, written-right}
-use Rattle.interface.proofs.outputs.put_record.Statement.{statement}
-use Rattle.interface.proofs.outputs.put_record.Tie as tie
+use Rattle.outputs.proofs.Recording.{found-long, refused-right, absent-right, short-right, written-right}
+use Rattle.outputs.proofs.put_record.Statement.{statement}
+use Rattle.outputs.proofs.put_record.Tie as tie
 
 record-at-requires : tie.Need-record-at-requires
 record-at-requires c κs = search needs

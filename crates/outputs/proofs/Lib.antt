@@ -1,6 +1,5 @@
+pub mod Sizes
 mod Decoding
 mod Recording
 mod Keying
 pub mod Determined
-pub mod OutputFits
-pub mod Unpacked

@@ -10,10 +10,10 @@ use refusals::Counted;
 use refusals::Refusal;
 use refusals::Reply;
 ghost use Rattle.refusals.specs.Outcome.{outcomeOf, replyOutcome};
-ghost use Rattle.interface.specs.Outputs.{RecordWritten, KeyWritten, DecodeWritten};
+ghost use Rattle.outputs.specs.Outputs.{RecordWritten, KeyWritten, DecodeWritten};
 
 // Writes the record of the syllable `number`, from 0, to the front of the output; nothing where there is no such syllable.
-pub(crate) fn put_record(word: &[u16], number: usize, output: &mut [u8]) -> Reply
+pub fn put_record(word: &[u16], number: usize, output: &mut [u8]) -> Reply
     ensures { λ r. ⌜ RecordWritten (now (word .entry)) number (now (output .entry)) (now (output .exit)) (replyOutcome r) ⌝ }
 {
     let given = record_at(word, number);
@@ -33,7 +33,7 @@ pub(crate) fn put_record(word: &[u16], number: usize, output: &mut [u8]) -> Repl
 }
 
 // Writes the key of a word to the front of the output.
-pub(crate) fn put_key(word: &[u16], output: &mut [u8]) -> Counted
+pub fn put_key(word: &[u16], output: &mut [u8]) -> Counted
     ensures { λ r. ⌜ KeyWritten (now (word .entry)) (now (output .entry)) (now (output .exit)) (outcomeOf r) ⌝ }
 {
     let mut bytes = [0; Word::KEY];
@@ -51,7 +51,7 @@ pub(crate) fn put_key(word: &[u16], output: &mut [u8]) -> Counted
 }
 
 // Writes the values of a line to the front of the output.
-pub(crate) fn put_values(line: &[u8], output: &mut [u16]) -> Counted
+pub fn put_values(line: &[u8], output: &mut [u16]) -> Counted
     ensures { λ r. ⌜ DecodeWritten (now (line .entry)) (now (output .entry)) (now (output .exit)) (outcomeOf r) ⌝ }
 {
     let decoded = decode(line);

@@ -1,11 +1,9 @@
--- What a decoded line tells: its values, at most as many as a word has since each takes three bytes, or the refusal 1 or 7.
+-- What a decoded line tells: its values, or the refusal 1 or 7.
 -- Assumes nothing.
-use mathlib.Core.Path.{_≡_, ap, subst}
+use mathlib.Core.Path.{_≡_, subst}
 use mathlib.Core.List.{List}
 use Prim.Native.Nat.{ℕ, _≤_}
-use native.Mathlib.Omega.{arith}
 use lib.ListN.{length, take}
-use Rattle.formula.specs.Limits.{limit}
 use Rattle.formula.proofs.Held.{held-front, held-fits, held-length}
 use Rattle.refusals.specs.Refusal.{numberOf, placeOf}
 use Rattle.refusals.specs.Outcome.{Outcome, refuses, outcomeOf}
@@ -16,11 +14,7 @@ use Rattle.refusals.specs.declared.Counted.the-variants.{Count, Refused}
 use Rattle.refusals.proofs.Putting.{puts-writes}
 use Rattle.lines.specs.Line.{Decodes, LineRefused, LineHolds, LineAnswers, DecodeRight}
 use Rattle.lines.specs.declared.Decoded.{Decoded}
-use Rattle.lines.proofs.RoundTrip.{encode-decode, length-encode}
-use Rattle.interface.specs.Outputs.{DecodeWritten}
-
-pub word-short : (line word : List ℕ) → Decodes line word → length word ≤ limit
-word-short line word d = let short = d .short in omega (arith, length-encode word, ap length (encode-decode 0 line word (d .into)))
+use Rattle.outputs.specs.Outputs.{DecodeWritten}
 
 module _ (line : List ℕ) (decoded : Decoded) (right : DecodeRight line decoded) where
   told : (a : Counted) → decoded .answer ≡ a → LineAnswers line (outcomeOf a) (decoded .word)

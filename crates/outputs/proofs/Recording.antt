@@ -1,15 +1,13 @@
 -- What the record by number tells, written to lent output: it is the row's, and has eight bytes.
 -- Assumes nothing.
-use mathlib.Core.Path.{_≡_, ap, subst, _∙_}
+use mathlib.Core.Path.{_≡_, subst, _∙_}
 use mathlib.Core.List.{List}
 use Prim.Native.Nat.{ℕ, _≤_, _<_}
 use native.Mathlib.Omega.{arith}
-use lib.ListN.{length, getD}
+use lib.ListN.{length}
 use lib.Seq.{sets}
 use Rattle.memory.proofs.Stores.{sets-front}
 use Rattle.formula.specs.Limits.{recordSize}
-use Rattle.formula.specs.Syllable.{bare}
-use Rattle.formula.proofs.Records.{record-length}
 use Rattle.refusals.specs.Refusal.{numberOf, placeOf}
 use Rattle.refusals.specs.Outcome.{accepts, absent, refuses}
 use Rattle.refusals.specs.Output.{refused, put, too-short}
@@ -18,10 +16,8 @@ use Rattle.reading.specs.Records.{recordOutcomeOf, HasRecord, NoRecord, RecordA
 use Rattle.reading.specs.declared.records.RecordAnswer.{RecordAnswer}
 use Rattle.reading.specs.declared.records.RecordAnswer.the-variants.{Found, NoSyllable, Refused}
 use Rattle.reading.specs.declared.records.SyllableRecord.{SyllableRecord}
-use Rattle.interface.specs.Outputs.{RecordWritten, answered, no-syllable}
-
-pub record-long : (word : List ℕ) (number : ℕ) (bytes : List ℕ) → HasRecord word number bytes → length bytes ≡ recordSize
-record-long word number bytes r = ap length (r .is) ∙ record-length (getD (r .row) number (bare 0x1000))
+use Rattle.outputs.specs.Outputs.{RecordWritten, answered, no-syllable}
+use Rattle.outputs.proofs.Sizes.{record-long}
 
 module _ (word : List ℕ) (number : ℕ) (given : SyllableRecord) (right : RecordRight word number given) where
   answers : (a : RecordAnswer) → given .answer ≡ a → RecordAnswers word number (recordOutcomeOf a) (given .bytes)

@@ -22,7 +22,7 @@ use Rattle.storage.specs.Stored.{storedForm}
 use Rattle.normaliser.specs.Normal.{StoreRefusedWith}
 use Rattle.normaliser.proofs.Determined.{store-refused-alike, stored-not-refused}
 use Rattle.weighing.specs.Keys.{keyBytes}
-use Rattle.interface.specs.Outputs.{RecordWritten, answered, no-syllable, StoredRow, KeyWritten, DecodeWritten}
+use Rattle.outputs.specs.Outputs.{RecordWritten, answered, no-syllable, StoredRow, KeyWritten, DecodeWritten}
 
 module _ (word : List ℕ) (number : ℕ) where
   same-record : (bytes other : List ℕ) → HasRecord word number bytes → HasRecord word number other → bytes ≡ other
