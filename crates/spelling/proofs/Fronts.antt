@@ -9,7 +9,7 @@ use native.Mathlib.Omega.{arith}
 use lib.ListN.{length, getD, take, drop, set, length-append, length-map, length-drop}
 use lib.Seq.{take-suc, drop-cons, set-at, length-take-le, append-snoc}
 use Rattle.formula.specs.Syllable.{no-final, part}
-use Rattle.syllable_text.specs.Decode.{syllableOf}
+use Rattle.syllable_record.specs.Decode.{syllableOf}
 use Rattle.reading.specs.Records.{bytesBy}
 use Rattle.syllable_text.specs.Part.{PartSize}
 use Rattle.syllable_text.specs.Part.{partAfter, PartPut}

@@ -21,9 +21,9 @@ use Rattle.rows.proofs.Sound.{apart, reclosed}
 use Rattle.rows.proofs.Complete.{first}
 use Rattle.reading.specs.Records.{bytesBy}
 use Rattle.reading.proofs.Recorded.{bytes-packed}
-use Rattle.syllable_text.specs.Decode.{syllableOf}
+use Rattle.syllable_record.specs.Decode.{syllableOf}
 use Rattle.syllable_text.specs.Part.{headAfter, partAfter}
-use Rattle.syllable_text.proofs.Decoded.{read}
+use Rattle.syllable_record.proofs.Decoded.{read}
 use Rattle.syllable_text.proofs.Texts.{medial-short, vowel-short, final-short, tone-short}
 use Rattle.spelling.specs.Plain.{plainOf, plainLink, plainBytes, spelledBy}
 

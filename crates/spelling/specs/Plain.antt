@@ -8,7 +8,7 @@ use Rattle.letters.specs.Choice.{pick}
 use Rattle.formula.specs.Syllable.{Final, no-final, plain, plain-pair, stacked, kinzi, great-sa, Syllable, syllable, part}
 use Rattle.formula.specs.Record.{linkPlace}
 use Rattle.reading.specs.Records.{bytesBy}
-use Rattle.syllable_text.specs.Decode.{syllableOf}
+use Rattle.syllable_record.specs.Decode.{syllableOf}
 
 -- the plain final with the same letter, or the two with the same letters
 abbrev pub plainFinal : Final → Final

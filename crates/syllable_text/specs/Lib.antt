@@ -1,4 +1,2 @@
-pub mod Decode
-pub mod Record
 pub mod Text
 pub mod Part

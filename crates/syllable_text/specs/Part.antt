@@ -8,7 +8,7 @@ use lib.ListN.{length, take, drop}
 use Rattle.letters.specs.Choice.{pick}
 use Rattle.letters.specs.Marks.{medialText, vowelText, toneText}
 use Rattle.formula.specs.Syllable.{no-final, Syllable, syllable, finalText, part}
-use Rattle.syllable_text.specs.Decode.{syllableOf}
+use Rattle.syllable_record.specs.Decode.{syllableOf}
 
 -- "103F is at once a final 101E of the syllable before and the head 101E of its own."
 unfoldable pub headAfter : ℕ → ℕ → ℕ

@@ -3,7 +3,7 @@ use crate::text;
 use formula::Word;
 ghost use Prim.Native.Nat.{_+_, _≤_};
 ghost use lib.ListN.{length};
-ghost use Rattle.syllable_text.specs.Decode.{syllableOf};
+ghost use Rattle.syllable_record.specs.Decode.{syllableOf};
 ghost use Rattle.syllable_text.specs.Part.{partAfter, PartPut, PartSize};
 
 // How many values the syllable's part has.

@@ -7,7 +7,7 @@ ghost use lib.Dec.{eqb};
 ghost use lib.ListN.{length};
 ghost use Rattle.letters.specs.Marks.{medialText, vowelText, toneText, aaText};
 ghost use Rattle.formula.specs.Syllable.{finalText};
-ghost use Rattle.syllable_text.specs.Decode.{medialOfWeight, vowelOfWeight, letterOfNumber, plainOfNumbers, finalOfNumbers, toneOfWeight};
+ghost use Rattle.syllable_record.specs.Decode.{medialOfWeight, vowelOfWeight, letterOfNumber, plainOfNumbers, finalOfNumbers, toneOfWeight};
 ghost use Rattle.syllable_text.specs.Text.{textOf, Room, PutRight};
 ghost use Rattle.syllable_text.specs.Part.{headAfter};
 

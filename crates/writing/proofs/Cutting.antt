@@ -12,8 +12,8 @@ use borrow.Author.Tests.{ne-eqb}
 use Rattle.letters.proofs.Picks.{and-no-left}
 use Rattle.formula.specs.Limits.{recordSize}
 use Rattle.formula.specs.Record.{linkPlace}
-use Rattle.syllable_text.specs.Decode.{syllableOf}
-use Rattle.syllable_text.specs.Record.{mayFollow}
+use Rattle.syllable_record.specs.Decode.{syllableOf}
+use Rattle.syllable_record.specs.Record.{mayFollow}
 use Rattle.writing.specs.Records.{firstRecords, recordsOf, rowOf, areRecords}
 
 records-of-next : (l : List ℕ) → recordSize ≤ length l → recordsOf l ≡ take recordSize l ∷ recordsOf (drop recordSize l)

@@ -15,10 +15,10 @@ use Rattle.formula.specs.Syllable.{Final, no-final, plain, plain-pair, stacked,
 use Rattle.formula.specs.Row.{Row, joinAfter, join}
 use Rattle.formula.specs.Limits.{recordSize}
 use Rattle.formula.specs.Record.{linkOf, linkPlace}
-use Rattle.syllable_text.specs.Decode.{syllableOf}
-use Rattle.syllable_text.specs.Record.{linkAdmits, isRecord, mayFollow}
+use Rattle.syllable_record.specs.Decode.{syllableOf}
+use Rattle.syllable_record.specs.Record.{linkAdmits, isRecord, mayFollow}
 use Rattle.syllable_text.specs.Part.{headAfter, partAfter, PartPut}
-use Rattle.syllable_text.proofs.Decoded.{decoded}
+use Rattle.syllable_record.proofs.Decoded.{decoded}
 use Rattle.syllable_text.proofs.Putting.{put-length, put-behind}
 use Rattle.writing.specs.Records.{rowOf, areRecords}
 use Rattle.writing.specs.Put.{RowFits, RowPut}

@@ -14,8 +14,8 @@ use Rattle.formula.specs.Limits.{limit, recordSize}
 use Rattle.formula.specs.Syllable.{Final, no-final, Syllable, syllable, finalOf, part}
 use Rattle.formula.specs.Row.{Row, joinAfter, join}
 use Rattle.formula.specs.Record.{linkPlace}
-use Rattle.syllable_text.specs.Decode.{syllableOf}
-use Rattle.syllable_text.specs.Record.{mayFollow}
+use Rattle.syllable_record.specs.Decode.{syllableOf}
+use Rattle.syllable_record.specs.Record.{mayFollow}
 use Rattle.syllable_text.specs.Part.{PartSize}
 use Rattle.writing.specs.Records.{rowOf, areRecords}
 use Rattle.writing.specs.Size.{sizeOf}

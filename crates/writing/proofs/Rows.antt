@@ -17,10 +17,10 @@ use Rattle.formula.specs.Row.{Row, isRowAfter}
 use Rattle.formula.specs.Record.{linkOf, recordOf, linkPlace, recordBytes}
 use Rattle.rows.proofs.Sound.{apart}
 use Rattle.rows.proofs.Complete.{first}
-use Rattle.syllable_text.specs.Decode.{syllableOf}
-use Rattle.syllable_text.specs.Record.{linkAdmits, isRecord, mayFollow}
-use Rattle.syllable_text.proofs.Parts.{head-least, final-closed}
-use Rattle.syllable_text.proofs.Decoded.{read, decoded}
+use Rattle.syllable_record.specs.Decode.{syllableOf}
+use Rattle.syllable_record.specs.Record.{linkAdmits, isRecord, mayFollow}
+use Rattle.syllable_record.proofs.Parts.{head-least, final-closed}
+use Rattle.syllable_record.proofs.Decoded.{read, decoded}
 use Rattle.writing.specs.Records.{rowOf, areRecords}
 use Rattle.writing.proofs.Cutting.{row-next, records-next, records-whole, row-none, records-none}
 

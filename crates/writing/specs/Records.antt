@@ -8,8 +8,8 @@ use lib.ListN.{length, getD, take, drop}
 use Rattle.formula.specs.Limits.{recordSize}
 use Rattle.formula.specs.Row.{Row}
 use Rattle.formula.specs.Record.{linkPlace}
-use Rattle.syllable_text.specs.Decode.{syllableOf}
-use Rattle.syllable_text.specs.Record.{mayFollow}
+use Rattle.syllable_record.specs.Decode.{syllableOf}
+use Rattle.syllable_record.specs.Record.{mayFollow}
 
 -- the first so many records of the bytes
 abbrev pub firstRecords : ℕ → List ℕ → List (List ℕ)

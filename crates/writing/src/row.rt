@@ -1,7 +1,8 @@
 // The passes over the records of a row: one that tests and counts, and one that writes.
 use formula::Word;
+use syllable_record::may_follow;
+use syllable_record::record_at;
 use syllable_text::part;
-use syllable_text::record;
 ghost use mathlib.Core.Path.{_≡_};
 ghost use lib.ListN.{length};
 ghost use Rattle.writing.specs.Size.{sizeOf};
@@ -23,8 +24,8 @@ pub(crate) fn measure(records: &[u8]) -> Size
         if records.len() - at < Word::RECORD {
             return Size::NoSuchRow;
         }
-        let next = record::record_at(records, at);
-        if !record::may_follow(link, next) {
+        let next = record_at(records, at);
+        if !may_follow(link, next) {
             return Size::NoSuchRow;
         }
         count += part::part_size(next);
@@ -49,7 +50,7 @@ pub(crate) fn put_row(records: &[u8], output: &mut [u16]) -> usize
     let mut count = 0;
     let mut place = 0;
     while place < records.len() {
-        let next = record::record_at(records, place);
+        let next = record_at(records, place);
         count = part::put_part(output, count, link, next);
         link = next[Word::LINK];
         place += Word::RECORD;

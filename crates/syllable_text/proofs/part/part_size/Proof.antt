@@ -5,7 +5,7 @@ use native.Mathlib.Omega.{arith}
 use lib.Dec.{eqb}
 use lib.ListN.{getD, length-append}
 use Rattle.formula.specs.Record.{linkPlace}
-use Rattle.syllable_text.specs.Decode.{medialOfWeight, vowelOfWeight, finalOfNumbers, toneOfWeight, syllableOf}
+use Rattle.syllable_record.specs.Decode.{medialOfWeight, vowelOfWeight, finalOfNumbers, toneOfWeight, syllableOf}
 use Rattle.syllable_text.proofs.Texts.{medial-short, vowel-short, final-short, tone-short, text-count}
 use borrow.Author.Needs.{needs}
 use Rattle.syllable_text.proofs.part.part_size.Statement.{statement}

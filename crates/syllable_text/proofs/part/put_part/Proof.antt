@@ -9,7 +9,7 @@ use denote.Ref.{now}
 use Rattle.letters.specs.Marks.{medialText, vowelText, toneText}
 use Rattle.formula.specs.Syllable.{finalText}
 use Rattle.formula.specs.Record.{linkPlace}
-use Rattle.syllable_text.specs.Decode.{medialOfWeight, vowelOfWeight, finalOfNumbers, toneOfWeight, syllableOf}
+use Rattle.syllable_record.specs.Decode.{medialOfWeight, vowelOfWeight, finalOfNumbers, toneOfWeight, syllableOf}
 use Rattle.syllable_text.specs.Part.{headAfter, partAfter, PartPut}
 use Rattle.syllable_text.proofs.Texts.{medial-short, vowel-short, final-short, tone-short}
 use Rattle.syllable_text.proofs.Putting.{put-length, put-first, room-behind, put-more}

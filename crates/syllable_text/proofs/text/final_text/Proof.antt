@@ -8,7 +8,7 @@ use borrow.Author.Tests.{ne-eqb}
 use Rattle.formula.specs.Syllable.{no-final, great-sa, finalText}
 use Rattle.syllable_text.specs.Text.{textOf}
 use Rattle.letters.specs.Choice.{pick}
-use Rattle.syllable_text.specs.Decode.{finalOfNumbers}
+use Rattle.syllable_record.specs.Decode.{finalOfNumbers}
 use borrow.Author.Needs.{needs}
 use Rattle.syllable_text.proofs.text.final_text.Statement.{statement}
 use Rattle.syllable_text.proofs.text.final_text.Tie as tie

@@ -3,7 +3,7 @@
 use mathlib.Core.Path.{_∙_}
 use borrow.Author.Tests.{eq-eqb, ne-eqb}
 use Rattle.letters.specs.Choice.{pick}
-use Rattle.syllable_text.specs.Decode.{plainOfNumbers}
+use Rattle.syllable_record.specs.Decode.{plainOfNumbers}
 use borrow.Author.Needs.{needs}
 use Rattle.syllable_text.proofs.text.plain_text.Statement.{statement}
 use Rattle.syllable_text.proofs.text.plain_text.Tie as tie

@@ -2,7 +2,7 @@
 -- Assumes nothing.
 use borrow.Author.Tests.{ne-eqb}
 use Rattle.letters.specs.Choice.{pick}
-use Rattle.syllable_text.specs.Decode.{toneOfWeight}
+use Rattle.syllable_record.specs.Decode.{toneOfWeight}
 use borrow.Author.Needs.{needs}
 use Rattle.syllable_text.proofs.text.tone_text.Statement.{statement}
 use Rattle.syllable_text.proofs.text.tone_text.Tie as tie
