@@ -14,7 +14,7 @@ use Rattle.refusals.specs.Outcome.{accepts-both, refuses}
 use Rattle.entries.specs.Entries.{Entry, book}
 use Rattle.entries.specs.Map.{lookup}
 use Rattle.entries.specs.Tidy.{liveLength}
-use Rattle.lookup.specs.Outcome.{puts, tidiesAndPuts, placing, addOfEntry, addOf}
+use Rattle.entries.specs.Outcome.{puts, tidiesAndPuts, placing, addOfEntry, addOf}
 
 -- where the record starts, by whether add tidies: "when its record doesn't fit otherwise .., and in no other case"
 pub data Placed (es : List Entry) (free room size : ℕ) : ℕ → ℕ → Type 0 where

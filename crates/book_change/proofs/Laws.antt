@@ -13,6 +13,7 @@ use Rattle.entries.specs.Book.{endOf, IsBook, Opened}
 use Rattle.entries.specs.Map.{lookup, without, newEntry}
 use Rattle.entries.specs.Change.{Storable, withRecord, withRemoved}
 use Rattle.entries.specs.Tidy.{liveLength, bytesTidied, tidied}
+use Rattle.entries.specs.Outcome.{finds, startMoved, findOfEntry, findOf, removeOfEntry, removeOf, addOf}
 use Rattle.entries.proofs.Bytes.{Bytes}
 use Rattle.entries.proofs.Agree.{Sound, sound}
 use Rattle.entries.proofs.Lookups.{lookup-added, lookup-others, lookup-removed, lookup-kept}
@@ -20,7 +21,6 @@ use Rattle.entries.proofs.Added.{added-book, added-entries}
 use Rattle.entries.proofs.Removed.{removed-book, removed-entries}
 use Rattle.entries.proofs.Tidied.{length-tidied, end-tidied, tidied-is, bytes-tidied-book}
 use Rattle.entries.proofs.Moved.{placedOne, lookup-tidied}
-use Rattle.lookup.specs.Outcome.{finds, startMoved, findOfEntry, findOf, removeOfEntry, removeOf, addOf}
 use Rattle.book_change.specs.Written.{bytesReady, listReady, startReady, AddRight, RemoveRight}
 use Rattle.book_change.proofs.Fitting.{Placed, behind, tidied-first, Fitting, added-fitting}
 

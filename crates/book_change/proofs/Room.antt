@@ -13,15 +13,15 @@ use Rattle.entries.specs.Book.{recordBytes, IsBook}
 use Rattle.entries.specs.Map.{lookup, without, newEntry}
 use Rattle.entries.specs.Change.{Storable}
 use Rattle.entries.specs.Tidy.{liveLength, bytesTidied, tidied}
+use Rattle.entries.specs.Outcome.{findOfEntry, findOf, removeOfEntry, removeOf, puts, placing, addOfEntry, addOf}
 use Rattle.entries.proofs.Bytes.{Bytes}
 use Rattle.entries.proofs.Agree.{Sound, sound}
 use Rattle.entries.proofs.Lookups.{lookup-word}
 use Rattle.entries.proofs.Freed.{live-freed}
 use Rattle.entries.proofs.Tidied.{live-within, length-tidied, live-tidied, tidied-is, tidied-entries}
 use Rattle.entries.proofs.Moved.{placedOne, lookup-tidied}
-use Rattle.lookup.specs.Outcome.{findOfEntry, findOf, removeOfEntry, removeOf, puts, placing, addOfEntry, addOf}
-use Rattle.lookup.proofs.Plans.{fits as fits-behind}
-use Rattle.lookup.proofs.Full.{full-only, not-full}
+use Rattle.entries.proofs.Full.{full-only, not-full}
+use Rattle.planning.proofs.Plans.{fits as fits-behind}
 use Rattle.book_change.specs.Written.{AddRight, RemoveRight}
 use Rattle.book_change.proofs.Fitting.{Placed, behind, tidied-first}
 use Rattle.book_change.proofs.Laws.{added, Removed, removed}

@@ -10,7 +10,7 @@ use Rattle.entries.specs.Entries.{Entry, Entries, entries}
 use Rattle.entries.specs.Book.{numberBytes}
 use Rattle.entries.specs.Change.{withRecord, withRemoved}
 use Rattle.entries.specs.Tidy.{bytesTidied, tidied, startAfter}
-use Rattle.lookup.specs.Outcome.{addOf, removeOf}
+use Rattle.entries.specs.Outcome.{addOf, removeOf}
 
 -- the buffer to which a record is added, by whether add tidies
 abbrev pub bytesReady : ℕ → List ℕ → List ℕ

@@ -1,9 +1,9 @@
 // Adding and removing records: the decision first, then the bytes.
 use book_frame::HEAD;
-use lookup::plan::Plan;
-use lookup::plan::plan_add;
-use lookup::plan::plan_remove;
 use memory::casts::count_byte;
+use planning::Plan;
+use planning::plan_add;
+use planning::plan_remove;
 use refusals::Counted;
 use refusals::Reply;
 use tidying::tidy_records;
@@ -18,7 +18,7 @@ ghost use Rattle.entries.specs.Limits.{bookLimit, headSize};
 ghost use Rattle.entries.specs.Book.{byteOf};
 ghost use Rattle.entries.specs.Change.{Storable, withRecord};
 ghost use Rattle.lookup.specs.Look.{Within};
-ghost use Rattle.lookup.specs.Plan.{planOutcome, PlanWithin};
+ghost use Rattle.planning.specs.Plan.{planOutcome, PlanWithin};
 ghost use Rattle.book_change.specs.Written.{bytesAdded, withHead, AddRight, RemoveRight};
 
 // A part of a stock number as a byte.

@@ -4,7 +4,7 @@ use book_check::open::open_book;
 use book_frame::HEAD;
 use book_frame::copy_values;
 use book_frame::has_mark;
-use lookup::look::stock_at;
+use lookup::stock_at;
 use memory::casts::wide;
 use refusals::Refusal;
 use refusals::Reply;

@@ -14,3 +14,5 @@ pub mod Live
 pub mod Tidied
 pub mod Moved
 pub mod Freed
+pub mod Full
+pub mod AnswersTidied

@@ -6,3 +6,4 @@ pub mod Map
 pub mod Change
 pub mod Rank
 pub mod Tidy
+pub mod Outcome

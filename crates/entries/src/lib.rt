@@ -1,1 +1,2 @@
-// What a book is, and its laws, for buffers of any length. There is no code: specs/ and proofs/ hold what the floors above cite.
+// What a book is, what the calls answer by its entries, and the laws of both, for buffers of any length. There is no code: the floors above cite specs/ and
+// proofs/.

@@ -1,8 +1,8 @@
 // The calls on a book.
 ghost use mathlib.Core.Path.{_≡_};
 ghost use Rattle.entries.specs.Entries.{entries};
+ghost use Rattle.entries.specs.Outcome.{checkOf};
 ghost use Rattle.tidying.specs.Tidy.{TidyRight};
-ghost use Rattle.lookup.specs.Outcome.{checkOf};
 ghost use Rattle.ranking.specs.Rank.{rankOf};
 ghost use Rattle.ranking.specs.Whole.{OrderRight};
 ghost use Rattle.book_word.specs.WordAt.{WordRight};

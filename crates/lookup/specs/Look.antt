@@ -1,16 +1,15 @@
--- What looking a word up tells, and where a record stands that is placed. Inner contracts cite it. Assumes nothing.
+-- What looking a word up tells, and where its record stands. Inner contracts cite it. Assumes nothing.
 use mathlib.Core.Path.{_≡_}
 use mathlib.Core.List.{List}
 use mathlib.Core.Option.{Option, none, some}
 use Prim.Native.Nat.{ℕ, _+_, _≤_}
 use lib.ListN.{length}
-use Rattle.refusals.specs.Outcome.{Outcome, accepts, accepts-both, absent, refuses}
 use Rattle.entries.specs.Limits.{bookLimit, headSize}
 use Rattle.entries.specs.Entries.{Entry, Entries, book, wrong, entries}
 use Rattle.entries.specs.Book.{Opened}
 use Rattle.entries.specs.Map.{lookup}
-use Rattle.lookup.specs.declared.look.Look.{Look}
-use Rattle.lookup.specs.declared.look.Look.the-variants.{Wrong, Live, Missing}
+use Rattle.lookup.specs.declared.Look.{Look}
+use Rattle.lookup.specs.declared.Look.the-variants.{Wrong, Live, Missing}
 
 abbrev pub lookOfEntry : Option Entry → ℕ → Look
 lookOfEntry none free = Missing free
@@ -33,14 +32,3 @@ LookWithin bytes (Missing free) = Opened bytes free
 pub record LookRight (bytes word : List ℕ) (look : Look) : Type 0 where
   pub answer : look ≡ lookOf (entries bytes) word
   pub within : LookWithin bytes look
-
--- the seven bytes at the start of a record
-abbrev pub PlacedWithin : List ℕ → Outcome → Type 0
-PlacedWithin bytes (accepts start) = Within bytes start headSize
-PlacedWithin bytes (accepts-both stock start) = Unit {0}
-PlacedWithin bytes absent = Unit {0}
-PlacedWithin bytes (refuses number place) = Unit {0}
-
-pub record PlacedRight (bytes : List ℕ) (right outcome : Outcome) : Type 0 where
-  pub answer : outcome ≡ right
-  pub within : PlacedWithin bytes outcome

@@ -22,11 +22,11 @@ use Rattle.entries.specs.Entries.{Entry, entryAt, isFramed, mayFollow, Entries,
 use Rattle.entries.specs.Book.{zeros, recordBytes, records, size, endOf, GoodEntry, GoodAfter, IsBook}
 use Rattle.entries.specs.Map.{lookup, counted, liveCount}
 use Rattle.entries.specs.Tidy.{liveLength}
+use Rattle.entries.specs.Outcome.{checkOf, findOfEntry, findOf, removeOfEntry, removeOf, puts, tidiesAndPuts, placing, addOfEntry, addOf}
 use Rattle.entries.proofs.Records.{framed-true, length-record, end-length}
 use Rattle.entries.proofs.Agree.{Sound, sound}
 use Rattle.entries.proofs.Tidied.{live-before}
 use Rattle.tidying.specs.Tidy.{tidyOf, TidyRight}
-use Rattle.lookup.specs.Outcome.{checkOf, findOfEntry, findOf, removeOfEntry, removeOf, puts, tidiesAndPuts, placing, addOfEntry, addOf}
 use Rattle.entries.proofs.Bytes.{Bytes}
 use Rattle.book_keys.specs.Filing.{rowOf}
 use Rattle.book_keys.specs.Fitting.{fits}

@@ -12,8 +12,8 @@ use Rattle.writing.specs.Write.{WriteRight}
 use Rattle.spelling.specs.Spell.{Lists, SpellRight}
 use Rattle.collation.specs.Comparison.{CompareAnswers}
 use Rattle.entries.specs.Entries.{entries}
+use Rattle.entries.specs.Outcome.{checkOf}
 use Rattle.tidying.specs.Tidy.{TidyRight}
-use Rattle.lookup.specs.Outcome.{checkOf}
 use Rattle.entries.proofs.Bytes.{Bytes}
 use Rattle.ranking.specs.Rank.{rankOf}
 use Rattle.ranking.specs.Whole.{OrderRight}

@@ -8,7 +8,7 @@ use Rattle.weighing.specs.declared.order.Order.the-variants.{Less, Equal, Great
 use Rattle.collation.specs.Comparison.{CompareOutcome, ordered, first-refuses, second-refuses}
 use Rattle.storage.specs.Stored.{storedForm}
 use Rattle.entries.specs.Entries.{entries}
-use Rattle.lookup.specs.Outcome.{findOf}
+use Rattle.entries.specs.Outcome.{findOf}
 use Rattle.wordbook.specs.Calls.{CallAnswers}
 use Rattle.packing.specs.Packing.{Answer, answer}
 

@@ -14,12 +14,12 @@ use Rattle.refusals.proofs.Putting.{puts-writes, puts-room}
 use Rattle.entries.specs.Entries.{Entry, entryAt, Entries, entries}
 use Rattle.entries.specs.Book.{size, endOf, GoodAfter, Opened}
 use Rattle.entries.specs.Map.{liveCount}
+use Rattle.entries.specs.Outcome.{finds}
 use Rattle.entries.proofs.Records.{end-length}
 use Rattle.entries.proofs.Agree.{opened-is}
 use Rattle.entries.proofs.Walk.{free-within}
 use Rattle.book_check.specs.Opening.{openingOf}
 use Rattle.book_check.specs.declared.open.Opening.the-variants.{Book}
-use Rattle.lookup.specs.Outcome.{finds}
 use Rattle.book_keys.specs.Fitting.{fitsKey}
 use Rattle.sorting.specs.Passing.{PutsPassing}
 use Rattle.ranking.specs.Rank.{rankOfEntry, rankOf, startsInOrder, Among}

@@ -18,9 +18,9 @@ use Rattle.entries.specs.Entries.{Entry, entryAt, Entries, wrong, entries}
 use Rattle.entries.specs.Book.{IsBook}
 use Rattle.entries.specs.Map.{liveCount}
 use Rattle.entries.specs.Rank.{insert, sortedOnto, sorted, liveBefore, AllBehind, Rising}
+use Rattle.entries.specs.Outcome.{finds}
 use Rattle.entries.proofs.Agree.{complete}
 use Rattle.entries.proofs.Ranked.{rank-of-book, rising-of-book}
-use Rattle.lookup.specs.Outcome.{finds}
 use Rattle.book_keys.specs.Filing.{before}
 use Rattle.book_keys.proofs.Laws.{before-irreflexive, before-transitive, before-total}
 use Rattle.ranking.specs.Rank.{rankOfEntry, rankOf, Among, HasRank}

@@ -9,10 +9,10 @@ use Rattle.entries.specs.Book.{GoodAfter}
 use Rattle.entries.specs.Map.{liveCount}
 use Rattle.entries.specs.Rank.{sorted}
 use Rattle.entries.specs.Tidy.{bytesTidied, tidied, startTidied, startAfter}
+use Rattle.entries.specs.Outcome.{startMoved}
 use Rattle.entries.proofs.Bytes.{Bytes}
 use Rattle.entries.proofs.Tidied.{on-tidied}
 use Rattle.entries.proofs.Moved.{moved, placedOne, count-tidied}
-use Rattle.lookup.specs.Outcome.{startMoved}
 use Rattle.book_keys.specs.Filing.{before, startOf}
 use Rattle.sorting.proofs.Tidied.{order-tidied, starts-moved}
 use Rattle.ranking.specs.Rank.{rankOfEntry, rankOf, startsInOrder}

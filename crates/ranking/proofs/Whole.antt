@@ -15,8 +15,8 @@ use Rattle.entries.specs.Entries.{Entry, entryAt, Entries, book, entries}
 use Rattle.entries.specs.Book.{IsBook}
 use Rattle.entries.specs.Map.{liveCount}
 use Rattle.entries.specs.Rank.{liveBefore}
+use Rattle.entries.specs.Outcome.{finds}
 use Rattle.entries.proofs.Agree.{complete}
-use Rattle.lookup.specs.Outcome.{finds}
 use Rattle.book_keys.specs.Filing.{before}
 use Rattle.ranking.specs.Rank.{rankOfEntry, rankOf, startsInOrder, Among}
 use Rattle.ranking.specs.Whole.{NotABook, not-a-book, BookOf, OrderRight}

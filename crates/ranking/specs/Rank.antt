@@ -11,7 +11,7 @@ use Rattle.refusals.specs.Outcome.{Outcome, refuses}
 use Rattle.entries.specs.Entries.{Entry, Entries, book, wrong, entries}
 use Rattle.entries.specs.Map.{liveCount}
 use Rattle.entries.specs.Rank.{sorted, liveBefore}
-use Rattle.lookup.specs.Outcome.{finds}
+use Rattle.entries.specs.Outcome.{finds}
 use Rattle.book_keys.specs.Filing.{before, startOf}
 
 -- the entry's "start and stock number"; 15 where there is none: "rank not below the live count", with the live count

@@ -2,7 +2,7 @@
 use book_check::open::Opening;
 use book_check::open::open_book;
 use book_keys::keys::MOST_LIVE;
-use lookup::look::stock_at;
+use lookup::stock_at;
 use memory::casts::place_of;
 use refusals::Counted;
 use refusals::Refusal;

@@ -12,8 +12,8 @@ use Rattle.refusals.proofs.Determined.{Same}
 use Rattle.storage.specs.Stored.{storedForm}
 use Rattle.normaliser.proofs.Determined.{store-refused-alike}
 use Rattle.entries.specs.Entries.{entries}
+use Rattle.entries.specs.Outcome.{checkOf, findOf}
 use Rattle.tidying.specs.Tidy.{TidyRight}
-use Rattle.lookup.specs.Outcome.{checkOf, findOf}
 use Rattle.book_change.specs.Written.{bytesAdded, bytesRemoved}
 use Rattle.ranking.specs.Rank.{rankOf}
 use Rattle.wordbook.specs.Calls.{WordRefused, empty, refused, CallAnswers, word-refused, word-stored, AddPromise, RemovePromise}

@@ -19,11 +19,11 @@ use Rattle.entries.specs.Entries.{Entry, Entries, entries}
 use Rattle.entries.specs.Book.{IsBookOf}
 use Rattle.entries.specs.Map.{liveCount, lookup}
 use Rattle.entries.specs.Rank.{sorted}
+use Rattle.entries.specs.Outcome.{checkOf, findOfEntry, findOf}
 use Rattle.entries.proofs.Earlier.{good-words, earlier-entries}
 use Rattle.entries.proofs.Sorted.{sorted-alike}
 use Rattle.book_keys.specs.Filing.{rowOf, fileOf, isLess, before}
 use Rattle.book_keys.proofs.Rows.{row-is}
-use Rattle.lookup.specs.Outcome.{checkOf, findOfEntry, findOf}
 use Rattle.ranking.specs.Rank.{rankOfEntry, rankOf}
 use Rattle.wordbook.specs.Calls.{CallAnswers}
 use Rattle.wordbook.proofs.Laws.{stored-answer}

@@ -9,8 +9,8 @@ use Rattle.refusals.specs.Outcome.{Outcome, accepts, accepts-both, absent, refu
 use Rattle.storage.specs.Stored.{storedForm}
 use Rattle.normaliser.proofs.Determined.{stored-not-refused}
 use Rattle.entries.specs.Entries.{entries}
+use Rattle.entries.specs.Outcome.{finds, startMoved, findOf}
 use Rattle.entries.proofs.Bytes.{Bytes}
-use Rattle.lookup.specs.Outcome.{finds, startMoved, findOf}
 use Rattle.book_change.specs.Written.{startReady, AddRight, RemoveRight}
 use Rattle.book_change.proofs.Laws.{Added, added, find-added, find-others, Removed, removed, find-removed, find-kept}
 use Rattle.wordbook.specs.Calls.{WordRefused, empty, refused, WordStored, CallAnswers, word-refused, word-stored, AddPromise, RemovePromise}

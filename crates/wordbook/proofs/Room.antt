@@ -7,9 +7,9 @@ use lib.ListN.{length, take}
 use Rattle.refusals.specs.Outcome.{Outcome, accepts, accepts-both, refuses}
 use Rattle.storage.specs.Stored.{storedForm}
 use Rattle.entries.specs.Entries.{Entry, book, entries}
+use Rattle.entries.specs.Outcome.{findOf}
 use Rattle.entries.proofs.Bytes.{Bytes}
 use Rattle.tidying.specs.Tidy.{TidyRight}
-use Rattle.lookup.specs.Outcome.{findOf}
 use Rattle.book_change.specs.Written.{AddRight}
 use Rattle.book_change.proofs.Room.{behind-all, bytes-before, tidy-then-add, added-after-remove}
 use Rattle.wordbook.specs.Calls.{WordStored, CallAnswers, word-stored, AddPromise, RemovePromise}

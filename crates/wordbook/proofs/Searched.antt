@@ -13,7 +13,7 @@ use Rattle.storage.specs.Stored.{storedForm}
 use Rattle.storage.proofs.Rows.{gives-stored}
 use Rattle.entries.specs.Entries.{Entry, entries}
 use Rattle.entries.specs.Book.{IsBook}
-use Rattle.lookup.specs.Outcome.{finds, findOf}
+use Rattle.entries.specs.Outcome.{finds, findOf}
 use Rattle.entries.proofs.Bytes.{Bytes}
 use Rattle.book_keys.specs.Filing.{rowOf}
 use Rattle.book_keys.specs.Fitting.{fits}

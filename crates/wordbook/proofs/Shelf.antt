@@ -26,9 +26,9 @@ use Rattle.entries.specs.Book.{zeros, recordBytes, records, endOf, GoodEntry, G
 use Rattle.entries.specs.Map.{lookup}
 use Rattle.entries.specs.Change.{withRecord}
 use Rattle.entries.specs.Tidy.{entriesTidied}
+use Rattle.entries.specs.Outcome.{removeOf, addOf}
 use Rattle.entries.proofs.Agree.{complete}
 use Rattle.tidying.specs.Tidy.{tidyOf, TidyRight}
-use Rattle.lookup.specs.Outcome.{removeOf, addOf}
 use Rattle.book_change.specs.Written.{bytesAdded, bytesRemoved}
 use Rattle.wordbook.specs.Calls.{WordStored, AddPromise, RemovePromise}
 use Rattle.wordbook.proofs.Laws.{stored-answer}

@@ -18,11 +18,11 @@ use Rattle.entries.specs.Entries.{Entry, Entries, book, entries}
 use Rattle.entries.specs.Book.{IsBook}
 use Rattle.entries.specs.Map.{liveCount, liveOnes}
 use Rattle.entries.specs.Tidy.{tidied, startTidied, startAfter}
+use Rattle.entries.specs.Outcome.{finds, startMoved}
 use Rattle.entries.proofs.Bytes.{Bytes}
 use Rattle.entries.proofs.Agree.{complete}
 use Rattle.entries.proofs.Moved.{moved, tidied-moved}
 use Rattle.tidying.specs.Tidy.{TidyRight}
-use Rattle.lookup.specs.Outcome.{finds, startMoved}
 use Rattle.ranking.specs.Rank.{rankOf, Among, HasRank}
 use Rattle.ranking.proofs.Laws.{rank-below, rank-too-high}
 use Rattle.book_word.specs.WordAt.{WordRight}

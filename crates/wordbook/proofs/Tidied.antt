@@ -12,13 +12,13 @@ use Rattle.storage.specs.Stored.{storedForm}
 use Rattle.entries.specs.Entries.{Entry, Entries, book, wrong, entries}
 use Rattle.entries.specs.Book.{IsBook}
 use Rattle.entries.specs.Tidy.{liveLength, entriesTidied, bytesTidied, tidied, startTidied, startAfter}
+use Rattle.entries.specs.Outcome.{startMoved, startsMoved, finds, checkOf, findOf, removeOf}
 use Rattle.entries.proofs.Bytes.{Bytes}
 use Rattle.entries.proofs.Agree.{Sound, sound}
 use Rattle.entries.proofs.Ranked.{AllLive}
 use Rattle.entries.proofs.Tidied.{tidied-entries, bytes-tidied-book, tidied-full, tidied-twice}
+use Rattle.entries.proofs.AnswersTidied.{check-tidied, find-tidied, remove-tidied}
 use Rattle.tidying.specs.Tidy.{tidyOf, TidyRight}
-use Rattle.lookup.specs.Outcome.{startMoved, startsMoved, finds, checkOf, findOf, removeOf}
-use Rattle.lookup.proofs.Tidied.{check-tidied, find-tidied, remove-tidied}
 use Rattle.book_keys.specs.Filing.{rowOf}
 use Rattle.ranking.specs.Rank.{startsInOrder, rankOf}
 use Rattle.ranking.specs.Whole.{NotABook, not-a-book, BookOf, OrderRight}

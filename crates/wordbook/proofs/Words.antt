@@ -22,9 +22,9 @@ use Rattle.storage.specs.Stored.{storedForm}
 use Rattle.entries.specs.Entries.{Entry, Entries, book, wrong, entries}
 use Rattle.entries.specs.Book.{size, GoodEntry, GoodAfter, IsBook}
 use Rattle.entries.specs.Map.{lookup, removed, without}
+use Rattle.entries.specs.Outcome.{finds, findOfEntry, findOf}
 use Rattle.entries.proofs.Agree.{Sound, sound, complete}
 use Rattle.entries.proofs.Lookups.{lookup-word}
-use Rattle.lookup.specs.Outcome.{finds, findOfEntry, findOf}
 use Rattle.entries.proofs.Bytes.{Bytes}
 use Rattle.ranking.specs.Rank.{Among}
 use Rattle.ranking.specs.Whole.{OrderRight}

@@ -8,7 +8,7 @@ use Rattle.refusals.specs.Outcome.{Outcome, accepts, accepts-both, absent, refu
 use Rattle.storage.specs.Stored.{storedForm}
 use Rattle.normaliser.specs.Normal.{StoreRefusedWith, Stores}
 use Rattle.entries.specs.Entries.{entries}
-use Rattle.lookup.specs.Outcome.{addOf, removeOf}
+use Rattle.entries.specs.Outcome.{addOf, removeOf}
 use Rattle.book_change.specs.Written.{bytesAdded, bytesRemoved}
 
 -- "Tests run in the order 1, 7, 8, 2, 3 or 4": the refusals of a word that is handed in with a book

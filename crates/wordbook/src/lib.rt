@@ -9,8 +9,8 @@ ghost use mathlib.Core.Path.{_≡_};
 ghost use Rattle.refusals.specs.Outcome.{outcomeOf, replyOutcome};
 ghost use Rattle.storage.specs.Stored.{storedForm};
 ghost use Rattle.entries.specs.Entries.{entries};
+ghost use Rattle.entries.specs.Outcome.{checkOf, findOf};
 ghost use Rattle.tidying.specs.Tidy.{TidyRight};
-ghost use Rattle.lookup.specs.Outcome.{checkOf, findOf};
 ghost use Rattle.ranking.specs.Rank.{rankOf};
 ghost use Rattle.ranking.specs.Whole.{OrderRight};
 ghost use Rattle.book_word.specs.WordAt.{WordRight};
@@ -38,7 +38,7 @@ pub fn find(book: &[u8], word: &[u16]) -> Reply
     let mut values = [0; Word::LIMIT];
     match enter(word, &mut values) {
         Counted::Refused(refusal) => Reply::Refused(refusal),
-        Counted::Count(count) => lookup::plan::find(book, &values[..count]),
+        Counted::Count(count) => planning::find(book, &values[..count]),
     }
 }
 

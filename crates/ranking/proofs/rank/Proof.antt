@@ -7,9 +7,9 @@ use lib.ListN.{length, replicate, length-replicate}
 use denote.Ref.{now}
 use Rattle.refusals.specs.Outcome.{outcomeOf}
 use Rattle.entries.specs.Entries.{Entries, entryAt, entries}
+use Rattle.entries.specs.Outcome.{finds}
 use Rattle.book_check.specs.Opening.{openingOf, Says}
 use Rattle.book_check.specs.declared.open.Opening.{Opening}
-use Rattle.lookup.specs.Outcome.{finds}
 use Rattle.book_keys.specs.Filing.{mostLive}
 use Rattle.book_keys.proofs.Live.{live-few}
 use Rattle.ranking.specs.Rank.{rankOf}

@@ -13,7 +13,7 @@ use Rattle.storage.specs.Stored.{storedForm}
 use Rattle.entries.specs.Entries.{entries}
 use Rattle.entries.specs.Book.{zeros}
 use Rattle.entries.specs.Change.{Storable}
-use Rattle.lookup.specs.Outcome.{addOf}
+use Rattle.entries.specs.Outcome.{addOf}
 use Rattle.book_change.specs.Written.{AddRight}
 use Rattle.wordbook.specs.Calls.{FormAt, CallAnswers, word-refused, word-stored}
 use Rattle.wordbook.proofs.Stored.{stored-storable, entered-form, entered-refused, form-fits, form-front}

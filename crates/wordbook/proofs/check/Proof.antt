@@ -5,10 +5,10 @@ use mathlib.Core.Path.{_≡_, refl, sym, ap, _∙_}
 use denote.Ref.{now}
 use Rattle.refusals.specs.Outcome.{Outcome, accepts, refuses}
 use Rattle.entries.specs.Entries.{Entries, book, wrong, entries}
+use Rattle.entries.specs.Outcome.{checkOf}
 use Rattle.book_check.specs.Opening.{openingOf}
 use Rattle.book_check.specs.declared.open.Opening.{Opening}
 use Rattle.book_check.specs.declared.open.Opening.the-variants.{Book, Wrong}
-use Rattle.lookup.specs.Outcome.{checkOf}
 use Rattle.wordbook.proofs.check.Statement.{statement}
 use Rattle.wordbook.proofs.check.Tie as tie
 

@@ -8,7 +8,7 @@ use Rattle.formula.specs.Limits.{limit}
 use Rattle.storage.specs.Stored.{storedForm}
 use Rattle.entries.specs.Entries.{entries}
 use Rattle.entries.specs.Book.{zeros}
-use Rattle.lookup.specs.Outcome.{findOf}
+use Rattle.entries.specs.Outcome.{findOf}
 use Rattle.wordbook.specs.Calls.{FormAt, CallAnswers, word-refused, word-stored}
 use Rattle.wordbook.proofs.Stored.{entered-form, entered-refused, form-fits, form-front}
 use Rattle.wordbook.proofs.find.Statement.{statement}

@@ -11,7 +11,7 @@ use Rattle.refusals.specs.Outcome.{outcomeOf}
 use Rattle.storage.specs.Stored.{storedForm}
 use Rattle.entries.specs.Entries.{entries}
 use Rattle.entries.specs.Book.{zeros}
-use Rattle.lookup.specs.Outcome.{removeOf}
+use Rattle.entries.specs.Outcome.{removeOf}
 use Rattle.book_change.specs.Written.{RemoveRight}
 use Rattle.wordbook.specs.Calls.{FormAt, CallAnswers, word-refused, word-stored}
 use Rattle.wordbook.proofs.Stored.{entered-form, entered-refused, form-fits, form-front}

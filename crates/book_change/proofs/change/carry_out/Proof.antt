@@ -13,8 +13,8 @@ use Rattle.entries.specs.Change.{withRecord}
 use Rattle.entries.proofs.Tidied.{length-tidied, tidied-is}
 use Rattle.tidying.specs.Tidy.{TidyRight}
 use Rattle.lookup.specs.Look.{Within}
-use Rattle.lookup.specs.Plan.{planOutcome, PlanWithin}
-use Rattle.lookup.specs.declared.plan.Plan.{Plan}
+use Rattle.planning.specs.Plan.{planOutcome, PlanWithin}
+use Rattle.planning.specs.declared.Plan.{Plan}
 use Rattle.book_change.specs.Written.{bytesAdded}
 use Rattle.book_change.proofs.change.carry_out.Statement.{statement}
 use Rattle.book_change.proofs.change.carry_out.Tie as tie

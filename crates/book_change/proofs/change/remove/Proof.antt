@@ -7,8 +7,8 @@ use denote.Ref.{now}
 use Rattle.refusals.specs.Outcome.{accepts, outcomeOf}
 use Rattle.refusals.specs.declared.Counted.{Counted}
 use Rattle.entries.specs.Entries.{entries}
-use Rattle.lookup.specs.Outcome.{removeOf}
-use Rattle.lookup.specs.Look.{PlacedRight}
+use Rattle.entries.specs.Outcome.{removeOf}
+use Rattle.planning.specs.Plan.{PlacedRight}
 use Rattle.book_change.proofs.change.remove.Statement.{statement}
 use Rattle.book_change.proofs.change.remove.Tie as tie
 
