@@ -1,4 +1,3 @@
-pub mod Words
 pub mod Fitting
 pub mod Laws
 pub mod Room

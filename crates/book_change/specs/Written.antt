@@ -1,13 +1,11 @@
 -- Document 01, "The word book", and document 02, "Tidying a book": what add and remove answer, and what each byte of the buffer is afterwards.
 -- Assumes nothing.
 use mathlib.Core.Path.{_≡_}
-use mathlib.Core.List.{List, [], _∷_, _++_}
-use Prim.Native.Nat.{ℕ, zero, suc, _+_}
-use lib.ListN.{length, take, drop}
-use Rattle.entries.specs.Limits.{headSize}
+use mathlib.Core.List.{List}
+use Prim.Native.Nat.{ℕ, zero, suc}
+use lib.ListN.{length}
 use Rattle.refusals.specs.Outcome.{Outcome, accepts, accepts-both, absent, refuses}
 use Rattle.entries.specs.Entries.{Entry, Entries, entries}
-use Rattle.entries.specs.Book.{numberBytes}
 use Rattle.entries.specs.Change.{withRecord, withRemoved}
 use Rattle.entries.specs.Tidy.{bytesTidied, tidied, startAfter}
 use Rattle.entries.specs.Outcome.{addOf, removeOf}
@@ -49,7 +47,3 @@ pub record AddRight (word : List ℕ) (stock : ℕ) (before after : List ℕ) (o
 pub record RemoveRight (word before after : List ℕ) (outcome : Outcome) : Type 0 where
   pub answer : outcome ≡ removeOf (entries before) word
   pub bytes : after ≡ bytesRemoved outcome before
-
--- the buffer with the seven bytes that stand before a word; an inner contract cites it
-unfoldable pub withHead : List ℕ → ℕ → ℕ → ℕ → List ℕ
-withHead bytes at count stock = take at bytes ++ ((0x4D ∷ 0x57 ∷ count ∷ numberBytes stock []) ++ drop (at + headSize) bytes)

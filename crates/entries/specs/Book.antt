@@ -81,3 +81,8 @@ pub record Opened (bytes : List ℕ) (free : ℕ) : Type 0 where
   pub list : List Entry
   pub is-book : IsBook bytes list
   pub end : free ≡ endOf 0 list
+
+-- the place stands within a buffer that is not overlong, with as many bytes behind it
+pub record Within (bytes : List ℕ) (place behind : ℕ) : Type 0 where
+  pub short : length bytes ≤ bookLimit
+  pub room : place + behind ≤ length bytes

@@ -2,11 +2,10 @@
 use mathlib.Core.Path.{_≡_}
 use mathlib.Core.List.{List}
 use mathlib.Core.Option.{Option, none, some}
-use Prim.Native.Nat.{ℕ, _+_, _≤_}
-use lib.ListN.{length}
-use Rattle.entries.specs.Limits.{bookLimit, headSize}
+use Prim.Native.Nat.{ℕ}
+use Rattle.entries.specs.Limits.{headSize}
 use Rattle.entries.specs.Entries.{Entry, Entries, book, wrong, entries}
-use Rattle.entries.specs.Book.{Opened}
+use Rattle.entries.specs.Book.{Opened, Within}
 use Rattle.entries.specs.Map.{lookup}
 use Rattle.lookup.specs.declared.Look.{Look}
 use Rattle.lookup.specs.declared.Look.the-variants.{Wrong, Live, Missing}
@@ -18,11 +17,6 @@ lookOfEntry (some entry) free = Live (entry .start) (entry .stock)
 abbrev pub lookOf : Entries → List ℕ → Look
 lookOf (book list free) word = lookOfEntry (lookup list word) free
 lookOf (wrong place) word = Wrong place
-
--- the place stands within a buffer that is not overlong, with as many bytes behind it
-pub record Within (bytes : List ℕ) (place behind : ℕ) : Type 0 where
-  pub short : length bytes ≤ bookLimit
-  pub room : place + behind ≤ length bytes
 
 abbrev pub LookWithin : List ℕ → Look → Type 0
 LookWithin bytes (Wrong place) = Unit {0}

@@ -7,9 +7,8 @@ use Rattle.refusals.specs.Refusal.{numberOf, placeOf}
 use Rattle.refusals.specs.Outcome.{Outcome, accepts, accepts-both, absent, refuses}
 use Rattle.entries.specs.Limits.{headSize}
 use Rattle.entries.specs.Entries.{Entry, entries}
-use Rattle.entries.specs.Book.{IsBook, Opened}
+use Rattle.entries.specs.Book.{IsBook, Opened, Within}
 use Rattle.entries.specs.Outcome.{puts, tidiesAndPuts, placing, addOf}
-use Rattle.lookup.specs.Look.{Within}
 use Rattle.planning.specs.declared.Plan.{Plan}
 use Rattle.planning.specs.declared.Plan.the-variants.{Refused, Behind, Tidied}
 

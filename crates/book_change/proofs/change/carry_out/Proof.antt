@@ -8,11 +8,10 @@ use native.Mathlib.Omega.{arith}
 use lib.ListN.{length}
 use denote.Ref.{now}
 use Rattle.refusals.specs.Outcome.{Outcome}
-use Rattle.entries.specs.Book.{Opened}
+use Rattle.entries.specs.Book.{Opened, Within}
 use Rattle.entries.specs.Change.{withRecord}
 use Rattle.entries.proofs.Tidied.{length-tidied, tidied-is}
 use Rattle.tidying.specs.Tidy.{TidyRight}
-use Rattle.lookup.specs.Look.{Within}
 use Rattle.planning.specs.Plan.{planOutcome, PlanWithin}
 use Rattle.planning.specs.declared.Plan.{Plan}
 use Rattle.book_change.specs.Written.{bytesAdded}

@@ -1,4 +1,4 @@
--- `book_change::change::put_record` meets its contract: the head and the word are written one behind the other.
+-- `book_record::put_record` meets its contract: the head and the word are written one behind the other.
 -- Assumes nothing.
 use borrow.Author.Needs.{needs}
 use mathlib.Core.Path.{ap, _∙_}
@@ -9,9 +9,9 @@ use lib.ListN.{length}
 use lib.Seq.{paste}
 use denote.Ref.{now}
 use Rattle.entries.specs.Book.{byteOf}
-use Rattle.book_change.proofs.Words.{written}
-use Rattle.book_change.proofs.change.put_record.Statement.{statement}
-use Rattle.book_change.proofs.change.put_record.Tie as tie
+use Rattle.book_record.proofs.Words.{written}
+use Rattle.book_record.proofs.put_record.Statement.{statement}
+use Rattle.book_record.proofs.put_record.Tie as tie
 
 room : (s : tie.Start) → s .args .start + 7 + length (now (s .args .word)) ≤ length (now (s .args .book))
 room s = let w = s .pre .0 in omega (arith, w .room)

@@ -9,7 +9,7 @@ use lib.ListN.{length, getD, take, drop, set, length-map, length-append}
 use lib.Seq.{sets-eq, paste, length-take-le, take-at, drop-at, drop-drop, take-all}
 use Rattle.entries.specs.Book.{byteOf, numberBytes, recordBytes}
 use Rattle.entries.specs.Change.{withRecord}
-use Rattle.book_change.specs.Written.{withHead}
+use Rattle.book_record.specs.Head.{withHead}
 
 pub map-byte-at : (l : List ℕ) (k : ℕ) → k < length l → getD (map byteOf l) k 0 ≡ byteOf (getD l k 0)
 map-byte-at [] k h = let z : ⊥ = omega arith in absurd z

@@ -1,4 +1,4 @@
--- `book_change::change::put_word` meets its contract. The invariant: the bytes of the values passed are written. The measure is what is left.
+-- `book_record::put_word` meets its contract. The invariant: the bytes of the values passed are written. The measure is what is left.
 -- Assumes nothing.
 use borrow.Author.Needs.{needs}
 use mathlib.Core.Path.{_≡_, refl, sym, ap, _∙_}
@@ -11,9 +11,9 @@ use lib.Seq.{paste, paste-zero, paste-suc}
 use denote.Ref.{now}
 use Rattle.entries.specs.Book.{byteOf}
 use Rattle.entries.proofs.Bytes.{readable-within}
-use Rattle.book_change.proofs.Words.{map-byte-at}
-use Rattle.book_change.proofs.change.put_word.Statement.{statement}
-use Rattle.book_change.proofs.change.put_word.Tie as tie
+use Rattle.book_record.proofs.Words.{map-byte-at}
+use Rattle.book_record.proofs.put_word.Statement.{statement}
+use Rattle.book_record.proofs.put_word.Tie as tie
 
 abbrev Inv-loop : tie.InvT-loop
 Inv-loop book₀ from word next₀ book next = (next ≤ length word) × (book ≡ paste book₀ from (map byteOf word) next) × (length book ≡ length book₀)

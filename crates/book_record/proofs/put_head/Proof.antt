@@ -1,4 +1,4 @@
--- `book_change::change::put_head` meets its contract: seven stores, one behind the other.
+-- `book_record::put_head` meets its contract: seven stores, one behind the other.
 -- Assumes nothing.
 use borrow.Author.Needs.{needs}
 use mathlib.Core.Path.{_∙_}
@@ -7,10 +7,10 @@ use Prim.Native.Nat.{_+_}
 use native.Mathlib.Omega.{arith}
 use lib.ListN.{take, drop, length-set}
 use denote.Ref.{now}
-use Rattle.book_change.specs.Written.{withHead}
-use Rattle.book_change.proofs.Words.{head-stores}
-use Rattle.book_change.proofs.change.put_head.Statement.{statement}
-use Rattle.book_change.proofs.change.put_head.Tie as tie
+use Rattle.book_record.specs.Head.{withHead}
+use Rattle.book_record.proofs.Words.{head-stores}
+use Rattle.book_record.proofs.put_head.Statement.{statement}
+use Rattle.book_record.proofs.put_head.Tie as tie
 
 element-copy-out-book : tie.Need-element-copy-out-book
 element-copy-out-book c = search needs
