@@ -1,5 +1,3 @@
-pub mod Reach
-pub mod Stopped
 pub mod Recorded
 pub mod Parted
 pub mod Joined

@@ -26,9 +26,9 @@ use Rattle.recogniser.specs.Answer.{RefusedWith, Reads}
 use Rattle.recogniser.specs.Walked.{WalkStopped}
 use Rattle.recogniser.proofs.Answered.{refused-no-row}
 use Rattle.reading.specs.Parts.{endBy, HasPart, NoPart, PartRight, PartAnswers}
-use Rattle.reading.specs.Scanned.{keptStarts, StartsOf}
-use Rattle.reading.proofs.Reach.{starts-length}
-use Rattle.reading.proofs.Stopped.{kept-is, kept-count}
+use Rattle.scanning.specs.Scanned.{keptStarts, StartsOf}
+use Rattle.scanning.proofs.Reach.{starts-length}
+use Rattle.scanning.proofs.Stopped.{kept-is, kept-count}
 
 -- where the syllables of a row begin, from the place n on
 abbrev placesAfter : Final → ℕ → Row → List ℕ

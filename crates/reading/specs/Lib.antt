@@ -1,4 +1,3 @@
 pub mod Reading
-pub mod Scanned
 pub mod Records
 pub mod Parts

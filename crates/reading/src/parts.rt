@@ -1,11 +1,11 @@
 // The part of a word that a syllable is, by number.
-use crate::scan::scan_word;
 use formula::Word;
 use memory::casts::wide;
 use recogniser::walk::answer_at;
 use refusals::Counted;
 use refusals::Refusal;
 use refusals::Reply;
+use scanning::scan_word;
 ghost use mathlib.Core.Path.{_≡_};
 ghost use Prim.Native.Nat.{_<_, _≤_};
 ghost use Rattle.formula.specs.Limits.{limit};

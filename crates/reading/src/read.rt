@@ -1,9 +1,9 @@
 // The reading of a word: how many syllables it has and which, or why it is refused.
-use crate::scan::scan_word;
 use formula::Word;
 use recogniser::walk::answer_at;
 use refusals::Counted;
 use refusals::Refusal;
+use scanning::scan_word;
 ghost use mathlib.Core.Path.{_≡_};
 ghost use Rattle.reading.specs.Reading.{ReadRight, refusedReading};
 

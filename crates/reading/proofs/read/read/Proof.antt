@@ -6,7 +6,7 @@ use Rattle.refusals.specs.Outcome.{outcomeOf}
 use Rattle.refusals.specs.declared.Counted.{Counted}
 use Rattle.recogniser.specs.Answer.{too-long, Answers}
 use Rattle.reading.specs.Reading.{SyllablesFor, ReadRight}
-use Rattle.reading.proofs.Stopped.{syllables-right}
+use Rattle.scanning.proofs.Stopped.{syllables-right}
 use Rattle.reading.proofs.read.read.Statement.{statement}
 use Rattle.reading.proofs.read.read.Tie as tie
 

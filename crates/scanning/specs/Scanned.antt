@@ -13,7 +13,7 @@ use Rattle.formula.specs.declared.Window.{Window}
 use Rattle.rows.specs.Machine.{endOf, keptJoin}
 use Rattle.syllables.specs.Window.{WindowOf, belowLast}
 use Rattle.recogniser.specs.Walked.{Walked, WalkStopped}
-use Rattle.reading.specs.declared.scan.Scan.{Scan}
+use Rattle.scanning.specs.declared.Scan.{Scan}
 
 -- what is kept, in the word's order: the syllables packed, and the places where they begin
 abbrev pub keptPacked : Row → List ℕ

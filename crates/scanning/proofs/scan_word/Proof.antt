@@ -1,4 +1,4 @@
--- `reading::scan::scan_word` meets its contract: before each turn the state, the window and the arrays show what the machine has kept of the
+-- `scanning::scan_word` meets its contract: before each turn the state, the window and the arrays show what the machine has kept of the
 -- values read. The measure is what is left of the word. Assumes nothing.
 use mathlib.Core.Path.{_≡_, refl, ap, _∙_}
 use mathlib.Core.Bool.{true, false}
@@ -14,10 +14,10 @@ use Rattle.transitions.proofs.Entered.{next-entry, next-gain}
 use Rattle.syllables.specs.Window.{Fit}
 use Rattle.syllables.proofs.Moved.{one-more, none-more}
 use Rattle.recogniser.proofs.Walking.{state-bound, walk-refused}
-use Rattle.reading.specs.Scanned.{Reached}
-use Rattle.reading.proofs.Reach.{completed, at-start, count-fits, Turned, turn-fits, turned}
-use Rattle.reading.proofs.scan.scan_word.Statement.{statement}
-use Rattle.reading.proofs.scan.scan_word.Tie as tie
+use Rattle.scanning.specs.Scanned.{Reached}
+use Rattle.scanning.proofs.Reach.{completed, at-start, count-fits, Turned, turn-fits, turned}
+use Rattle.scanning.proofs.scan_word.Statement.{statement}
+use Rattle.scanning.proofs.scan_word.Tie as tie
 
 abbrev Inv-loop : tie.InvT-loop
 Inv-loop word window₀ state₀ syllables₀ starts₀ at₀ window state syllables starts at = (at ≤ length word) × Reached word at state window syllables starts

@@ -21,7 +21,7 @@ use Rattle.syllables.specs.Window.{closedBy, windowAfter, Fit, WindowOf, belowL
 use Rattle.syllables.proofs.Moved.{made-final, window-moves, closed-below, window-fits}
 use Rattle.recogniser.proofs.Kept.{kept-right, count-bound}
 use Rattle.recogniser.proofs.Walking.{moved, moved-on}
-use Rattle.reading.specs.Scanned.{keptPacked, keptStarts, SyllablesOf, StartsOf, ArraysOf, Reached}
+use Rattle.scanning.specs.Scanned.{keptPacked, keptStarts, SyllablesOf, StartsOf, ArraysOf, Reached}
 
 packed-length : (kept : Row) → length (keptPacked kept) ≡ length kept
 packed-length [] = refl

@@ -11,7 +11,7 @@ ghost use mathlib.Core.Path.{_≡_};
 ghost use Prim.Native.Nat.{_-_, _≤_};
 ghost use lib.ListN.{length};
 ghost use Rattle.formula.specs.Limits.{limit};
-ghost use Rattle.reading.specs.Scanned.{Scanned};
+ghost use Rattle.scanning.specs.Scanned.{Scanned};
 
 // The values before `at` are read, and the one at `at` is refused, unless it is the end.
 pub struct Scan {
@@ -32,7 +32,7 @@ fn less(count: usize, by: usize) -> usize
     count - by
 }
 
-pub(crate) fn scan_word(word: &[u16]) -> Scan
+pub fn scan_word(word: &[u16]) -> Scan
     requires { ⌜ length (now word) ≤ limit ⌝ }
     ensures { λ r. ⌜ Scanned (now (word .entry)) r ⌝ }
 {

@@ -16,7 +16,7 @@ use Rattle.rows.proofs.Viable.{read-back, stops}
 use Rattle.recogniser.specs.Answer.{Reads}
 use Rattle.recogniser.specs.Walked.{WalkStopped}
 use Rattle.recogniser.proofs.Answered.{row-viable}
-use Rattle.reading.specs.Scanned.{keptPacked}
+use Rattle.scanning.specs.Scanned.{keptPacked}
 
 packed-reverse : (a r : Row) → map packed (reverseAux a r) ≡ keptPacked a ++ map packed r
 packed-reverse [] r = refl
