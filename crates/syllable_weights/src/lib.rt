@@ -12,8 +12,8 @@ ghost use Rattle.weighing.specs.Keys.{keyLimit};
 ghost use Rattle.syllable_weights.specs.Weights.{weightsBy};
 
 // Puts the six weights of a packed syllable at a place of a key, in the order in which they are compared. A head weighs by its value; one that is an I
-// has a vowel weight of its own and carries no vowel. A final weighs its number, whichever form it has, and so does a second. The table of medials is lent, so that it is
-// stored once a word.
+// has a vowel weight of its own and carries no vowel. A final weighs its number, whichever form it has, and so does a second. The table of medials
+// is lent, so that it is stored once a word.
 pub fn put_weights(bytes: &mut [u8; Word::KEY], at: usize, packed: u64, medials: &[u8; 16])
     requires { ⌜ (at + weightCount ≤ keyLimit) × (now medials ≡ medialTable) ⌝ }
     ensures { λ _. ⌜ now (bytes .exit) ≡ sets (now (bytes .entry)) at (weightsBy packed) ⌝ }
