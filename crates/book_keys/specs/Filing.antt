@@ -1,7 +1,6 @@
--- Document 01, "The word book" and "Weights": which of two records stands before the other in word order, and how the keys that tell it are filed.
+-- Document 01, "The word book" and "Weights": the rows of the words of a book, and how the keys of its live records are filed.
 -- Assumes nothing.
 use mathlib.Core.Path.{_≡_}
-use mathlib.Core.Bool.{Bool, true, false}
 use mathlib.Core.List.{List, [], _∷_, map}
 use Prim.Native.Nat.{ℕ, _≤_}
 use lib.Dec.{T}
@@ -10,9 +9,6 @@ use lib.Seq.{sets}
 use Rattle.formula.specs.Row.{Row}
 use Rattle.recogniser.specs.Answer.{Readable}
 use Rattle.weighing.specs.Keys.{keyOf, usedBytes}
-use Rattle.weighing.specs.Order.{Filed, filed, order}
-use Rattle.weighing.specs.declared.order.Order.{Order}
-use Rattle.weighing.specs.declared.order.Order.the-variants.{Less, Equal, Greater}
 use Rattle.recogniser.proofs.Decided.{decide}
 use Rattle.entries.specs.Entries.{Entry, wordAt, isFramed}
 use Rattle.entries.specs.Book.{IsBook}
@@ -25,19 +21,6 @@ decidedRow (no none) = []
 -- the row of a readable word; no row for another word
 unfoldable pub rowOf : List ℕ → Row
 rowOf word = decidedRow (decide word)
-
--- what an entry is filed by
-abbrev pub fileOf : Entry → Filed
-fileOf entry = filed (rowOf (entry .word)) (entry .word)
-
-abbrev pub isLess : Order → Bool
-isLess Less = true
-isLess Equal = false
-isLess Greater = false
-
--- "before it in word order"
-unfoldable pub before : Entry → Entry → Bool
-before first second = isLess (order (fileOf first) (fileOf second))
 
 -- how a key is filed: the number of syllables, then the weights, six bytes a syllable
 unfoldable pub filedKey : Row → List ℕ

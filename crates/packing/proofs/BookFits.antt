@@ -29,7 +29,7 @@ use Rattle.entries.proofs.Tidied.{live-before}
 use Rattle.tidying.specs.Tidy.{tidyOf, TidyRight}
 use Rattle.entries.proofs.Bytes.{Bytes}
 use Rattle.book_keys.specs.Filing.{rowOf}
-use Rattle.book_keys.specs.Fitting.{fits}
+use Rattle.book_fitting.specs.Fitting.{fits}
 use Rattle.sorting.proofs.InOrder.{passing-few}
 use Rattle.ranking.specs.Rank.{startsInOrder, rankOf, Among}
 use Rattle.ranking.specs.Whole.{NotABook, not-a-book, BookOf, OrderRight}

@@ -17,8 +17,9 @@ use Rattle.entries.specs.Book.{IsBook}
 use Rattle.entries.specs.Rank.{sortedOnto, sorted}
 use Rattle.entries.proofs.Ranked.{rising-of-book}
 use Rattle.entries.proofs.Passing.{rising-filtered}
-use Rattle.book_keys.specs.Filing.{before, startOf}
-use Rattle.book_keys.proofs.Laws.{before-irreflexive, before-transitive, before-total}
+use Rattle.book_keys.specs.Filing.{startOf}
+use Rattle.book_order.specs.Order.{before}
+use Rattle.book_order.proofs.Laws.{before-irreflexive, before-transitive, before-total}
 use Rattle.sorting.specs.Passing.{startsPassing}
 use Rattle.sorting.proofs.InOrder.{passing-there}
 use Rattle.ranking.specs.Rank.{Among}

@@ -5,7 +5,7 @@ use Rattle.formula.specs.Row.{Row}
 use Rattle.entries.specs.Entries.{Entry}
 use Rattle.entries.specs.Book.{GoodAfter}
 use Rattle.entries.specs.Tidy.{tidied, startTidied}
-use Rattle.book_keys.specs.Fitting.{fits}
+use Rattle.book_fitting.specs.Fitting.{fits}
 use Rattle.sorting.proofs.Tidied.{starts-tidied}
 use Rattle.prefix_search.specs.Prefix.{startsFitting}
 

@@ -19,8 +19,8 @@ use Rattle.rows.proofs.Viable.{only-row}
 use Rattle.weighing.specs.Prefix.{beginsWith}
 use Rattle.entries.specs.Entries.{Entry}
 use Rattle.book_keys.specs.Filing.{rowOf}
-use Rattle.book_keys.specs.Fitting.{fits}
 use Rattle.book_keys.proofs.Rows.{row-is}
+use Rattle.book_fitting.specs.Fitting.{fits}
 
 pub record Pair : Type 0 where
   pub query : Example

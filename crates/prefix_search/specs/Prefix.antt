@@ -8,7 +8,7 @@ use Rattle.formula.specs.Row.{Row}
 use Rattle.refusals.specs.Outcome.{Outcome}
 use Rattle.refusals.specs.Output.{Writes}
 use Rattle.entries.specs.Entries.{Entry}
-use Rattle.book_keys.specs.Fitting.{fits}
+use Rattle.book_fitting.specs.Fitting.{fits}
 use Rattle.sorting.specs.Passing.{startsPassing}
 use Rattle.ranking.specs.Whole.{NotABook, BookOf}
 

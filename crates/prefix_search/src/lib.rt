@@ -9,7 +9,7 @@ use sorting::records::sort_records;
 ghost use Rattle.refusals.specs.Outcome.{outcomeOf};
 ghost use Rattle.recogniser.specs.Answer.{Readable};
 ghost use Rattle.book_keys.specs.Filing.{rowOf};
-ghost use Rattle.book_keys.specs.Fitting.{fitsKey};
+ghost use Rattle.book_fitting.specs.Fitting.{fitsKey};
 ghost use Rattle.prefix_search.specs.Prefix.{PrefixRight, ListsPassing};
 
 // Puts the starts of the live records that begin with the weights of a key, in word order, at the front of `starts`.

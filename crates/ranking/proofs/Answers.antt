@@ -20,7 +20,7 @@ use Rattle.entries.proofs.Agree.{opened-is}
 use Rattle.entries.proofs.Walk.{free-within}
 use Rattle.book_check.specs.Opening.{openingOf}
 use Rattle.book_check.specs.declared.open.Opening.the-variants.{Book}
-use Rattle.book_keys.specs.Fitting.{fitsKey}
+use Rattle.book_fitting.specs.Fitting.{fitsKey}
 use Rattle.sorting.specs.Passing.{PutsPassing}
 use Rattle.ranking.specs.Rank.{rankOfEntry, rankOf, startsInOrder, Among}
 use Rattle.ranking.specs.Whole.{NotABook, BookOf, OrderRight}

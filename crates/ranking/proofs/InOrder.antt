@@ -15,8 +15,9 @@ use Rattle.entries.specs.Book.{IsBook}
 use Rattle.entries.specs.Map.{liveCount, liveOnes}
 use Rattle.entries.specs.Rank.{sorted}
 use Rattle.entries.proofs.Live.{live-count}
-use Rattle.book_keys.specs.Filing.{before, startOf}
-use Rattle.book_keys.specs.Fitting.{fitsKey}
+use Rattle.book_keys.specs.Filing.{startOf}
+use Rattle.book_order.specs.Order.{before}
+use Rattle.book_fitting.specs.Fitting.{fitsKey}
 use Rattle.sorting.specs.Passing.{startsPassing}
 use Rattle.sorting.proofs.InOrder.{passing-there, passing-count}
 use Rattle.ranking.specs.Rank.{startsInOrder}

@@ -21,8 +21,8 @@ use Rattle.entries.specs.Rank.{insert, sortedOnto, sorted, liveBefore, AllBehin
 use Rattle.entries.specs.Outcome.{finds}
 use Rattle.entries.proofs.Agree.{complete}
 use Rattle.entries.proofs.Ranked.{rank-of-book, rising-of-book}
-use Rattle.book_keys.specs.Filing.{before}
-use Rattle.book_keys.proofs.Laws.{before-irreflexive, before-transitive, before-total}
+use Rattle.book_order.specs.Order.{before}
+use Rattle.book_order.proofs.Laws.{before-irreflexive, before-transitive, before-total}
 use Rattle.ranking.specs.Rank.{rankOfEntry, rankOf, Among, HasRank}
 use Rattle.ranking.proofs.InOrder.{sorted-length, none-there, read-there}
 

@@ -13,7 +13,8 @@ use Rattle.entries.specs.Outcome.{startMoved}
 use Rattle.entries.proofs.Bytes.{Bytes}
 use Rattle.entries.proofs.Tidied.{on-tidied}
 use Rattle.entries.proofs.Moved.{moved, placedOne, count-tidied}
-use Rattle.book_keys.specs.Filing.{before, startOf}
+use Rattle.book_keys.specs.Filing.{startOf}
+use Rattle.book_order.specs.Order.{before}
 use Rattle.sorting.proofs.Tidied.{order-tidied, starts-moved}
 use Rattle.ranking.specs.Rank.{rankOfEntry, rankOf, startsInOrder}
 

@@ -17,7 +17,7 @@ use Rattle.entries.specs.Map.{liveCount}
 use Rattle.entries.specs.Rank.{liveBefore}
 use Rattle.entries.specs.Outcome.{finds}
 use Rattle.entries.proofs.Agree.{complete}
-use Rattle.book_keys.specs.Filing.{before}
+use Rattle.book_order.specs.Order.{before}
 use Rattle.ranking.specs.Rank.{rankOfEntry, rankOf, startsInOrder, Among}
 use Rattle.ranking.specs.Whole.{NotABook, not-a-book, BookOf, OrderRight}
 use Rattle.ranking.proofs.InOrder.{starts-count, entry-there}

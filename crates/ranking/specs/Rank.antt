@@ -12,7 +12,8 @@ use Rattle.entries.specs.Entries.{Entry, Entries, book, wrong, entries}
 use Rattle.entries.specs.Map.{liveCount}
 use Rattle.entries.specs.Rank.{sorted, liveBefore}
 use Rattle.entries.specs.Outcome.{finds}
-use Rattle.book_keys.specs.Filing.{before, startOf}
+use Rattle.book_keys.specs.Filing.{startOf}
+use Rattle.book_order.specs.Order.{before}
 
 -- the entry's "start and stock number"; 15 where there is none: "rank not below the live count", with the live count
 abbrev pub rankOfEntry : Option Entry → ℕ → Outcome

@@ -1,7 +1,7 @@
 // The live records of a book in word order: all of them, and the one with so many before it.
 use book_check::open::Opening;
 use book_check::open::open_book;
-use book_keys::keys::MOST_LIVE;
+use book_keys::MOST_LIVE;
 use lookup::stock_at;
 use memory::casts::place_of;
 use refusals::Counted;

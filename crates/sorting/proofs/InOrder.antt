@@ -18,9 +18,10 @@ use Rattle.entries.specs.Rank.{insert, sortedOnto, sorted}
 use Rattle.entries.proofs.Ranked.{AllLive}
 use Rattle.entries.proofs.Passing.{filtered-of-book}
 use Rattle.entries.proofs.Live.{live-count, live-all, sorted-live}
-use Rattle.book_keys.specs.Filing.{before, startOf}
-use Rattle.book_keys.proofs.Laws.{before-irreflexive, before-transitive, before-total}
+use Rattle.book_keys.specs.Filing.{startOf}
 use Rattle.book_keys.proofs.Live.{entries-back}
+use Rattle.book_order.specs.Order.{before}
+use Rattle.book_order.proofs.Laws.{before-irreflexive, before-transitive, before-total}
 use Rattle.sorting.specs.Sorting.{inOrderOnto, inOrder, goesBefore}
 use Rattle.sorting.proofs.Merges.{length-in-order}
 use Rattle.sorting.specs.Passing.{startsPassing}

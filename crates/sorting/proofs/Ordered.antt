@@ -11,7 +11,7 @@ use Rattle.weighing.specs.declared.order.Order.the-variants.{Less, Equal, Great
 use Rattle.weighing.proofs.Lexicographic.{opposite}
 use Rattle.weighing.proofs.Laws.{words-are-ordered}
 use Rattle.entries.specs.Entries.{entryAt}
-use Rattle.book_keys.specs.Filing.{fileOf, isLess, before}
+use Rattle.book_order.specs.Order.{fileOf, isLess, before}
 use Rattle.sorting.specs.Sorting.{goesBefore}
 
 pub true-not-false : {A : Type 0} → true ≡ false → A

@@ -17,8 +17,8 @@ use Rattle.entries.specs.Entries.{Entry}
 use Rattle.entries.specs.Book.{IsBook}
 use Rattle.entries.specs.Map.{liveOnes}
 use Rattle.book_keys.specs.Filing.{AllKeyed, startOf, FiledRight}
-use Rattle.book_keys.specs.Fitting.{fitsKey, hasPrefix, KeptRight}
-use Rattle.book_keys.proofs.Fits.{kept-entries}
+use Rattle.book_fitting.specs.Fitting.{fitsKey, hasPrefix, KeptRight}
+use Rattle.book_fitting.proofs.Fits.{kept-entries}
 use Rattle.sorting.specs.Sorting.{inOrder, goesBefore, frontInOrder}
 use Rattle.sorting.specs.Passing.{startsPassing, PutsPassing}
 use Rattle.sorting.proofs.InOrder.{passing-in-order, passing-count}

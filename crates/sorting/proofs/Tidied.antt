@@ -11,7 +11,8 @@ use Rattle.entries.specs.Book.{GoodAfter}
 use Rattle.entries.specs.Rank.{sorted}
 use Rattle.entries.specs.Tidy.{startingAt, tidied, startTidied}
 use Rattle.entries.proofs.Moved.{moved, sorted-tidied}
-use Rattle.book_keys.specs.Filing.{before, startOf}
+use Rattle.book_keys.specs.Filing.{startOf}
+use Rattle.book_order.specs.Order.{before}
 use Rattle.sorting.specs.Passing.{startsPassing}
 
 -- the word order does not see where a record starts

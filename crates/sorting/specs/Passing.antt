@@ -9,7 +9,8 @@ use Rattle.refusals.specs.Output.{Puts}
 use Rattle.entries.specs.Entries.{Entry}
 use Rattle.entries.specs.Book.{IsBook}
 use Rattle.entries.specs.Rank.{sorted}
-use Rattle.book_keys.specs.Filing.{before, startOf}
+use Rattle.book_keys.specs.Filing.{startOf}
+use Rattle.book_order.specs.Order.{before}
 
 -- the starts of the live entries, in word order, at which a test passes
 abbrev pub startsPassing : (Entry → Bool) → List Entry → List ℕ

@@ -10,7 +10,8 @@ use Rattle.letters.specs.Choice.{pick}
 use Rattle.entries.specs.Limits.{bookLimit}
 use Rattle.entries.specs.Entries.{entryAt}
 use Rattle.entries.specs.Rank.{insert}
-use Rattle.book_keys.specs.Filing.{before, AllKeyed, keyRoom}
+use Rattle.book_keys.specs.Filing.{AllKeyed, keyRoom}
+use Rattle.book_order.specs.Order.{before}
 
 module _ (less : ℕ → ℕ → Bool) where
   -- starts put one after the other among those that are in order already

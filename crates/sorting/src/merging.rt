@@ -1,6 +1,6 @@
 // A merge sort of the starts of records, by their words.
-use book_keys::keys::KEY_ROOM;
-use book_keys::order::is_before;
+use book_keys::KEY_ROOM;
+use book_order::is_before;
 use memory::casts::place_of;
 use memory::copies::put_values;
 ghost use mathlib.Core.Path.{_≡_};

@@ -1,15 +1,15 @@
 // The live records of a book that begin with some weights, sorted by their words.
 use crate::merging::sort_front;
-use book_keys::fitting::keep_fitting;
-use book_keys::keys::KEY_ROOM;
-use book_keys::keys::MOST_LIVE;
-use book_keys::keys::file_records;
+use book_fitting::keep_fitting;
+use book_keys::KEY_ROOM;
+use book_keys::MOST_LIVE;
+use book_keys::file_records;
 use memory::copies::put_values;
 use refusals::Counted;
 use refusals::Refusal;
 ghost use Rattle.refusals.specs.Outcome.{outcomeOf};
 ghost use Rattle.entries.specs.Book.{Opened};
-ghost use Rattle.book_keys.specs.Fitting.{fitsKey};
+ghost use Rattle.book_fitting.specs.Fitting.{fitsKey};
 ghost use Rattle.sorting.specs.Passing.{PutsPassing};
 
 // Puts the starts of the live records whose weights begin with these, in word order, at the front of `starts`, where there is room for them.

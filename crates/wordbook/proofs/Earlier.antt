@@ -22,8 +22,9 @@ use Rattle.entries.specs.Rank.{sorted}
 use Rattle.entries.specs.Outcome.{checkOf, findOfEntry, findOf}
 use Rattle.entries.proofs.Earlier.{good-words, earlier-entries}
 use Rattle.entries.proofs.Sorted.{sorted-alike}
-use Rattle.book_keys.specs.Filing.{rowOf, fileOf, isLess, before}
+use Rattle.book_keys.specs.Filing.{rowOf}
 use Rattle.book_keys.proofs.Rows.{row-is}
+use Rattle.book_order.specs.Order.{fileOf, isLess, before}
 use Rattle.ranking.specs.Rank.{rankOfEntry, rankOf}
 use Rattle.wordbook.specs.Calls.{CallAnswers}
 use Rattle.wordbook.proofs.Laws.{stored-answer}

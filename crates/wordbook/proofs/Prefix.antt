@@ -24,9 +24,10 @@ use Rattle.entries.specs.Entries.{Entry, entryAt}
 use Rattle.entries.specs.Book.{size, GoodEntry, GoodAfter, IsBook}
 use Rattle.entries.specs.Map.{liveOnes}
 use Rattle.entries.proofs.Agree.{complete}
-use Rattle.book_keys.specs.Filing.{rowOf, before, startOf}
-use Rattle.book_keys.specs.Fitting.{fits}
+use Rattle.book_keys.specs.Filing.{rowOf, startOf}
 use Rattle.book_keys.proofs.Rows.{row-is}
+use Rattle.book_order.specs.Order.{before}
+use Rattle.book_fitting.specs.Fitting.{fits}
 use Rattle.sorting.proofs.InOrder.{passing-count}
 use Rattle.ranking.specs.Rank.{Among}
 use Rattle.ranking.proofs.Whole.{refused-alike, book-once, book-or-refused}

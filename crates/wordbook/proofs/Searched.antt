@@ -16,7 +16,7 @@ use Rattle.entries.specs.Book.{IsBook}
 use Rattle.entries.specs.Outcome.{finds, findOf}
 use Rattle.entries.proofs.Bytes.{Bytes}
 use Rattle.book_keys.specs.Filing.{rowOf}
-use Rattle.book_keys.specs.Fitting.{fits}
+use Rattle.book_fitting.specs.Fitting.{fits}
 use Rattle.ranking.specs.Rank.{Among}
 use Rattle.prefix_search.proofs.Words.{Pair, pairs, Right, pairs-fitting}
 use Rattle.wordbook.specs.Calls.{CallAnswers}

@@ -7,7 +7,7 @@ use Rattle.refusals.specs.Outcome.{outcomeOf}
 use Rattle.refusals.specs.Output.{refused}
 use Rattle.book_check.specs.Opening.{Says}
 use Rattle.book_check.specs.declared.open.Opening.{Opening}
-use Rattle.book_keys.specs.Fitting.{fitsKey}
+use Rattle.book_fitting.specs.Fitting.{fitsKey}
 use Rattle.ranking.specs.Whole.{not-a-book}
 use Rattle.prefix_search.proofs.Answers.{listed}
 use Rattle.prefix_search.proofs.find_key.Statement.{statement}

@@ -9,9 +9,9 @@ use denote.Ref.{now}
 use Rattle.refusals.specs.Outcome.{outcomeOf}
 use Rattle.entries.specs.Entries.{Entry}
 use Rattle.book_keys.specs.Filing.{rowOf}
-use Rattle.book_keys.specs.Fitting.{fitsKey}
 use Rattle.book_keys.proofs.Words.{not-refused, filled-few, filled-room, filled-weights}
-use Rattle.book_keys.proofs.Fits.{fits-row}
+use Rattle.book_fitting.specs.Fitting.{fitsKey}
+use Rattle.book_fitting.proofs.Fits.{fits-row}
 use Rattle.prefix_search.specs.Prefix.{ListsPassing}
 use Rattle.prefix_search.proofs.find_prefix.Statement.{statement}
 use Rattle.prefix_search.proofs.find_prefix.Tie as tie

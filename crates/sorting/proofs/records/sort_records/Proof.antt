@@ -9,7 +9,7 @@ use lib.ListN.{length, take, drop, length-replicate}
 use lib.Seq.{length-take-le}
 use denote.Ref.{now}
 use Rattle.book_keys.specs.Filing.{keyRoom, mostLive, AllKeyed}
-use Rattle.book_keys.proofs.Fits.{keyed-within}
+use Rattle.book_fitting.proofs.Fits.{keyed-within}
 use Rattle.sorting.proofs.Sorted.{few, kept-front, kept-long, chosen-keyed, refused-short, copied-front, copied-long, put-passing}
 use Rattle.sorting.proofs.records.sort_records.Statement.{statement}
 use Rattle.sorting.proofs.records.sort_records.Tie as tie
