@@ -1,5 +1,2 @@
-pub mod Cutting
-pub mod Holding
-pub mod Taking
 pub mod Passing
-pub mod Following
+pub mod Ending

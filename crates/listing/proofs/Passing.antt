@@ -6,11 +6,11 @@ use Prim.Native.Nat.{ℕ, _+_, _*_, _-_, _≤_, _<_, _^_}
 use native.Mathlib.Omega.{arith}
 use lib.ListN.{length, take, drop, take-append-drop}
 use lib.Seq.{slice, take-all, take-take, length-take-le}
-use Rattle.listing.specs.Taken.{heldLimit, Ready}
-use Rattle.listing.specs.Following.{Follows, Passes}
+use Rattle.line_splitting.specs.Taken.{heldLimit, Ready}
+use Rattle.line_splitting.specs.Following.{Follows, Passes}
+use Rattle.line_splitting.specs.declared.Progress.{Progress}
 use Rattle.listing.specs.Running.{ChunkReady, Answered, Onward, EndReady}
-use Rattle.listing.specs.declared.splitting.OpenLine.{OpenLine}
-use Rattle.listing.specs.declared.splitting.Progress.{Progress}
+use Rattle.listing.specs.declared.running.OpenLine.{OpenLine}
 
 -- a chunk's beginning
 abbrev pub opening : OpenLine → Progress

@@ -1,4 +1,1 @@
-pub mod Lines
-pub mod Taken
 pub mod Running
-pub mod Following

@@ -10,10 +10,12 @@ use lib.IntN.{ℤ, pos, negsuc}
 use Rattle.letters.specs.Choice.{pick}
 use Rattle.io.specs.Counts.{clamped}
 use Rattle.libc.specs.Io.{Moved}
+use Rattle.key_text.specs.Put.{Put}
 use Rattle.printing.specs.Output.{printedLimit}
-use Rattle.listing.specs.Taken.{heldLimit}
-use Rattle.listing.specs.Following.{Follows, Comes}
-use Rattle.listing.specs.declared.splitting.OpenLine.{OpenLine}
+use Rattle.line_splitting.specs.Lines.{linesOf}
+use Rattle.line_splitting.specs.Taken.{heldLimit, Prints}
+use Rattle.line_splitting.specs.Following.{Follows}
+use Rattle.listing.specs.declared.running.OpenLine.{OpenLine}
 use Rattle.listing.specs.declared.running.Transfer.{Transfer}
 use Rattle.listing.specs.declared.running.Transfer.the-variants.{Bytes, End, Interrupted, Failed}
 use Rattle.listing.specs.declared.running.Passed.{Passed}
@@ -67,6 +69,12 @@ pub record EndReady (pending : List ℕ) (out : List ℕ) (current : OpenLine) :
   pub fits : current .held ≤ length pending
   pub room : printedLimit ≤ length out
   pub numbers : current .number + 1 < 2 ^ 64
+
+-- the end of the input: the text is that of all its lines
+pub record Comes (bytes : List ℕ) (text : List ℕ) (out : List ℕ) (used : ℕ) (out-after : List ℕ) (used-after : ℕ) : Type 0 where
+  pub last : List ℕ
+  pub put : Put out used last out-after used-after
+  pub prints : Prints 1 (linesOf bytes) (text ++ last)
 
 -- nothing is ready, and the output is as it was
 pub record Silent (out : List ℕ) (out-after : List ℕ) (ready : ℕ) : Type 0 where

@@ -1,3 +1,2 @@
-// Word lists: a chunk of input to its lines, and the running of a list from standard input to standard output.
-pub mod splitting; // splitting.rt: a chunk of input to lines
+// The running of a word list from standard input to standard output.
 pub mod running; // running.rt: standard input to standard output

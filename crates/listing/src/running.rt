@@ -1,11 +1,10 @@
 // The running of a list: standard input to standard output, each by 64 KiB.
-use crate::splitting::HELD_LIMIT;
-use crate::splitting::OpenLine;
-use crate::splitting::Progress;
-use crate::splitting::pass_chunk;
 use libc::EINTR;
 use libc::STDIN_FILENO;
 use libc::STDOUT_FILENO;
+use line_splitting::HELD_LIMIT;
+use line_splitting::Progress;
+use line_splitting::pass_chunk;
 use printing::put_line;
 ghost use mathlib.Core.Path.{_≡_};
 ghost use lib.ListN.{length};
@@ -21,6 +20,13 @@ enum Transfer {
     End,
     Interrupted,
     Failed,
+}
+
+// The line that is open between two reads: how many of its bytes are held, and the number of the last line that ended. All that was
+// printed is written by then, so nothing here counts it.
+struct OpenLine {
+    held: usize,
+    number: u64,
 }
 
 // How a chunk ended: with all that was printed for its lines written, or with a write that failed.

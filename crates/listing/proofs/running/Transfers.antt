@@ -19,7 +19,7 @@ use Rattle.letters.specs.Choice.{pick}
 use Rattle.io.specs.Counts.{clamped}
 use Rattle.libc.specs.Io.{Moved}
 use Rattle.listing.specs.Running.{failureOf, transferOf, Reads, Finished, Finishes}
-use Rattle.listing.specs.declared.splitting.OpenLine.{OpenLine}
+use Rattle.listing.specs.declared.running.OpenLine.{OpenLine}
 use Rattle.listing.specs.declared.running.Transfer.{Transfer}
 use Rattle.listing.specs.declared.running.Transfer.the-variants.{Bytes, End, Interrupted, Failed}
 use Rattle.listing.proofs.running.Transfer.{the-type}

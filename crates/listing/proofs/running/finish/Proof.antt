@@ -4,7 +4,7 @@ use native.Mathlib.Omega.{arith}
 use mathlib.Core.Path.{sym}
 use lib.Seq.{length-take-le}
 use borrow.Author.Needs.{needs}
-use Rattle.listing.proofs.Following.{written-within, comes-none, comes-line}
+use Rattle.listing.proofs.Ending.{written-within, comes-none, comes-line}
 use Rattle.listing.proofs.running.Transfers.{finished-other}
 use Rattle.listing.proofs.running.finish.Statement.{statement}
 use Rattle.listing.proofs.running.finish.Tie as tie

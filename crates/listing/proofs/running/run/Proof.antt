@@ -7,7 +7,7 @@ use Prim.Native.Nat.{_≤_}
 use mathlib.Core.List.{[]}
 use lib.ListN.{length}
 use lib.Seq.{length-take-le}
-use Rattle.listing.proofs.Following.{follows-none}
+use Rattle.line_splitting.proofs.Following.{follows-none}
 use Rattle.listing.proofs.Passing.{Going, going-end, going-ready, going-on}
 use Rattle.listing.proofs.running.Transfers.{bytes-within}
 use Rattle.listing.proofs.running.run.Statement.{statement}

@@ -9,8 +9,8 @@ use Rattle.formula.specs.Limits.{lineLimit}
 use Rattle.collation.specs.declared.key.Key.{Key}
 use Rattle.key_text.specs.Put.{Put}
 use Rattle.printing.specs.Output.{LineRight, printed, printedLimit}
-use Rattle.listing.specs.Lines.{Cut, cutFrom}
-use Rattle.listing.specs.declared.splitting.Progress.{Progress}
+use Rattle.line_splitting.specs.Lines.{Cut, cutFrom}
+use Rattle.line_splitting.specs.declared.Progress.{Progress}
 
 -- the most bytes of a line that are held: one more than the most of a line that is not refused for its length
 abbrev pub heldLimit : ℕ

@@ -6,9 +6,9 @@ use Prim.Native.Nat.{ℕ, _+_, _≤_, _<_}
 use lib.ListN.{length}
 use lib.Seq.{slice}
 use Rattle.key_text.specs.Put.{Put}
-use Rattle.listing.specs.Lines.{cutFrom, linesOf}
-use Rattle.listing.specs.Taken.{heldLimit, Held, Prints}
-use Rattle.listing.specs.declared.splitting.Progress.{Progress}
+use Rattle.line_splitting.specs.Lines.{cutFrom}
+use Rattle.line_splitting.specs.Taken.{heldLimit, Held, Prints}
+use Rattle.line_splitting.specs.declared.Progress.{Progress}
 
 -- "line number from 1": the lines that ended are printed, and what is held is that of the line that is open
 pub record Follows (bytes : List ℕ) (pending : List ℕ) (held : ℕ) (number : ℕ) (text : List ℕ) : Type 0 where
@@ -21,12 +21,6 @@ pub record Goes (bytes : List ℕ) (piece : List ℕ) (text : List ℕ) (out : L
   pub more : List ℕ
   pub put : Put out used more out-after (after .used)
   pub follows : Follows (bytes ++ piece) pending-after (after .held) (after .number) (text ++ more)
-
--- the end of the input: the text is that of all its lines
-pub record Comes (bytes : List ℕ) (text : List ℕ) (out : List ℕ) (used : ℕ) (out-after : List ℕ) (used-after : ℕ) : Type 0 where
-  pub last : List ℕ
-  pub put : Put out used last out-after used-after
-  pub prints : Prints 1 (linesOf bytes) (text ++ last)
 
 -- the promise of passing lines of a chunk, whatever came before it
 pub record Passes (chunk : List ℕ) (pending : List ℕ) (out : List ℕ) (progress : Progress) (pending-after : List ℕ) (out-after : List ℕ) (after : Progress) : Type 0 where

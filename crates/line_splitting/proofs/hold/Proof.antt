@@ -1,4 +1,4 @@
--- `listing::splitting::hold` meets its contract: what there is room for is copied behind the bytes that are held.
+-- `line_splitting::hold` meets its contract: what there is room for is copied behind the bytes that are held.
 -- Assumes nothing.
 use borrow.Author.Needs.{needs}
 use mathlib.Core.Path.{sym}
@@ -6,9 +6,9 @@ use mathlib.Core.Logic.{⊎-elim}
 use native.Mathlib.Omega.{arith}
 use lib.Seq.{length-take-le}
 use denote.Ref.{now}
-use Rattle.listing.proofs.Holding.{Fills, fills-all, fills-room, held-more}
-use Rattle.listing.proofs.splitting.hold.Statement.{statement}
-use Rattle.listing.proofs.splitting.hold.Tie as tie
+use Rattle.line_splitting.proofs.Holding.{Fills, fills-all, fills-room, held-more}
+use Rattle.line_splitting.proofs.hold.Statement.{statement}
+use Rattle.line_splitting.proofs.hold.Tie as tie
 
 -- what is copied fills the room
 filled : (c : tie.Joined1) → Fills (now (c .before .before .before .args .part)) (c .before .before .before .args .held) (c .if1 .count)

@@ -12,10 +12,10 @@ use borrow.Rule.Slice.PartMut.{midOf, putMid, post-is}
 use Rattle.collation.specs.declared.key.Key.{Key}
 use Rattle.key_text.specs.Put.{Put, Written}
 use Rattle.printing.specs.Output.{LineRight, LinePut, printed, printedLimit}
-use Rattle.listing.specs.Taken.{heldLimit, Held, Holds, EndFound, Prints, none, more, Ready, Printed, Taken}
-use Rattle.listing.specs.declared.splitting.Progress.{Progress}
+use Rattle.line_splitting.specs.Taken.{heldLimit, Held, Holds, EndFound, Prints, none, more, Ready, Printed, Taken}
+use Rattle.line_splitting.specs.declared.Progress.{Progress}
 use Rattle.key_text.proofs.Putting.{put-nothing, put-after}
-use Rattle.listing.proofs.Cutting.{joined, cut-append, still, cut-none, plain-ends}
+use Rattle.line_splitting.proofs.Cutting.{joined, cut-append, still, cut-none, plain-ends}
 use Rattle.printing.proofs.Answers.{line-kept}
 
 pub prints-append : {number : ℕ} {lines further : List (List ℕ)} {text rest : List ℕ} (next : ℕ) → next ≡ number + length lines

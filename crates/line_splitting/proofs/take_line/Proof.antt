@@ -1,13 +1,13 @@
--- `listing::splitting::take_line` meets its contract: up to the line's end no other line ends, and what is held is answered as the whole line.
+-- `line_splitting::take_line` meets its contract: up to the line's end no other line ends, and what is held is answered as the whole line.
 -- Assumes nothing.
 use native.Mathlib.Omega.{arith}
 use mathlib.Core.Path.{sym}
 use denote.Ref.{now}
 use lib.Seq.{length-take-le}
-use Rattle.listing.proofs.Taking.{part-fits, taken-open, taken-ended}
+use Rattle.line_splitting.proofs.Taking.{part-fits, taken-open, taken-ended}
 use borrow.Author.Needs.{needs}
-use Rattle.listing.proofs.splitting.take_line.Statement.{statement}
-use Rattle.listing.proofs.splitting.take_line.Tie as tie
+use Rattle.line_splitting.proofs.take_line.Statement.{statement}
+use Rattle.line_splitting.proofs.take_line.Tie as tie
 
 line-end-requires : tie.Need-line-end-requires
 line-end-requires c κs = search needs

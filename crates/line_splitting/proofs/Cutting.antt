@@ -11,7 +11,7 @@ use lib.ListN.{length, take, getD, length-take}
 use lib.Seq.{slice, take-suc, drop-append-le, slice-empty}
 use borrow.Author.Tests.{eq-eqb, ne-eqb}
 use Rattle.letters.specs.Choice.{pick}
-use Rattle.listing.specs.Lines.{Cut, afterLine, cutFrom}
+use Rattle.line_splitting.specs.Lines.{Cut, afterLine, cutFrom}
 
 -- what is cut, and then what is cut of the bytes behind
 abbrev pub joined : Cut → Cut → Cut

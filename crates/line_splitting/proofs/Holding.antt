@@ -7,7 +7,7 @@ use native.Mathlib.Omega.{arith}
 use lib.ListN.{length, take, length-append, length-take}
 use lib.Seq.{sets, take-all, take-paste, length-take-le}
 use Rattle.memory.proofs.Stores.{sets-paste}
-use Rattle.listing.specs.Taken.{heldLimit, Held, Holds}
+use Rattle.line_splitting.specs.Taken.{heldLimit, Held, Holds}
 
 -- so many bytes of a part are all that there is room for
 pub record Fills (part : List ℕ) (held count : ℕ) : Type 0 where

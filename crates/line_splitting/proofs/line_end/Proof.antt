@@ -1,13 +1,13 @@
--- `listing::splitting::line_end` meets its contract. The loop's invariant: of the bytes passed none ends a line. The measure is what is left of the chunk.
+-- `line_splitting::line_end` meets its contract. The loop's invariant: of the bytes passed none ends a line. The measure is what is left of the chunk.
 -- Assumes nothing.
 use Prim.Native.Nat.{_-_, _≤_}
 use native.Mathlib.Omega.{arith}
 use lib.ListN.{length}
 use lib.Seq.{slice}
 use denote.Ref.{now}
-use Rattle.listing.proofs.Cutting.{Plain, plain-start, plain-further}
-use Rattle.listing.proofs.splitting.line_end.Statement.{statement}
-use Rattle.listing.proofs.splitting.line_end.Tie as tie
+use Rattle.line_splitting.proofs.Cutting.{Plain, plain-start, plain-further}
+use Rattle.line_splitting.proofs.line_end.Statement.{statement}
+use Rattle.line_splitting.proofs.line_end.Tie as tie
 
 abbrev Inv-loop : tie.InvT-loop
 Inv-loop chunk from at₀ at = (from ≤ at) × (at ≤ length chunk) × Plain (slice from at chunk)

@@ -6,18 +6,11 @@ use printing::PRINTED_LIMIT;
 use printing::put_line;
 ghost use Prim.Native.Nat.{_≤_};
 ghost use lib.ListN.{length};
-ghost use Rattle.listing.specs.Taken.{heldLimit, EndFound, Holds, Ready, Taken};
-ghost use Rattle.listing.specs.Following.{Passes};
+ghost use Rattle.line_splitting.specs.Taken.{heldLimit, EndFound, Holds, Ready, Taken};
+ghost use Rattle.line_splitting.specs.Following.{Passes};
 
 // The most bytes of a line that are held: one more than the most of a line that is not refused for its length.
 pub const HELD_LIMIT: usize = Word::LINE_LIMIT + 1;
-
-// The line that is open between two reads: how many of its bytes are held, and the number of the last line that ended. All that was
-// printed is written by then, so nothing here counts it.
-pub struct OpenLine {
-    pub held: usize,
-    pub number: u64,
-}
 
 // How far a chunk is: the place in it, how many bytes of the open line are held, the number of the last line that ended, and how many
 // bytes of the output are used.
@@ -82,12 +75,7 @@ fn take_line(chunk: &[u8], pending: &mut [u8], out: &mut [u8], progress: Progres
 }
 
 // Takes lines from a place of the chunk until the chunk is used up or the output has no room for one more.
-pub(crate) fn pass_chunk(
-    chunk: &[u8],
-    pending: &mut [u8],
-    out: &mut [u8],
-    progress: Progress,
-) -> Progress
+pub fn pass_chunk(chunk: &[u8], pending: &mut [u8], out: &mut [u8], progress: Progress) -> Progress
     requires { ⌜ Ready (now chunk) (now pending) (now out) progress ⌝ }
     ensures { λ r. ⌜ Passes (now (chunk .entry)) (now (pending .entry)) (now (out .entry)) progress (now (pending .exit)) (now (out .exit)) r ⌝ }
 {

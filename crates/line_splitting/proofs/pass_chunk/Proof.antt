@@ -1,13 +1,13 @@
--- `listing::splitting::pass_chunk` meets its contract. The loop's invariant is `Along`: what was printed so far follows the bytes passed. The measure is what is left of the chunk.
+-- `line_splitting::pass_chunk` meets its contract. The loop's invariant is `Along`: what was printed so far follows the bytes passed. The measure is what is left of the chunk.
 -- Assumes nothing.
 use Prim.Native.Nat.{_-_}
 use native.Mathlib.Omega.{arith}
 use lib.ListN.{length}
 use borrow.Author.Tests.{leb-true, leb-false}
-use Rattle.listing.proofs.Following.{taken-passes}
-use Rattle.listing.proofs.Taking.{Along, along-none, along-ready, along-more, along-taken}
-use Rattle.listing.proofs.splitting.pass_chunk.Statement.{statement}
-use Rattle.listing.proofs.splitting.pass_chunk.Tie as tie
+use Rattle.line_splitting.proofs.Following.{taken-passes}
+use Rattle.line_splitting.proofs.Taking.{Along, along-none, along-ready, along-more, along-taken}
+use Rattle.line_splitting.proofs.pass_chunk.Statement.{statement}
+use Rattle.line_splitting.proofs.pass_chunk.Tie as tie
 
 abbrev Inv-loop : tie.InvT-loop
 Inv-loop chunk line₀ out₀ reached₀ line out reached = Along chunk line₀ out₀ reached₀ line out reached

@@ -1,0 +1,50 @@
+-- Whatever pieces an input comes in, what is printed is that of its lines: each piece goes on where the one before stopped.
+-- Assumes nothing.
+use mathlib.Core.Path.{_≡_, refl, ap, _∙_}
+use mathlib.Core.List.{List, [], _++_}
+use Prim.Native.Nat.{ℕ, _+_}
+use native.Mathlib.Omega.{arith}
+use lib.ListN.{length-append}
+use lib.Seq.{slice}
+use Rattle.line_splitting.specs.Lines.{cutFrom}
+use Rattle.line_splitting.specs.Taken.{none, Taken}
+use Rattle.line_splitting.specs.Following.{Follows, Goes, Passes}
+use Rattle.line_splitting.specs.declared.Progress.{Progress}
+use Rattle.line_splitting.proofs.Cutting.{joined, cut-append, cut-none}
+use Rattle.line_splitting.proofs.Taking.{prints-append}
+
+-- before the first byte
+pub follows-none : (pending : List ℕ) → Follows [] pending 0 0 []
+follows-none held = record {
+  prints = rw (cut-none []) none;
+  count = rw (cut-none []) refl;
+  open-line = rw (cut-none []) (record { count = refl; bytes = refl });
+}
+
+-- a piece whose lines were taken
+pub follows-more : {bytes text chunk pending out pending-after out-after : List ℕ} {progress after : Progress}
+    → Follows bytes pending (progress .held) (progress .number) text → Taken chunk pending out progress pending-after out-after after
+    → Goes bytes (slice (progress .at) (after .at) chunk) text out (progress .used) pending-after out-after after
+follows-more {bytes} {text} {chunk} {pending} {out} {pending-after} {out-after} {progress} {after} f taken =
+    let p = taken .printed (cutFrom [] bytes .open-line) (f .open-line) in
+    let e : cutFrom [] (bytes ++ slice (progress .at) (after .at) chunk) ≡ joined (cutFrom [] bytes) (p .cut) = cut-append [] bytes (slice (progress .at) (after .at) chunk) ∙ ap (joined (cutFrom [] bytes)) (p .follows) in
+    record {
+      more = p .text;
+      put = p .put;
+      follows = record {
+        prints = rw e (prints-append (progress .number + 1) (omega (arith, f .count)) (f .prints) (p .prints));
+        count = rw (e, length-append) (omega (arith, f .count, p .number));
+        open-line = rw e (p .held);
+      };
+    }
+
+pub taken-passes : {chunk pending out pending-after out-after : List ℕ} {progress after : Progress} → Taken chunk pending out progress pending-after out-after after
+    → Passes chunk pending out progress pending-after out-after after
+taken-passes {chunk} {pending} {out} {pending-after} {out-after} {progress} {after} taken = record {
+  further = taken .further;
+  within = taken .within;
+  fits = taken .fits;
+  room = taken .room;
+  fewer = taken .fewer;
+  goes = λ bytes text f. follows-more f taken;
+}
