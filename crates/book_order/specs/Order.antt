@@ -1,6 +1,8 @@
 -- Document 01, "The word book": which of two records stands before the other in word order.
 -- Assumes nothing.
+use mathlib.Core.Path.{_≡_}
 use mathlib.Core.Bool.{Bool, true, false}
+use mathlib.Core.Logic.{_⊎_}
 use Rattle.weighing.specs.Order.{Filed, filed, order}
 use Rattle.weighing.specs.declared.order.Order.{Order}
 use Rattle.weighing.specs.declared.order.Order.the-variants.{Less, Equal, Greater}
@@ -15,6 +17,10 @@ abbrev pub isLess : Order → Bool
 isLess Less = true
 isLess Equal = false
 isLess Greater = false
+
+-- a first comparison finds no difference, or it is the order
+abbrev pub Decides : Order → Order → Type 0
+Decides first whole = (first ≡ Equal) ⊎ (first ≡ whole)
 
 -- "before it in word order"
 unfoldable pub before : Entry → Entry → Bool

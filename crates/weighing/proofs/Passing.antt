@@ -38,7 +38,7 @@ decided Equal p (inr t) = let z : ⊥ = omega arith in absurd z
 decided Greater p t = refl
 
 module _ {A : Type 0} (f : A → A → Order) where
-  step-by : (xs ys : List A) (at : ℕ) (d : A) → at < length xs → at < length ys
+  pub step-by : (xs ys : List A) (at : ℕ) (d : A) → at < length xs → at < length ys
       → lexicographic f (drop at xs) (drop at ys) ≡ inTurn (f (getD xs at d) (getD ys at d)) (lexicographic f (drop (suc at) xs) (drop (suc at) ys))
   step-by [] ys at d h k = absurd (not-suc-le-zero h)
   step-by (x ∷ xs) [] at d h k = absurd (not-suc-le-zero k)

@@ -1,8 +1,9 @@
 -- Document 01, "Weights": the order of words, "by their rows of weights, a row before every longer one that begins with it; equal rows
 -- compare by code values in storage order". Assumes nothing.
 use mathlib.Core.List.{List, [], _∷_}
-use Prim.Native.Nat.{ℕ}
+use Prim.Native.Nat.{ℕ, zero, suc, _+_, _*_}
 use lib.Dec.{ltb, eqb}
+use lib.ListN.{getD}
 use Rattle.letters.specs.Choice.{pick}
 use Rattle.formula.specs.Row.{Row}
 use Rattle.formula.specs.Weighing.{weights}
@@ -28,6 +29,11 @@ lexicographic f (x ∷ xs) (y ∷ ys) = inTurn (f x y) (lexicographic f xs ys)
 -- the order of the weights of two syllables, and of two lists of code values
 unfoldable pub orderValues : List ℕ → List ℕ → Order
 orderValues xs ys = lexicographic orderNumbers xs ys
+
+-- the first n bytes of a list as one number, the first highest
+abbrev pub frontOf : ℕ → List ℕ → ℕ
+frontOf zero bytes = 0
+frontOf (suc n) bytes = 256 * frontOf n bytes + getD bytes n 0
 
 -- the order of two rows of weights
 unfoldable pub orderWeights : List (List ℕ) → List (List ℕ) → Order

@@ -21,11 +21,11 @@ use Rattle.book_order.proofs.is_before.Tie as tie
 abbrev from-wide : tie.After-wide → tie.Start
 from-wide c = c .before .before .before .before
 
-abbrev from-order : tie.After-order-parts → tie.Start
+abbrev from-order : tie.After-order-keys → tie.Start
 from-order c = from-wide (c .before .before .before)
 
 -- past the comparison of the weights
-abbrev from-equal : tie.After-enum-told → tie.After-order-parts
+abbrev from-equal : tie.After-enum-told → tie.After-order-keys
 from-equal c = c .before .before
 
 abbrev bytes : tie.Start → List ℕ
@@ -57,8 +57,8 @@ mul-first-key c = let e = first-ends (c .before) in omega arith
 mul-second-key : tie.Need-mul-second-key
 mul-second-key c = let e = second-ends (c .before) in omega arith
 
-add-order-parts : tie.Need-add-order-parts
-add-order-parts c = let e = first-ends (c .before .before) in omega arith
+add-order-keys : tie.Need-add-order-keys
+add-order-keys c = let e = first-ends (c .before .before) in omega arith
 
 element-copy-out-wide : tie.Need-element-copy-out-wide
 element-copy-out-wide c = let e = first-ends (c .before .before) in omega arith
@@ -66,11 +66,11 @@ element-copy-out-wide c = let e = first-ends (c .before .before) in omega arith
 wide-requires : tie.Need-wide-requires
 wide-requires c κs = search needs
 
-mul-order-parts : tie.Need-mul-order-parts
-mul-order-parts c = search needs
+mul-order-keys : tie.Need-mul-order-keys
+mul-order-keys c = search needs
 
-add-order-parts-2 : tie.Need-add-order-parts-2
-add-order-parts-2 c = let e = second-ends (c .before .before .before .before) in omega arith
+add-order-keys-2 : tie.Need-add-order-keys-2
+add-order-keys-2 c = let e = second-ends (c .before .before .before .before) in omega arith
 
 element-copy-out-wide-2 : tie.Need-element-copy-out-wide-2
 element-copy-out-wide-2 c = let e = second-ends (c .before .before .before .before) in omega arith
@@ -78,15 +78,15 @@ element-copy-out-wide-2 c = let e = second-ends (c .before .before .before .befo
 wide-requires-2 : tie.Need-wide-requires-2
 wide-requires-2 c κs = search needs
 
-mul-order-parts-2 : tie.Need-mul-order-parts-2
-mul-order-parts-2 c = search needs
+mul-order-keys-2 : tie.Need-mul-order-keys-2
+mul-order-keys-2 c = search needs
 
-order-parts-requires : tie.Need-order-parts-requires
-order-parts-requires c κs =
+order-keys-requires : tie.Need-order-keys-requires
+order-keys-requires c κs =
     let s = from-wide (c .before .before) in
     let one = first-count (c .before .before) in
     let other = second-count c in
-    (omega (arith, first-ends s, s .pre .1), omega (arith, second-ends s, s .pre .1))
+    (omega (arith, first-ends s, s .pre .1), omega (arith, second-ends s, s .pre .1), omega (arith, s .pre .1))
 
 enum-told : tie.Need-enum-told
 enum-told c = search needs
@@ -99,11 +99,11 @@ returns c =
     let o = c .before .before in
     let s = from-order o in
     weights-decide (bytes s) (now (s .args .keys)) (s .args .first) (s .args .second) (s .pre .2) (s .pre .3) _ _
-    (first-count (o .before .before .before)) (second-count (o .before)) (o .order-parts .result) (o .order-parts .ensures) (c .before .match .keys2)
+    (first-count (o .before .before .before)) (second-count (o .before)) (o .order-keys .result) (o .order-keys .ensures) (c .before .match .keys2)
     (c .is-less .result) (c .is-less .ensures)
 
-add-order-parts-3 : tie.Need-add-order-parts-3
-add-order-parts-3 c = let s = from-order (from-equal c) in let f = first-frame s in omega (arith, f .room, s .pre .0)
+add-order-parts : tie.Need-add-order-parts
+add-order-parts c = let s = from-order (from-equal c) in let f = first-frame s in omega (arith, f .room, s .pre .0)
 
 add-wide : tie.Need-add-wide
 add-wide c = let s = from-order (from-equal c) in let f = first-frame s in omega (arith, f .room, s .pre .0)
@@ -114,8 +114,8 @@ shared-slice-read-wide c = let s = from-order (from-equal (c .before)) in let f 
 wide-requires-3 : tie.Need-wide-requires-3
 wide-requires-3 c κs = search needs
 
-add-order-parts-4 : tie.Need-add-order-parts-4
-add-order-parts-4 c = let s = from-order (from-equal (c .before .before)) in let f = second-frame s in omega (arith, f .room, s .pre .0)
+add-order-parts-2 : tie.Need-add-order-parts-2
+add-order-parts-2 c = let s = from-order (from-equal (c .before .before)) in let f = second-frame s in omega (arith, f .room, s .pre .0)
 
 add-wide-2 : tie.Need-add-wide-2
 add-wide-2 c = let s = from-order (from-equal (c .before .before)) in let f = second-frame s in omega (arith, f .room, s .pre .0)
@@ -127,8 +127,8 @@ shared-slice-read-wide-2 c =
 wide-requires-4 : tie.Need-wide-requires-4
 wide-requires-4 c κs = search needs
 
-order-parts-requires-2 : tie.Need-order-parts-requires-2
-order-parts-requires-2 c κs =
+order-parts-requires : tie.Need-order-parts-requires
+order-parts-requires c κs =
     let s = from-order (from-equal (c .before .before .before .before)) in
     let f = first-frame s in
     let g = second-frame s in
@@ -144,9 +144,9 @@ returns-2 c =
     let p = c .before in
     let s = from-order o in
     values-decide (bytes s) (now (s .args .keys)) (s .args .first) (s .args .second) (s .pre .2) (s .pre .3) _ _
-    (first-count (o .before .before .before)) (second-count (o .before)) (o .order-parts .result) (o .order-parts .ensures)
-    (equal .enum-told .given .1) (p .order-parts2 .result)
-    (p .order-parts2 .ensures
+    (first-count (o .before .before .before)) (second-count (o .before)) (o .order-keys .result) (o .order-keys .ensures)
+    (equal .enum-told .given .1) (p .order-parts .result)
+    (p .order-parts .ensures
     ∙ (λ i. orderValues (take (p .before .before .before .wide3 .ensures .0 i) (drop (s .args .first + 7) (bytes s)))
     (take (p .before .wide4 .ensures .0 i) (drop (s .args .second + 7) (bytes s)))))
     (c .is-less2 .result) (c .is-less2 .ensures)
@@ -157,26 +157,26 @@ is-before-spec =
     (tie.spec
     mul-first-key
     mul-second-key
-    add-order-parts
+    add-order-keys
     element-copy-out-wide
     wide-requires
-    mul-order-parts
-    add-order-parts-2
+    mul-order-keys
+    add-order-keys-2
     element-copy-out-wide-2
     wide-requires-2
-    mul-order-parts-2
-    order-parts-requires
+    mul-order-keys-2
+    order-keys-requires
     enum-told
     is-less-requires
     returns
-    add-order-parts-3
+    add-order-parts
     add-wide
     shared-slice-read-wide
     wide-requires-3
-    add-order-parts-4
+    add-order-parts-2
     add-wide-2
     shared-slice-read-wide-2
     wide-requires-4
-    order-parts-requires-2
+    order-parts-requires
     is-less-requires-2
     returns-2)
