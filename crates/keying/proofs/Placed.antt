@@ -16,7 +16,7 @@ use Rattle.formula.specs.Syllable.{no-final, great-sa, Syllable, syllable, bare
 use Rattle.formula.specs.Row.{Row}
 use Rattle.formula.specs.Packed.{packed, packedTop}
 use Rattle.formula.specs.Weighing.{weightsOf}
-use Rattle.rows.specs.Machine.{endOf, KeptOk}
+use Rattle.rows.specs.Machine.{KeptOk}
 use Rattle.states.specs.Transition.{Makes, begins, begins-great-sa, adds-medial, adds-vowel, adds-tone, makes-kinzi, closes}
 use Rattle.syllables.proofs.Moved.{made-final}
 use Rattle.weighing.specs.Keys.{keyLimit, usedBytes, zeros, keyOf}

@@ -6,15 +6,14 @@ use mathlib.Core.List.{List, [], _∷_, _++_, reverse, reverseAux}
 use mathlib.Core.Option.{Option, none, some, Option·some-injective, Option·none-ne-some}
 use Prim.Native.Nat.{ℕ, _+_, _*_, _≤_}
 use native.Mathlib.Omega.{arith}
-use lib.Dec.{T, eqb}
+use lib.Dec.{T}
 use lib.ListN.{length}
-use Rattle.letters.specs.Choice.{pick}
 use Rattle.letters.specs.Letters.{isAdmitted, isConsonant, kindOf}
 use Rattle.letters.specs.Marks.{MedialGroup, Vowel, ToneMark, no-tone, dot, visarga}
 use Rattle.letters.specs.Weights.{toneWeight}
 use Rattle.letters.proofs.Tests.{or-left, or-right, or-false, either}
 use Rattle.formula.specs.Limits.{limit}
-use Rattle.formula.specs.Syllable.{Final, no-final, plain, plain-pair, stacked, kinzi, great-sa, syllable, bare, headOf, finalOf, isNoFinal, isNoTone, isSyllable, follows}
+use Rattle.formula.specs.Syllable.{Final, no-final, plain, kinzi, great-sa, syllable, bare, headOf, finalOf, isNoFinal, isNoTone, isSyllable, follows}
 use Rattle.formula.specs.Row.{Row, isRowOf, isRowAfter, Gives}
 use Rattle.formula.specs.Earlier.{Edition, base, independent-finals, isSingle, isSyllableIn, GivesIn}
 use Rattle.formula.proofs.Lists.{both, both-left, both-right, every, every-at}

@@ -1,6 +1,6 @@
 -- `syllables::window::window_after` meets its contract: each branch is the case that its test chooses.
 -- Assumes nothing.
-use mathlib.Core.Path.{_≡_, refl, ap, _∙_}
+use mathlib.Core.Path.{_≡_, refl}
 use native.Mathlib.Omega.{arith}
 use borrow.Author.Needs.{needs}
 use Rattle.syllables.proofs.Moved.{after-gain, after-head, one-more, none-more}
