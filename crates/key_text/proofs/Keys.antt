@@ -9,8 +9,8 @@ use lib.ListN.{length, length-append}
 use Rattle.formula.specs.Limits.{limit, weightCount}
 use Rattle.weighing.specs.Keys.{usedBytes}
 use Rattle.key_text.specs.Text.{hexadecimalsOf, syllableText, furtherText, keyText, syllableTextSize, keyTextLimit}
-use Rattle.key_text.specs.Put.{Put}
-use Rattle.key_text.proofs.Putting.{put-nothing, put-after, put-length}
+use Rattle.memory.specs.Put.{Put}
+use Rattle.memory.proofs.Putting.{put-nothing, put-after, put-length}
 
 pub hexadecimals-length : (count : ℕ) (bytes : List ℕ) (from : ℕ) → length (hexadecimalsOf count bytes from) ≡ 2 * count
 hexadecimals-length zero bytes from = refl

@@ -7,7 +7,7 @@ ghost use lib.ListN.{length};
 ghost use Rattle.formula.specs.Limits.{limit};
 ghost use Rattle.key_text.specs.Text.{digitOf, decimalOf, hexadecimalOf, syllableText, keyText};
 ghost use Rattle.key_text.specs.Text.{decimalLimit, syllableTextSize, keyTextLimit};
-ghost use Rattle.key_text.specs.Put.{Put};
+ghost use Rattle.memory.specs.Put.{Put};
 
 // The most digits of a number in decimal.
 pub const DECIMAL_LIMIT: usize = 20;

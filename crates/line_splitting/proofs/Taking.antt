@@ -10,11 +10,11 @@ use lib.ListN.{length, take, drop, length-append, length-take, length-drop, take
 use lib.Seq.{sets-eq, slice, slice-empty, take-all, take-take, take-add, length-take-le, drop-at, drop-drop, drop-append-le, drop-length}
 use borrow.Rule.Slice.PartMut.{midOf, putMid, post-is}
 use Rattle.collation.specs.declared.key.Key.{Key}
-use Rattle.key_text.specs.Put.{Put, Written}
+use Rattle.memory.specs.Put.{Put, Written}
 use Rattle.printing.specs.Output.{LineRight, LinePut, printed, printedLimit}
 use Rattle.line_splitting.specs.Taken.{heldLimit, Held, Holds, EndFound, Prints, none, more, Ready, Printed, Taken}
 use Rattle.line_splitting.specs.declared.Progress.{Progress}
-use Rattle.key_text.proofs.Putting.{put-nothing, put-after}
+use Rattle.memory.proofs.Putting.{put-nothing, put-after}
 use Rattle.line_splitting.proofs.Cutting.{joined, cut-append, still, cut-none, plain-ends}
 use Rattle.printing.proofs.Answers.{line-kept}
 

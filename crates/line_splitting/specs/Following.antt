@@ -5,7 +5,7 @@ use mathlib.Core.List.{List, [], _++_}
 use Prim.Native.Nat.{ℕ, _+_, _≤_, _<_}
 use lib.ListN.{length}
 use lib.Seq.{slice}
-use Rattle.key_text.specs.Put.{Put}
+use Rattle.memory.specs.Put.{Put}
 use Rattle.line_splitting.specs.Lines.{cutFrom}
 use Rattle.line_splitting.specs.Taken.{heldLimit, Held, Prints}
 use Rattle.line_splitting.specs.declared.Progress.{Progress}

@@ -7,7 +7,7 @@ use lib.ListN.{length, take, getD}
 use lib.Seq.{slice}
 use Rattle.formula.specs.Limits.{lineLimit}
 use Rattle.collation.specs.declared.key.Key.{Key}
-use Rattle.key_text.specs.Put.{Put}
+use Rattle.memory.specs.Put.{Put}
 use Rattle.printing.specs.Output.{LineRight, printed, printedLimit}
 use Rattle.line_splitting.specs.Lines.{Cut, cutFrom}
 use Rattle.line_splitting.specs.declared.Progress.{Progress}

@@ -7,8 +7,8 @@ use native.Mathlib.Nat.{zero-add}
 use native.Mathlib.Omega.{arith}
 use lib.ListN.{length, take, drop, length-append}
 use lib.Seq.{sets-eq}
-use Rattle.key_text.specs.Put.{Put, Written}
-use Rattle.key_text.proofs.Putting.{put-nothing}
+use Rattle.memory.specs.Put.{Put, Written}
+use Rattle.memory.proofs.Putting.{put-nothing}
 use Rattle.printing.specs.Output.{LinePut, printed}
 use Rattle.line_splitting.specs.Lines.{cutFrom, lastLine}
 use Rattle.line_splitting.specs.Taken.{Held, none}

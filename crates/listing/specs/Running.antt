@@ -10,7 +10,7 @@ use lib.IntN.{ℤ, pos, negsuc}
 use Rattle.letters.specs.Choice.{pick}
 use Rattle.io.specs.Counts.{clamped}
 use Rattle.libc.specs.Io.{Moved}
-use Rattle.key_text.specs.Put.{Put}
+use Rattle.memory.specs.Put.{Put}
 use Rattle.printing.specs.Output.{printedLimit}
 use Rattle.line_splitting.specs.Lines.{linesOf}
 use Rattle.line_splitting.specs.Taken.{heldLimit, Prints}

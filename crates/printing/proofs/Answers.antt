@@ -22,9 +22,9 @@ use Rattle.lines.specs.declared.Decoded.{Decoded}
 use Rattle.collation.specs.Keyed.{KeyRight}
 use Rattle.collation.specs.declared.key.Key.{Key}
 use Rattle.key_text.specs.Text.{decimalOf}
-use Rattle.key_text.specs.Put.{Put, PutWithin, Written}
+use Rattle.memory.specs.Put.{Put, PutWithin, Written}
 use Rattle.printing.specs.Output.{answerText, printed, answerTextLimit, printedLimit, Printable, KeyOfLine, of-values, line-refused, LineRight}
-use Rattle.key_text.proofs.Putting.{put-after, put-front}
+use Rattle.memory.proofs.Putting.{put-after, put-front}
 use Rattle.key_text.proofs.Decimal.{decimal-short}
 
 -- the bytes behind the number of a refused line

@@ -15,7 +15,7 @@ use Rattle.refusals.specs.declared.Counted.the-variants.{Count, Refused}
 use Rattle.collation.specs.Keyed.{KeyRight}
 use Rattle.collation.specs.declared.key.Key.{Key}
 use Rattle.key_text.specs.Text.{decimalOf, keyText, decimalLimit, keyTextLimit}
-use Rattle.key_text.specs.Put.{Written}
+use Rattle.memory.specs.Put.{Written}
 
 -- the refusal of an answer; one that is none is never asked for it
 abbrev pub refusalIn : Counted → Refusal

@@ -16,7 +16,7 @@ ghost use lib.ListN.{length};
 ghost use Rattle.formula.specs.Limits.{limit};
 ghost use Rattle.printing.specs.Output.{refusalIn, acceptedText, refusedText, Printable, printed};
 ghost use Rattle.printing.specs.Output.{answerTextLimit, printedLimit, LineRight, LinePut};
-ghost use Rattle.key_text.specs.Put.{PutWithin, Written};
+ghost use Rattle.memory.specs.Put.{PutWithin, Written};
 
 // The most bytes behind the number of a line: OK with a space, a number with a space, and a key.
 const ANSWER_TEXT_LIMIT: usize = 3 + DECIMAL_LIMIT + 1 + KEY_TEXT_LIMIT;

@@ -2,7 +2,7 @@
 -- Assumes nothing.
 use mathlib.Core.Path.{_∙_}
 use native.Mathlib.Omega.{arith}
-use Rattle.key_text.proofs.Putting.{put-after}
+use Rattle.memory.proofs.Putting.{put-after}
 use Rattle.key_text.proofs.Decimal.{decimal-one, decimal-more, decimal-shorter}
 use Prim.Native.Nat.{ℕ, _<_}
 use borrow.Fn.Kinds.{In}

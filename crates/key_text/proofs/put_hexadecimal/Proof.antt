@@ -1,7 +1,7 @@
 -- `key_text::put_hexadecimal` meets its contract: its two digits are written one behind the other.
 -- Assumes nothing.
 use borrow.Author.Needs.{needs}
-use Rattle.key_text.proofs.Putting.{put-after}
+use Rattle.memory.proofs.Putting.{put-after}
 use Rattle.key_text.proofs.put_hexadecimal.Statement.{statement}
 use Rattle.key_text.proofs.put_hexadecimal.Tie as tie
 

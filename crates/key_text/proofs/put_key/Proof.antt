@@ -3,7 +3,7 @@
 use Prim.Native.Nat.{_-_}
 use native.Mathlib.Omega.{arith}
 use denote.Ref.{now}
-use Rattle.key_text.proofs.Putting.{put-length}
+use Rattle.memory.proofs.Putting.{put-length}
 use Rattle.key_text.proofs.Keys.{Further, syllable-length, further-none, further-more, further-last, further-room, key-whole}
 use Rattle.key_text.proofs.put_key.Statement.{statement}
 use Rattle.key_text.proofs.put_key.Tie as tie

@@ -7,9 +7,9 @@ use native.Mathlib.Numerals.{add-one}
 use denote.Ref.{now}
 use Rattle.formula.specs.Limits.{weightCount}
 use Rattle.weighing.specs.Keys.{usedBytes}
-use Rattle.key_text.specs.Put.{Put}
+use Rattle.memory.specs.Put.{Put}
 use Rattle.key_text.specs.Text.{hexadecimalsOf, syllableText}
-use Rattle.key_text.proofs.Putting.{put-nothing, put-after, put-length}
+use Rattle.memory.proofs.Putting.{put-nothing, put-after, put-length}
 use Rattle.key_text.proofs.Keys.{hexadecimals-length}
 use Rattle.key_text.proofs.put_syllable.Statement.{statement}
 use Rattle.key_text.proofs.put_syllable.Tie as tie

@@ -4,7 +4,7 @@ use native.Mathlib.Omega.{arith}
 use denote.Ref.{now}
 use lib.ListN.{length-append}
 use Rattle.printing.specs.Output.{acceptedText}
-use Rattle.key_text.proofs.Putting.{put-after}
+use Rattle.memory.proofs.Putting.{put-after}
 use Rattle.key_text.proofs.Decimal.{decimal-short}
 use Rattle.key_text.proofs.Keys.{key-short}
 use borrow.Author.Needs.{needs}

@@ -4,7 +4,7 @@ use Prim.Native.Nat.{_≤_}
 use native.Mathlib.Omega.{arith}
 use lib.ListN.{length}
 use Rattle.key_text.specs.Text.{decimalOf, decimalLimit}
-use Rattle.key_text.proofs.Putting.{put-after}
+use Rattle.memory.proofs.Putting.{put-after}
 use Rattle.key_text.proofs.Decimal.{decimal-short}
 use Rattle.printing.specs.Output.{refusedText}
 use Rattle.printing.proofs.Answers.{refused-short}

@@ -1,4 +1,4 @@
--- Bytes written behind bytes are one text: each store keeps what lies before it.
+-- What is written behind what was written is one list: each store keeps what lies before it.
 -- Assumes nothing.
 use mathlib.Core.Path.{_≡_, refl, ap, sym, _∙_}
 use mathlib.Core.List.{List, [], _++_}
@@ -7,8 +7,8 @@ use native.Mathlib.Nat.{zero-add}
 use native.Mathlib.Omega.{arith}
 use lib.ListN.{length, drop, length-append}
 use lib.Seq.{sets, length-sets}
 use Rattle.memory.proofs.Stores.{sets-append, sets-front}
-use Rattle.key_text.specs.Put.{Put, Written}
+use Rattle.memory.specs.Put.{Put, Written}
 
 pub put-nothing : (before : List ℕ) (at : ℕ) → Put before at [] before at
 put-nothing before at = record { written = refl; next = omega arith }
