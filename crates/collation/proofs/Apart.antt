@@ -12,6 +12,7 @@ use Rattle.letters.specs.Weights.{headWeight}
 use Rattle.formula.specs.Syllable.{syllable}
 use Rattle.formula.specs.Row.{Row, Gives, join}
 use Rattle.formula.specs.Weighing.{weightsOf}
+use Rattle.refusals.specs.declared.Paired.{Paired}
 use Rattle.recogniser.specs.Answer.{Readable}
 use Rattle.storage.specs.Stored.{storedForm}
 use Rattle.storage.proofs.Rows.{gives-stored}
@@ -23,9 +24,8 @@ use Rattle.weighing.proofs.order.Order.{the-type}
 use Rattle.weighing.proofs.Lexicographic.{less-not-equal, greater-not-equal}
 use Rattle.weighing.proofs.OrderOfNumbers.{Stand, below, level, above, stand, equal-numbers}
 use Rattle.weighing.proofs.Passing.{decided}
-use Rattle.collation.specs.Comparison.{Ordered, compareOutcomeOf, CompareAnswers, CompareRight, comparedAs, firstHead, HeadsTell}
-use Rattle.collation.specs.declared.compare.Compared.{Compared}
-use Rattle.collation.proofs.Comparing.{outcome-of-order}
+use Rattle.collation.specs.Comparison.{Ordered, CompareRight, comparedAs, firstHead, HeadsTell}
+use Rattle.collation.proofs.Comparing.{order-told}
 use Rattle.collation.proofs.Laws.{ordered-by}
 
 pub no-head : (word : List ℕ) → length word ≡ 0 → firstHead word ≡ 0
@@ -88,9 +88,9 @@ heads-tell one other r s o t e = go o t told
     go Greater u x = x
 
 -- and what they tell is the answer
-pub heads-answer : (one other : List ℕ) (o : Order) → HeadsTell one other o → OneOf (0 ∷ 2 ∷ []) (tagOf the-type o) → (answer : Compared)
+pub heads-answer : (one other : List ℕ) (o : Order) → HeadsTell one other o → OneOf (0 ∷ 2 ∷ []) (tagOf the-type o) → (answer : Paired)
     → answer ≡ comparedAs o → CompareRight one other answer
-heads-answer one other o h t answer a = subst (CompareAnswers one other) (sym (ap compareOutcomeOf a ∙ outcome-of-order o)) (go o h t)
+heads-answer one other o h t = order-told one other o (go o h t)
   where
     go : (p : Order) → HeadsTell one other p → OneOf (0 ∷ 2 ∷ []) (tagOf the-type p) → Ordered one other p
     go Less x u = x

@@ -3,7 +3,7 @@ use crate::heads::order_heads;
 use crate::weigh::weigh;
 use formula::Word;
 use refusals::Counted;
-use refusals::Refusal;
+use refusals::Paired;
 use weighing::order::Order;
 use weighing::order::order_bytes;
 use weighing::order::order_values;
@@ -15,22 +15,14 @@ ghost use Rattle.storage.specs.Stored.{storedForm};
 ghost use Rattle.weighing.specs.Order.{orderValues};
 ghost use Rattle.collation.specs.Comparison.{CompareRight, comparedAs};
 
-// How the first word stands to the second, or which of them is refused and why.
-pub enum Compared {
-    Less,
-    Equal,
-    Greater,
-    FirstRefused(Refusal),
-    SecondRefused(Refusal),
-}
-
-fn answer_of(order: Order) -> Compared
+// What is told of two words that are in this order.
+fn answer_of(order: Order) -> Paired
     ensures { λ r. ⌜ r ≡ comparedAs order ⌝ }
 {
     match order {
-        Order::Less => Compared::Less,
-        Order::Equal => Compared::Equal,
-        Order::Greater => Compared::Greater,
+        Order::Less => Paired::Told(0),
+        Order::Equal => Paired::Told(1),
+        Order::Greater => Paired::Told(2),
     }
 }
 
@@ -49,19 +41,19 @@ fn order_forms(first: &[u16], second: &[u16]) -> Order
 }
 
 // Compares two words by their weights, whatever their first heads are.
-fn compare_keys(first: &[u16], second: &[u16]) -> Compared
+fn compare_keys(first: &[u16], second: &[u16]) -> Paired
     ensures { λ r. ⌜ CompareRight (now (first .entry)) (now (second .entry)) r ⌝ }
 {
     let mut one = [0; Word::KEY];
     let one_answer = weigh(first, &mut one);
     let one_count = match one_answer {
-        Counted::Refused(refusal) => return Compared::FirstRefused(refusal),
+        Counted::Refused(refusal) => return Paired::FirstRefused(refusal),
         Counted::Count(count) => count,
     };
     let mut other = [0; Word::KEY];
     let other_answer = weigh(second, &mut other);
     let other_count = match other_answer {
-        Counted::Refused(refusal) => return Compared::SecondRefused(refusal),
+        Counted::Refused(refusal) => return Paired::SecondRefused(refusal),
         Counted::Count(count) => count,
     };
     let one_end = Word::WEIGHTS * one_count;
@@ -73,8 +65,9 @@ fn compare_keys(first: &[u16], second: &[u16]) -> Compared
     answer_of(order_forms(first, second))
 }
 
-// Compares two words of any values and any length.
-pub fn compare(first: &[u16], second: &[u16]) -> Compared
+// How the first word stands to the second, 0 for before, 1 for equal and 2 for behind, or which of them is refused and why; of words of any values and any
+// length.
+pub fn compare(first: &[u16], second: &[u16]) -> Paired
     ensures { λ r. ⌜ CompareRight (now (first .entry)) (now (second .entry)) r ⌝ }
 {
     let order = order_heads(first, second);

@@ -10,6 +10,10 @@ limit = 64
 abbrev pub lineLimit : ℕ
 lineLimit = 3 * limit
 
+-- Document 02, E6: a label "has at most ten syllables"
+abbrev pub labelLimit : ℕ
+labelLimit = 10
+
 -- Document 02, E5: "A record gains a second final weight after the first, eight bytes in all"
 abbrev pub recordSize : ℕ
 recordSize = 8

@@ -17,6 +17,9 @@ impl Word {
     // The most bytes of a line, three for each value.
     pub const LINE_LIMIT: usize = 3 * Word::LIMIT;
 
+    // The most syllables of a label.
+    pub const LABEL_LIMIT: usize = 10;
+
     // The bytes of a syllable's record.
     pub const RECORD: usize = 8;
 

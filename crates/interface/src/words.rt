@@ -8,7 +8,7 @@ ghost use Rattle.collation.specs.Comparison.{CompareAnswers};
 ghost use Rattle.writing.specs.Write.{WriteRight};
 ghost use Rattle.spelling.specs.Spell.{lists, SpellRight};
 ghost use Rattle.packing.specs.Packing.{Packed};
-ghost use Rattle.packing.specs.Answers.{outcomeNumbers, compareNumbers};
+ghost use Rattle.packing.specs.Answers.{outcomeNumbers, pairNumbers};
 ghost use Rattle.outputs.specs.Outputs.{RecordWritten, KeyWritten, DecodeWritten};
 
 // How many syllables a word has.
@@ -89,9 +89,9 @@ pub extern "C" fn jogcairn_key(word: &[u16], key: &mut [u8]) -> u64
 // How the first word stands to the second.
 #[no_mangle]
 pub extern "C" fn jogcairn_compare(first: &[u16], second: &[u16]) -> u64
-    ensures { λ r. ⌜ Packed (CompareAnswers (now (first .entry)) (now (second .entry))) compareNumbers r ⌝ }
+    ensures { λ r. ⌜ Packed (CompareAnswers (now (first .entry)) (now (second .entry))) pairNumbers r ⌝ }
 {
-    packing::of_comparison(collation::compare::compare(first, second))
+    packing::of_pair(collation::compare::compare(first, second))
 }
 
 // Writes the values of a line of UTF-8 bytes.

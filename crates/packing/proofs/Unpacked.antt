@@ -22,7 +22,7 @@ use Rattle.wordbook.specs.Calls.{AddPromise, RemovePromise}
 use Rattle.wordbook.specs.Prefix.{PrefixPromise}
 use Rattle.outputs.specs.Outputs.{RecordWritten, KeyWritten, DecodeWritten}
 use Rattle.packing.specs.Packing.{pack, unpack, Packed}
-use Rattle.packing.specs.Answers.{outcomeNumbers, compareNumbers, FindAnswers}
+use Rattle.packing.specs.Answers.{outcomeNumbers, pairNumbers, FindAnswers}
 use Rattle.packing.proofs.Laws.{unpack-pack, packed-unpacked}
 use Rattle.packing.proofs.WordFits.{read-fits, part-fits, normalise-fits, form-fits, typed-fits, write-fits, spell-fits, compare-fits}
 use Rattle.packing.proofs.BookFits.{check-fits, rank-fits, order-fits, prefix-fits, record-word-fits, find-fits, add-fits, tidy-fits, remove-fits}
@@ -54,8 +54,8 @@ module _ (word : List ℕ) (n : ℕ) where
   pub key-unpacked : (before after : List ℕ) (p : Packed (KeyWritten word before after) outcomeNumbers n) → unpack n ≡ outcomeNumbers (p .outcome)
   key-unpacked before after p = packed-unpacked (KeyWritten word before after) outcomeNumbers (key-fits word before after) n p
 
-  pub compare-unpacked : (other : List ℕ) (p : Packed (CompareAnswers word other) compareNumbers n) → unpack n ≡ compareNumbers (p .outcome)
-  compare-unpacked other p = packed-unpacked (CompareAnswers word other) compareNumbers (compare-fits word other) n p
+  pub compare-unpacked : (other : List ℕ) (p : Packed (CompareAnswers word other) pairNumbers n) → unpack n ≡ pairNumbers (p .outcome)
+  compare-unpacked other p = packed-unpacked (CompareAnswers word other) pairNumbers (compare-fits word other) n p
 
 module _ (bytes before after : List ℕ) (n : ℕ) where
   pub write-unpacked : (p : Packed (WriteRight bytes before after) outcomeNumbers n) → unpack n ≡ outcomeNumbers (p .outcome)

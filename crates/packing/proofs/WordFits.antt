@@ -9,6 +9,7 @@ use Rattle.formula.specs.Limits.{limit}
 use Rattle.formula.specs.Row.{Row}
 use Rattle.formula.specs.Spelled.{spelled}
 use Rattle.refusals.specs.Outcome.{Outcome, accepts, accepts-both, absent, refuses}
+use Rattle.refusals.specs.Pair.{PairOutcome, tells, first-refuses, second-refuses, PairAnswers}
 use Rattle.refusals.specs.Output.{Writes, refused, put, too-short}
 use Rattle.rows.proofs.Viable.{only-row}
 use Rattle.recogniser.specs.Answer as reading
@@ -24,14 +25,15 @@ use Rattle.normaliser.specs.Typed.{TypedAnswers}
 use Rattle.writing.specs.Write as writing
 use Rattle.spelling.specs.Spell as spelling
 use Rattle.spelling.proofs.Longest.{spelled-within}
+use Rattle.weighing.specs.declared.order.Order.{Order}
 use Rattle.weighing.specs.declared.order.Order.the-variants.{Less, Equal, Greater}
-use Rattle.collation.specs.Comparison.{CompareOutcome, ordered, first-refuses, second-refuses, CompareAnswers}
+use Rattle.collation.specs.Comparison.{orderNumber, Compares, CompareAnswers}
 use Rattle.packing.specs.Packing.{answer, Fits}
-use Rattle.packing.specs.Answers.{outcomeNumbers, compareNumbers}
+use Rattle.packing.specs.Answers.{outcomeNumbers, pairNumbers}
 
--- a refusal of a word: its number is one of document 01's, and its place at most the limit
+-- a refusal of a word: its number is one of the documents', and its place at most the limit
 pub record Small (number place : ℕ) : Type 0 where
-  pub few : number ≤ 15
+  pub few : number ≤ 23
   pub near : place ≤ limit
 
 pub refused-small : (word : List ℕ) (number place : ℕ) → reading.RefusedWith word number place → Small number place
@@ -135,10 +137,19 @@ spell-fits word before after o (spelling.values-too-short r h e) =
 spell-fits word before after o (spelling.starts-too-short r h i e) =
     record { tag = omega arith; second = omega arith; first = omega (arith, spelled-count word _ r) }
 
-pub compare-fits : (one other : List ℕ) (o : CompareOutcome) → CompareAnswers one other o → Fits (compareNumbers o)
-compare-fits one other (ordered Less) r = record { tag = omega arith; second = omega arith; first = omega arith }
-compare-fits one other (ordered Equal) r = record { tag = omega arith; second = omega arith; first = omega arith }
-compare-fits one other (ordered Greater) r = record { tag = omega arith; second = omega arith; first = omega arith }
-compare-fits one other (first-refuses number place) r = small-fits number 1 place (omega arith) (store-refused-small one number place r)
-compare-fits one other (second-refuses number place) r =
-    small-fits number 2 place (omega arith) (store-refused-small other number place (r .second-refused))
+-- the numbers of a call on two words, where each of its refusals is of a word, and what is told is short
+module _ (Passes : List ℕ → ℕ → Type 0) (Refuses : List ℕ → ℕ → ℕ → Type 0) (Tells : List ℕ → List ℕ → ℕ → Type 0)
+    (small : (word : List ℕ) (number place : ℕ) → Refuses word number place → Small number place)
+    (few : (first second : List ℕ) (n : ℕ) → Tells first second n → n < 0x100000000) (first second : List ℕ) where
+  pub pair-fits : (o : PairOutcome) → PairAnswers Passes Refuses Tells first second o → Fits (pairNumbers o)
+  pair-fits (tells n) t = record { tag = omega arith; second = omega arith; first = few first second n t }
+  pair-fits (first-refuses number place) r = small-fits number 1 place (omega arith) (small first number place r)
+  pair-fits (second-refuses number place) r = small-fits number 2 place (omega arith) (small second number place (r .second-refused))
+
+order-few : (o : Order) → orderNumber o < 0x100000000
+order-few Less = omega arith
+order-few Equal = omega arith
+order-few Greater = omega arith
+
+pub compare-fits : (one other : List ℕ) (o : PairOutcome) → CompareAnswers one other o → Fits (pairNumbers o)
+compare-fits = pair-fits normal.Stores normal.StoreRefusedWith Compares store-refused-small (λ first second n t. omega (arith, t .numbered, order-few (t .is)))

@@ -3,9 +3,7 @@
 use mathlib.Core.List.{List}
 use Prim.Native.Nat.{ℕ}
 use Rattle.refusals.specs.Outcome.{Outcome, accepts, accepts-both, absent, refuses}
-use Rattle.weighing.specs.declared.order.Order.{Order}
-use Rattle.weighing.specs.declared.order.Order.the-variants.{Less, Equal, Greater}
-use Rattle.collation.specs.Comparison.{CompareOutcome, ordered, first-refuses, second-refuses}
+use Rattle.refusals.specs.Pair.{PairOutcome, tells, first-refuses, second-refuses}
 use Rattle.storage.specs.Stored.{storedForm}
 use Rattle.entries.specs.Entries.{entries}
 use Rattle.entries.specs.Outcome.{findOf}
@@ -19,16 +17,11 @@ outcomeNumbers (accepts-both first second) = answer 0 second first
 outcomeNumbers absent = answer 128 0 0
 outcomeNumbers (refuses number place) = answer number 0 place
 
-abbrev pub orderNumber : Order → ℕ
-orderNumber Less = 0
-orderNumber Equal = 1
-orderNumber Greater = 2
-
--- the order, or "of two words, the first is tested whole, and the answer says which": 1 or 2
-abbrev pub compareNumbers : CompareOutcome → Answer
-compareNumbers (ordered order) = outcomeNumbers (accepts (orderNumber order))
-compareNumbers (first-refuses number place) = answer number 1 place
-compareNumbers (second-refuses number place) = answer number 2 place
+-- what is told of two words, or "of two words, the first is tested whole, and the answer says which": 1 or 2
+abbrev pub pairNumbers : PairOutcome → Answer
+pairNumbers (tells first) = answer 0 0 first
+pairNumbers (first-refuses number place) = answer number 1 place
+pairNumbers (second-refuses number place) = answer number 2 place
 
 -- what find answers to a word as it is handed in
 abbrev pub FindAnswers : List ℕ → List ℕ → Outcome → Type 0

@@ -1,14 +1,14 @@
 // Answers as one number of 64 bits each, for callers in other languages.
-use collation::compare::Compared;
 use refusals::Counted;
+use refusals::Paired;
 use refusals::Refusal;
 use refusals::Reply;
 ghost use mathlib.Core.Path.{_≡_};
 ghost use Rattle.refusals.specs.Refusal.{numberOf, placeOf};
 ghost use Rattle.refusals.specs.Outcome.{outcomeOf, replyOutcome};
-ghost use Rattle.collation.specs.Comparison.{compareOutcomeOf};
+ghost use Rattle.refusals.specs.Pair.{pairOutcomeOf};
 ghost use Rattle.packing.specs.Packing.{answer, pack};
-ghost use Rattle.packing.specs.Answers.{outcomeNumbers, compareNumbers};
+ghost use Rattle.packing.specs.Answers.{outcomeNumbers, pairNumbers};
 
 // The number of a tag, a second number and a first; each is cut to its 8, 24 or 32 bits.
 fn packed(tag: u64, second: u64, first: u64) -> u64
@@ -46,15 +46,13 @@ pub fn of_reply(answer: Reply) -> u64
     }
 }
 
-// The order: 0, 1 or 2; or the refusal, with the word that it is of.
-pub fn of_comparison(answer: Compared) -> u64
-    ensures { λ r. ⌜ r ≡ pack (compareNumbers (compareOutcomeOf answer)) ⌝ }
+// What is told of two words, or the refusal, with the word that it is of.
+pub fn of_pair(answer: Paired) -> u64
+    ensures { λ r. ⌜ r ≡ pack (pairNumbers (pairOutcomeOf answer)) ⌝ }
 {
     match answer {
-        Compared::Less => packed(0, 0, 0),
-        Compared::Equal => packed(0, 0, 1),
-        Compared::Greater => packed(0, 0, 2),
-        Compared::FirstRefused(refusal) => refused(refusal, 1),
-        Compared::SecondRefused(refusal) => refused(refusal, 2),
+        Paired::Told(first) => packed(0, 0, first as u64),
+        Paired::FirstRefused(refusal) => refused(refusal, 1),
+        Paired::SecondRefused(refusal) => refused(refusal, 2),
     }
 }

@@ -3,3 +3,4 @@ pub mod Same
 pub mod Putting
 pub mod Determined
 pub mod Accepted
+pub mod Pairs

@@ -1,9 +1,9 @@
--- Document 01, "Refused because of what is handed in" and "Refused because of what the book holds", with what document 02 changes: the number and the
--- place of each refusal. Assumes nothing.
+-- Document 01, "Refused because of what is handed in" and "Refused because of what the book holds", with what document 02 changes and adds: the number
+-- and the place of each refusal. Assumes nothing.
 use Prim.Native.Nat.{ℕ}
-use Rattle.formula.specs.Limits.{limit}
+use Rattle.formula.specs.Limits.{limit, labelLimit}
 use Rattle.refusals.specs.declared.Refusal.{Refusal}
-use Rattle.refusals.specs.declared.Refusal.the-variants.{TooLong, Foreign, NoContinuation, Unfinished, OutputTooShort, NoSuchRow, FaultyLine, EmptyWord, NotABook, AlreadyLive, NotLive, BookFull, RankTooHigh}
+use Rattle.refusals.specs.declared.Refusal.the-variants.{TooLong, Foreign, NoContinuation, Unfinished, OutputTooShort, NoSuchRow, FaultyLine, EmptyWord, NotABook, AlreadyLive, NotLive, BookFull, RankTooHigh, StopOrSign, ConfusableDigit, TooManySyllables}
 
 -- the column "no." of the two tables; each line quotes the column "when"
 abbrev pub numberOf : Refusal → ℕ
@@ -33,6 +33,12 @@ numberOf NotLive = 13
 numberOf (BookFull p) = 14
 -- "rank not below the live count"
 numberOf (RankTooHigh p) = 15
+-- 02: "the first stop or sign" of what is to be a label
+numberOf (StopOrSign p) = 21
+-- 02: "the first such digit", a 1040 or 1047 "next to a value that isn't a digit"
+numberOf (ConfusableDigit p) = 22
+-- 02: "too many syllables"
+numberOf TooManySyllables = 23
 
 -- the column "place" of the two tables, quoted at each line
 abbrev pub placeOf : Refusal → ℕ
@@ -62,3 +68,8 @@ placeOf NotLive = 0
 placeOf (BookFull p) = p
 -- "live count"
 placeOf (RankTooHigh p) = p
+-- 02: "its place in the normalised word"
+placeOf (StopOrSign p) = p
+placeOf (ConfusableDigit p) = p
+-- 02: "10, the limit"
+placeOf TooManySyllables = labelLimit

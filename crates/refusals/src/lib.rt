@@ -1,4 +1,4 @@
-// What a call answers: numbers that it tells, or one of document 01's refusals, each with its number and its place.
+// What a call answers: numbers that it tells, or one of the refusals of documents 01 and 02, each with its number and its place.
 use formula::Word;
 ghost use mathlib.Core.Path.{_≡_};
 ghost use Rattle.refusals.specs.Refusal.{numberOf, placeOf};
@@ -18,10 +18,13 @@ pub enum Refusal {
     NotLive,
     BookFull(usize),
     RankTooHigh(usize),
+    StopOrSign(usize),
+    ConfusableDigit(usize),
+    TooManySyllables,
 }
 
 impl Refusal {
-    // The number that document 01 gives the refusal.
+    // The number that the documents give the refusal.
     pub fn number(self) -> u8
         ensures { λ r. ⌜ r ≡ numberOf self ⌝ }
     {
@@ -39,6 +42,9 @@ impl Refusal {
             Refusal::NotLive => 13,
             Refusal::BookFull(_) => 14,
             Refusal::RankTooHigh(_) => 15,
+            Refusal::StopOrSign(_) => 21,
+            Refusal::ConfusableDigit(_) => 22,
+            Refusal::TooManySyllables => 23,
         }
     }
 
@@ -60,6 +66,9 @@ impl Refusal {
             Refusal::NotLive => 0,
             Refusal::BookFull(place) => place,
             Refusal::RankTooHigh(place) => place,
+            Refusal::StopOrSign(place) => place,
+            Refusal::ConfusableDigit(place) => place,
+            Refusal::TooManySyllables => Word::LABEL_LIMIT,
         }
     }
 }
@@ -76,4 +85,11 @@ pub enum Reply {
     Two(usize, usize),
     Nothing,
     Refused(Refusal),
+}
+
+// What a call on two words answers: a number that it tells of both, or which of them is refused and why.
+pub enum Paired {
+    Told(usize),
+    FirstRefused(Refusal),
+    SecondRefused(Refusal),
 }

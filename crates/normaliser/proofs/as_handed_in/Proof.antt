@@ -2,10 +2,11 @@
 -- Assumes nothing.
 use mathlib.Core.Path.{_≡_, refl, ap}
 use mathlib.Core.Bool.{false, false≢true}
-use mathlib.Core.List.{[], _∷_}
+use mathlib.Core.List.{_∷_}
 use Prim.Native.Nat.{ℕ}
 use lib.Dec.{eqb}
 use borrow.Author.Needs.{needs}
+use Rattle.letters.specs.Counting.{upFrom}
 use Rattle.letters.proofs.Arms.{same-at}
 use Rattle.refusals.specs.Refusal.{numberOf, placeOf}
 use Rattle.refusals.specs.declared.Refusal.{Refusal}
@@ -32,7 +33,7 @@ returns c =
 returns-2 : tie.Need-returns-2
 returns-2 c =
     let r = c .before .before .args .refusal in
-    let other = same-at (λ (tag : ℕ). eqb tag 1) false (0 ∷ 2 ∷ 3 ∷ 4 ∷ 5 ∷ 6 ∷ 7 ∷ 8 ∷ 9 ∷ 10 ∷ 11 ∷ 12 ∷ []) refl _ (c .match .keys2) in
+    let other = same-at (λ (tag : ℕ). eqb tag 1) false (0 ∷ upFrom 2 14) refl _ (c .match .keys2) in
     record { same = λ _. refl; first = λ (e : numberOf r ≡ 2). absurd (false≢true (rw (is-foreign r e) at other)) }
 
 pub as-handed-in-spec : {M : Type 1} → statement M

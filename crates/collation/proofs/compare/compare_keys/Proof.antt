@@ -65,7 +65,7 @@ returns-2 c =
     let k = b .before .before .before in
     record {
       first-count = one k .count;
-      first-stores = weighed-stores (one k);
+      first-passes = weighed-stores (one k);
       second-refused =
           weighed-refused (k .before .before .before .before .before .before .args .second .now) (b .weigh2 .result) _ (b .weigh2 .ensures)
           (c .before .other-answer .given .0 .0) (c .before .other-answer .given .1);
