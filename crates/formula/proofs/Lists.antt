@@ -1,14 +1,15 @@
 -- What a test over a whole list says of each element, that lists which pass the test of being the same are equal, and that one which passes the test
--- of beginning with another is that one and a rest.
+-- of beginning with another is that one and a rest; and what stands at a place of a list.
 -- Assumes nothing.
 use mathlib.Core.Path.{_≡_, refl, sym, ap, subst, _∙_}
 use mathlib.Core.Bool.{Bool, true, false, _&&_}
 use mathlib.Core.List.{List, [], _∷_, _++_}
-use Prim.Native.Nat.{ℕ, zero, suc, _<_}
+use mathlib.Core.Option.{none, some}
+use Prim.Native.Nat.{ℕ, zero, suc, _≤_, _<_}
 use native.Mathlib.Nat.{le-of-suc-le-suc, not-suc-le-zero}
 use native.Mathlib.Omega.{arith}
 use lib.Dec.{T, eqb, eqb→eq, eqb-refl}
-use lib.ListN.{length, getD, drop}
+use lib.ListN.{length, getD, getElem?, drop}
 pub use Rattle.letters.proofs.Tests.{both, both-left, both-right}
 pub use Rattle.formula.specs.Lists.{every, filtered, sameBy, isPrefixBy, sameList, sameLists, isPrefix, isPrefixOfLists}
 
@@ -93,3 +94,14 @@ sameList-refl (x ∷ xs) = both (eqb x x) (sameList xs xs) (eqb-refl x) (sameLis
 
 pub sameLists-equal : (xs ys : List (List ℕ)) → T (sameLists xs ys) → xs ≡ ys
 sameLists-equal = sameBy-equal sameList sameList-equal
+
+-- an element, where the list has so many, and none past its end
+pub element-there : {A : Type 0} (l : List A) (n : ℕ) (d : A) → n < length l → getElem? l n ≡ some (getD l n d)
+element-there [] n d h = absurd (not-suc-le-zero h)
+element-there (x ∷ l) zero d h = refl
+element-there (x ∷ l) (suc n) d h = element-there l n d (le-of-suc-le-suc h)
+
+pub no-element : {A : Type 0} (l : List A) (n : ℕ) → length l ≤ n → getElem? l n ≡ none
+no-element [] n h = refl
+no-element (x ∷ l) zero h = absurd (not-suc-le-zero h)
+no-element (x ∷ l) (suc n) h = no-element l n (le-of-suc-le-suc h)

@@ -10,6 +10,7 @@ use lib.ListN.{length, getD, take, getElem?, length-map, List·getD-map}
 use lib.Seq.{getD-take, length-take-le}
 use Rattle.formula.specs.Lists.{filtered}
 use Rattle.formula.proofs.Filtered.{filtered-all}
+use Rattle.formula.proofs.Lists.{no-element}
 use Rattle.entries.specs.Entries.{Entry, entryAt}
 use Rattle.entries.specs.Book.{IsBook}
 use Rattle.entries.specs.Map.{liveCount, liveOnes}
@@ -55,11 +56,6 @@ at-map f [] n h = absurd (not-suc-le-zero h)
 at-map f (x ∷ l) zero h = refl
 at-map f (x ∷ l) (suc n) h = at-map f l n (le-of-suc-le-suc h)
 
-past-end : (l : List Entry) (n : ℕ) → length l ≤ n → getElem? l n ≡ none
-past-end [] n h = refl
-past-end (x ∷ l) zero h = absurd (not-suc-le-zero h)
-past-end (x ∷ l) (suc n) h = past-end l n (le-of-suc-le-suc h)
-
 module _ (bytes : List ℕ) (list : List Entry) (k : IsBook bytes list) (number : ℕ) where
   -- the entry at a number below the live count is read at the start there
   pub entry-there : (starts : List ℕ) (count : ℕ) → count ≡ liveCount list → count ≤ length starts
@@ -72,4 +68,4 @@ module _ (bytes : List ℕ) (list : List Entry) (k : IsBook bytes list) (number 
       ∙ ap (λ (s : ℕ). some (entryAt bytes s)) (getD-take count starts number 0 (omega arith))
 
   pub none-there : liveCount list ≤ number → getElem? (sorted before list) number ≡ none
-  none-there h = past-end (sorted before list) number (omega (arith, sorted-length bytes list k))
+  none-there h = no-element (sorted before list) number (omega (arith, sorted-length bytes list k))

@@ -11,6 +11,7 @@ use native.Mathlib.Nat.{not-suc-le-zero, le-of-suc-le-suc}
 use native.Mathlib.Omega.{arith}
 use lib.Dec.{T}
 use lib.ListN.{length, getD, getElem?}
+use Rattle.formula.proofs.Lists.{element-there}
 use Rattle.letters.specs.Choice.{pick}
 use Rattle.letters.proofs.Tests.{of-true}
 use Rattle.refusals.specs.Outcome.{refuses}
@@ -94,11 +95,6 @@ among-at e [] d m = absurd m
 among-at e (x ∷ l) d (inl p) = (zero, suc-le-suc zero-le, sym p)
 among-at e (x ∷ l) d (inr m) = let a = among-at e l d m in (suc (a .0), suc-le-suc (a .1), a .2)
 
-some-at : (l : List Entry) (r : ℕ) (d : Entry) → r < length l → getElem? l r ≡ some (getD l r d)
-some-at [] r d h = absurd (not-suc-le-zero h)
-some-at (x ∷ l) zero d h = refl
-some-at (x ∷ l) (suc r) d h = some-at l r d (le-of-suc-le-suc h)
-
 behind-at : (x : Entry) (l : List Entry) (s : ℕ) (d : Entry) → AllBehind before x l → s < length l → T (before x (getD l s d))
 behind-at x [] s d a h = absurd (not-suc-le-zero h)
 behind-at x (y ∷ l) zero d a h = a .0
@@ -123,7 +119,7 @@ module _ (bytes : List ℕ) (list : List Entry) (k : IsBook bytes list) where
   found : (r : ℕ) → r < liveCount list → rankOf (entries bytes) r ≡ finds (at r .start) (at r .stock)
   found r h =
       ap (λ (e : Entries). rankOf e r) (complete bytes list k)
-      ∙ ap (λ (o : Option Entry). rankOfEntry o (liveCount list)) (some-at ordered r (entryAt bytes 0) (omega (arith, sorted-length bytes list k)))
+      ∙ ap (λ (o : Option Entry). rankOfEntry o (liveCount list)) (element-there ordered r (entryAt bytes 0) (omega (arith, sorted-length bytes list k)))
 
   -- where a live entry stands in order: behind as many as go before it
   placed : (e : Entry) → Among e list → T (e .live) → (liveBefore before list e < liveCount list) × (at (liveBefore before list e) ≡ e)

@@ -1,0 +1,4 @@
+mod Ranges
+mod Neighbours
+pub mod Sought
+pub mod Laws
