@@ -1,2 +1,4 @@
 pub mod Replacing
 pub mod Filling
+pub mod Laws
+pub mod Longest
