@@ -1,15 +1,12 @@
 -- What the rules answer, test by test: each comes where those before it pass, and each answer tells which of them failed first.
 -- Assumes nothing.
-use mathlib.Core.Path.{_≡_, sym, ap, _∙_}
-use mathlib.Core.Bool.{Bool, true, false}
+use mathlib.Core.Path.{_≡_, sym, _∙_}
 use mathlib.Core.List.{List}
 use Prim.Native.Nat.{ℕ, _≤_, _<_}
-use native.Mathlib.Decide.{decLt, decLe}
+use native.Mathlib.Decide.{decLt}
 use native.Mathlib.Omega.{arith}
 use borrow.Author.Tests.{lt-ltb, le-ltb}
-use lib.Dec.{ltb}
 use lib.ListN.{length}
-use Rattle.letters.specs.Choice.{pick}
 use Rattle.letters.proofs.Tests.{pick-true, pick-false}
 use Rattle.formula.specs.Limits.{labelLimit}
 use Rattle.refusals.specs.Outcome.{Outcome, accepts, refuses}
@@ -55,3 +52,19 @@ module _ (word : List ℕ) (syllables : ℕ) where
       signs : Dec (firstStopOrSign word < length word) → Ruled (labelOf word syllables)
       signs (yes h) = rw (by-sign h) (has-sign h)
       signs (no h) = digits (omega arith) (decLt (firstConfusable word) (length word))
+
+  -- what is accepted meets each rule
+  pub record Meets (n : ℕ) : Type 0 where
+    pub counted : n ≡ syllables
+    pub no-sign : length word ≤ firstStopOrSign word
+    pub no-digit : length word ≤ firstConfusable word
+    pub few : n ≤ labelLimit
+
+  pub accepted-meets : (n : ℕ) → labelOf word syllables ≡ accepts n → Meets n
+  accepted-meets n e = go (labelOf word syllables) e ruled
+    where
+      go : (o : Outcome) → o ≡ accepts n → Ruled o → Meets n
+      go o f (has-sign h) = let z : _≡_ {A = ℕ} 0 1 = cc in let y : ⊥ = omega arith in absurd y
+      go o f (has-digit s h) = let z : _≡_ {A = ℕ} 0 1 = cc in let y : ⊥ = omega arith in absurd y
+      go o f (has-many s d h) = let z : _≡_ {A = ℕ} 0 1 = cc in let y : ⊥ = omega arith in absurd y
+      go o f (meets-all s d h) = let same : syllables ≡ n = cc in record { counted = sym same; no-sign = s; no-digit = d; few = omega arith }

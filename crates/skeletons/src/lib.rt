@@ -8,7 +8,7 @@ ghost use Rattle.skeletons.specs.Skeleton.{replaced, skeletonOf};
 ghost use Rattle.skeletons.specs.Parts.{firstOf, sizeOf};
 
 // The most values of a skeleton.
-pub const SKELETON_LIMIT: usize = Word::LIMIT + Word::LABEL_LIMIT - 1;
+pub const LIMIT: usize = Word::LIMIT + Word::LABEL_LIMIT - 1;
 
 // The one value that is replaced by two, and the second of them.
 const LETTER_O: u16 = 0x1029;

@@ -1,0 +1,4 @@
+pub mod Stored
+pub mod Given
+pub mod Alike
+pub mod Laws

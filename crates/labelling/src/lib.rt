@@ -1,0 +1,119 @@
+// Labels of a web shop: whether a word is one, its skeleton, and whether two labels look alike. Each word is normalised first; a row of syllables is its
+// own stored form.
+use label_rules::answer_by_rules;
+use normaliser::normal_form;
+use recogniser::walk::answer_of;
+use refusals::Counted;
+use refusals::Paired;
+use refusals::Refusal;
+use skeletons::LIMIT;
+use weighing::order::Order;
+use weighing::order::order_values;
+ghost use mathlib.Core.Path.{_≡_};
+ghost use Prim.Native.Nat.{_≤_};
+ghost use lib.Dec.{leb};
+ghost use lib.ListN.{length};
+ghost use Rattle.refusals.specs.Outcome.{outcomeOf};
+ghost use Rattle.refusals.specs.Pair.{pairOutcomeOf};
+ghost use Rattle.recogniser.specs.Answer.{Reads};
+ghost use Rattle.skeletons.specs.Skeleton.{skeletonOf, skeletonLimit};
+ghost use Rattle.labelling.specs.Labelling.{LabelAnswers, SkeletonRight, LookAlikeAnswers, likenessOf};
+ghost use Rattle.labelling.specs.Putting.{FormPut};
+
+// Whether a word is a label: how many syllables it has, or why it is refused.
+pub fn label(word: &[u16]) -> Counted
+    ensures { λ r. ⌜ LabelAnswers (now (word .entry)) (outcomeOf r) ⌝ }
+{
+    let read = answer_of(word);
+    if let Counted::Count(syllables) = read {
+        return answer_by_rules(word, syllables);
+    }
+    let normal = normal_form(word);
+    let answer = normal.answer;
+    match answer {
+        Counted::Refused(refusal) => Counted::Refused(refusal),
+        Counted::Count(syllables) => {
+            let form = normal.word;
+            let count = form.count;
+            let values = form.values;
+            answer_by_rules(&values[..count], syllables)
+        }
+    }
+}
+
+// Whether a list of so many values has room for the skeleton of a stored form. None is longer than the limit, so that most need not be measured.
+fn has_room(form: &[u16], room: usize) -> bool
+    requires { ⌜ length (skeletonOf (now form)) ≤ skeletonLimit ⌝ }
+    ensures { λ r. ⌜ r ≡ leb (length (skeletonOf (now (form .entry)))) room ⌝ }
+{
+    if LIMIT <= room {
+        return true;
+    }
+    skeletons::measure(form) <= room
+}
+
+// Writes the skeleton of a row of so many syllables to the front of the output, where the rules accept it and there is room.
+fn put_skeleton(form: &[u16], syllables: usize, output: &mut [u16]) -> Counted
+    requires { ⌜ Reads (now form) syllables ⌝ }
+    ensures { λ r. ⌜ FormPut (now (form .entry)) syllables (now (output .entry)) (now (output .exit)) (outcomeOf r) ⌝ }
+{
+    let answer = answer_by_rules(form, syllables);
+    if let Counted::Refused(refusal) = answer {
+        return Counted::Refused(refusal);
+    }
+    if has_room(form, output.len()) {
+        return Counted::Count(skeletons::put(form, output));
+    }
+    Counted::Refused(Refusal::OutputTooShort(skeletons::measure(form)))
+}
+
+// Writes the skeleton of a label to the front of `output`, and tells how many values it has.
+pub fn skeleton(word: &[u16], output: &mut [u16]) -> Counted
+    ensures { λ r. ⌜ SkeletonRight (now (word .entry)) (now (output .entry)) (now (output .exit)) (outcomeOf r) ⌝ }
+{
+    let read = answer_of(word);
+    if let Counted::Count(syllables) = read {
+        return put_skeleton(word, syllables, output);
+    }
+    let normal = normal_form(word);
+    let answer = normal.answer;
+    match answer {
+        Counted::Refused(refusal) => Counted::Refused(refusal),
+        Counted::Count(syllables) => {
+            let form = normal.word;
+            let count = form.count;
+            let values = form.values;
+            put_skeleton(&values[..count], syllables, output)
+        }
+    }
+}
+
+// What is told of two skeletons whose order by code values is this: 1 where they are the same.
+fn likeness(order: Order) -> Paired
+    ensures { λ r. ⌜ r ≡ likenessOf order ⌝ }
+{
+    match order {
+        Order::Less => Paired::Told(0),
+        Order::Equal => Paired::Told(1),
+        Order::Greater => Paired::Told(0),
+    }
+}
+
+// Whether two labels look alike, 1 or 0, or which of the words is no label and why.
+pub fn look_alike(first: &[u16], second: &[u16]) -> Paired
+    ensures { λ r. ⌜ LookAlikeAnswers (now (first .entry)) (now (second .entry)) (pairOutcomeOf r) ⌝ }
+{
+    let mut one = [0; LIMIT];
+    let one_answer = skeleton(first, &mut one);
+    let one_count = match one_answer {
+        Counted::Refused(refusal) => return Paired::FirstRefused(refusal),
+        Counted::Count(count) => count,
+    };
+    let mut other = [0; LIMIT];
+    let other_answer = skeleton(second, &mut other);
+    let other_count = match other_answer {
+        Counted::Refused(refusal) => return Paired::SecondRefused(refusal),
+        Counted::Count(count) => count,
+    };
+    likeness(order_values(&one[..one_count], &other[..other_count]))
+}
