@@ -3,23 +3,17 @@
 use mathlib.Core.Path.{_≡_, refl}
 use mathlib.Core.Bool.{Bool, true, false, _&&_}
 use mathlib.Core.List.{List, [], _∷_}
-use Prim.Native.Nat.{ℕ, zero, suc, _<_}
-use native.Mathlib.Nat.{le-of-suc-le-suc, not-suc-le-zero}
-use native.Mathlib.Omega.{arith}
-use lib.Dec.{T, leb, leb→le}
-use lib.ListN.{length, getD}
+use Prim.Native.Nat.{ℕ}
+use lib.Dec.{T}
+use lib.ListN.{length}
 use Rattle.letters.specs.Choice.{pick}
-use Rattle.letters.specs.Letters.{isAdmitted}
 use Rattle.letters.specs.Marks.{ya, neither, group, no-medial, no-vowel, vowel-aa, vowel-u, vowel-i-u, no-tone, dot, visarga}
-use Rattle.formula.specs.Limits.{limit}
 use Rattle.formula.specs.Syllable.{no-final, plain, plain-pair, stacked, syllable, bare, carriesMarks, carriesFinal}
-use Rattle.formula.specs.Row.{Row, isRowAfter, join, Gives}
+use Rattle.formula.specs.Row.{Row}
 use Rattle.formula.specs.Weighing.{weightsOf}
 use Rattle.formula.proofs.Lists.{both-left, both-right, every, All, every-all, sameList, sameList-equal}
-use Rattle.rows.proofs.Viable.{only-row}
 use Rattle.storage.specs.Stored.{isRunMark, rank, goesBehind, makesLongVowel, makesLetter, storedForm}
-use Rattle.storage.proofs.Outcome.{stored-shorter, stored-admitted}
-use Rattle.normaliser.specs.Normal.{Stores}
+use Rattle.normaliser.proofs.Worked.{isStoredAs, StoredAs, stored-as}
 use Rattle.weighing.specs.Order.{orderValues, orderWeights, filed, order}
 use Rattle.weighing.specs.Keys.{keyOf}
 use Rattle.weighing.specs.declared.order.Order.{Order}
@@ -170,9 +164,7 @@ pairs =
     ∷ []
 
 isStored : Example → Bool
-isStored e =
-    leb (length (e .word)) limit
-    && (every isAdmitted (e .word) && (isRowAfter no-final (e .row) && (sameList (join (e .row)) (storedForm (e .word)) && sameList (keyOf (e .row)) (e .key))))
+isStored e = isStoredAs (e .word) (e .row) && sameList (keyOf (e .row)) (e .key)
 
 sameOrder : Order → Order → Bool
 sameOrder Less Less = true
@@ -197,53 +189,15 @@ pairs-right = tt
 
 -- what the test says of a word
 pub record Stored (e : Example) : Type 0 where
-  pub stores : Stores (e .word) (length (e .row))
-  pub gives : Gives (e .row) (storedForm (e .word))
+  pub kept : StoredAs (e .word) (e .row)
   pub weighs : keyOf (e .row) ≡ e .key
-
-admitted-at : (f : ℕ → Bool) (word : List ℕ) → T (every f word) → (place : ℕ) → place < length word → T (f (getD word place 0))
-admitted-at f [] t place h = absurd (not-suc-le-zero h)
-admitted-at f (x ∷ word) t zero h = both-left (f x) (every f word) t
-admitted-at f (x ∷ word) t (suc place) h = admitted-at f word (both-right (f x) (every f word) t) place (le-of-suc-le-suc h)
 
 stored : (e : Example) → T (isStored e) → Stored e
 unfolding isStored
 stored e t =
-    let short = leb (length (e .word)) limit in
-    let admitted = every isAdmitted (e .word) in
-    let is = isRowAfter no-final (e .row) in
-    let joins = sameList (join (e .row)) (storedForm (e .word)) in
+    let is = isStoredAs (e .word) (e .row) in
     let weighs = sameList (keyOf (e .row)) (e .key) in
-    let rest : T (admitted && (is && (joins && weighs))) = both-right short (admitted && (is && (joins && weighs))) t in
-    let row : T (is && (joins && weighs)) = both-right admitted (is && (joins && weighs)) rest in
-    let last : T (joins && weighs) = both-right is (joins && weighs) row in
-    let fits = leb→le (length (e .word)) limit (both-left short (admitted && (is && (joins && weighs))) t) in
-    let all : T (every isAdmitted (e .word)) = both-left admitted (is && (joins && weighs)) rest in
-    let g : Gives (e .row) (storedForm (e .word)) =
-    record {
-      is-row = both-left is (joins && weighs) row;
-      joined = sameList-equal (join (e .row)) (storedForm (e .word)) (both-left joins weighs last);
-    } in
-    record {
-      stores =
-          record {
-            admissible = record { short = fits; admitted = admitted-at isAdmitted (e .word) all };
-            reads =
-                record {
-                  admissible =
-                      record {
-                        short = let s = stored-shorter (e .word) in omega arith;
-                        admitted = admitted-at isAdmitted (storedForm (e .word)) (stored-admitted (e .word) all);
-                      };
-                  row = e .row;
-                  gives = g;
-                  only = λ other h. only-row other (e .row) (storedForm (e .word)) h g;
-                  count = refl;
-                };
-          };
-      gives = g;
-      weighs = sameList-equal (keyOf (e .row)) (e .key) (both-right joins weighs last);
-    }
+    record { kept = stored-as (e .word) (e .row) (both-left is weighs t); weighs = sameList-equal (keyOf (e .row)) (e .key) (both-right is weighs t) }
 
 same-order : (o p : Order) → T (sameOrder o p) → o ≡ p
 unfolding sameOrder
@@ -274,8 +228,8 @@ right p t =
     let b = stored (p .second) (both-left other-right (sameOrder o (p .is)) rest) in
     record {
       ordered =
-          ordered-by (p .first .word) (p .second .word) (length (p .first .row)) (length (p .second .row)) (a .stores) (b .stores) (p .first .row) (p .second .row)
-          (a .gives) (b .gives) (p .is) (same-order o (p .is) (both-right other-right (sameOrder o (p .is)) rest));
+          ordered-by (p .first .word) (p .second .word) (length (p .first .row)) (length (p .second .row)) (a .kept .stores) (b .kept .stores) (p .first .row) (p .second .row)
+          (a .kept .gives) (b .kept .gives) (p .is) (same-order o (p .is) (both-right other-right (sameOrder o (p .is)) rest));
       first = a;
       second = b;
     }

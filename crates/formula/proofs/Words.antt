@@ -192,6 +192,75 @@ range-ends =
       spell = map (λ (h : ℕ). h ∷ []) range-heads;
     }
 
+-- heads alone, each with its weight, of which none has a vowel weight
+abbrev of-heads : List ℕ → List ℕ → Example
+of-heads heads head-weights =
+    record {
+      word = heads;
+      row = map bare heads;
+      records = map (λ (h : ℕ). (h - 0x1000) ∷ replicate 7 0) heads;
+      weigh = map (λ (w : ℕ). w ∷ replicate 5 0) head-weights;
+      spell = map (λ (h : ℕ). h ∷ []) heads;
+    }
+
+-- the digits that look like a letter: alone, beside each other, beside a letter, and beside another digit alone; and with a stop
+abbrev pub zero-alone : Example
+zero-alone = of-heads (0x1040 ∷ []) (3 ∷ [])
+
+abbrev pub zero-seven : Example
+zero-seven = of-heads (0x1040 ∷ 0x1047 ∷ []) (3 ∷ 10 ∷ [])
+
+abbrev pub letter-zero : Example
+letter-zero = of-heads (0x1000 ∷ 0x1040 ∷ []) (13 ∷ 3 ∷ [])
+
+abbrev pub letter-one-zero : Example
+letter-one-zero = of-heads (0x1000 ∷ 0x1041 ∷ 0x1040 ∷ []) (13 ∷ 4 ∷ 3 ∷ [])
+
+abbrev pub zero-stop : Example
+zero-stop = of-heads (0x1000 ∷ 0x1040 ∷ 0x104B ∷ []) (13 ∷ 3 ∷ 2 ∷ [])
+
+-- the letters that they look like, and as many syllables as a label may have, and one more
+abbrev pub wa-ra : Example
+wa-ra = of-heads (0x101D ∷ 0x101B ∷ []) (42 ∷ 40 ∷ [])
+
+abbrev pub ten-syllables : Example
+ten-syllables = of-heads (replicate 10 0x1000) (replicate 10 13)
+
+abbrev pub eleven-syllables : Example
+eleven-syllables = of-heads (replicate 11 0x1000) (replicate 11 13)
+
+-- the I that looks like two values, and those
+abbrev pub o-alone : Example
+o-alone =
+    record {
+      word = 0x1029 ∷ [];
+      row = bare 0x1029 ∷ [];
+      records = (0x29 ∷ 0 ∷ 0 ∷ 0 ∷ 0 ∷ 0 ∷ 0 ∷ 0 ∷ []) ∷ [];
+      weigh = (46 ∷ 0 ∷ 0 ∷ 0 ∷ 8 ∷ 0 ∷ []) ∷ [];
+      spell = (0x1029 ∷ []) ∷ [];
+    }
+
+abbrev pub sa-ra : Example
+sa-ra =
+    record {
+      word = 0x101E ∷ 0x103C ∷ [];
+      row = syllable 0x101E (group ra false false) no-vowel no-final no-tone ∷ [];
+      records = (0x1E ∷ 2 ∷ 0 ∷ 0 ∷ 0 ∷ 0 ∷ 0 ∷ 0 ∷ []) ∷ [];
+      weigh = (43 ∷ 2 ∷ 0 ∷ 0 ∷ 0 ∷ 0 ∷ []) ∷ [];
+      spell = (0x101E ∷ 0x103C ∷ []) ∷ [];
+    }
+
+-- what 1025 102E is stored as
+abbrev pub uu-alone : Example
+uu-alone =
+    record {
+      word = 0x1026 ∷ [];
+      row = bare 0x1026 ∷ [];
+      records = (0x26 ∷ 0 ∷ 0 ∷ 0 ∷ 0 ∷ 0 ∷ 0 ∷ 0 ∷ []) ∷ [];
+      weigh = (46 ∷ 0 ∷ 0 ∷ 0 ∷ 5 ∷ 0 ∷ []) ∷ [];
+      spell = (0x1026 ∷ []) ∷ [];
+    }
+
 -- one syllable of a head and a plain final, with the weights of both and the vowel weight of the head
 abbrev with-plain : ℕ → ℕ → ℕ → ℕ → ℕ → Example
 with-plain head final head-weight final-weight vowel-weight =
@@ -217,9 +286,12 @@ plain-sa = with-plain 0x1015 0x101E 34 31 0
 abbrev pub baht : Example
 baht = with-plain 0x1018 0x1010 37 17 0
 
--- the first syllable of `ukka` likewise, that of `aforementioned` without its tone, and what 1025 1025 103A is stored as
+-- the first syllable of `ukka` likewise, and the one that it looks like, that of `aforementioned` without its tone, and what 1025 1025 103A is stored as
 abbrev pub plain-i : Example
 plain-i = with-plain 0x1025 0x1000 46 1 4
+
+abbrev pub plain-nya : Example
+plain-nya = with-plain 0x1009 0x1000 22 1 0
 
 abbrev pub plain-sign : Example
 plain-sign = with-plain 0x104E 0x1004 49 5 0
@@ -290,7 +362,7 @@ bus-car =
       spell = (0x1018 ∷ 0x1010 ∷ 0x103A ∷ 0x1005 ∷ 0x103A ∷ []) ∷ (0x1000 ∷ 0x102C ∷ 0x1038 ∷ []) ∷ [];
     }
 
--- the words of document 01 and the queries that find them, whose rows are rows of 01; 1000 1031 102C 103A is "one syllable"
+-- the words of document 01, the queries that find them and the words of labels, whose rows are rows of 01; 1000 1031 102C 103A is "one syllable"
 abbrev baseExamples : List Example
 baseExamples =
     record { word = []; row = []; records = []; weigh = []; spell = [] }
@@ -313,13 +385,7 @@ baseExamples =
       spell = (0x1000 ∷ 0x1031 ∷ 0x102C ∷ 0x103A ∷ []) ∷ [];
     }
     ∷ closed
-    ∷ record {
-      word = 0x1026 ∷ [];
-      row = bare 0x1026 ∷ [];
-      records = (0x26 ∷ 0 ∷ 0 ∷ 0 ∷ 0 ∷ 0 ∷ 0 ∷ 0 ∷ []) ∷ [];
-      weigh = (46 ∷ 0 ∷ 0 ∷ 0 ∷ 5 ∷ 0 ∷ []) ∷ [];
-      spell = (0x1026 ∷ []) ∷ [];
-    }
+    ∷ uu-alone
     ∷ record {
       word = replicate limit 0x1000;
       row = replicate limit (bare 0x1000);
@@ -333,6 +399,17 @@ baseExamples =
     ∷ plain-nga
     ∷ plain-sa
     ∷ baht
+    ∷ zero-alone
+    ∷ zero-seven
+    ∷ letter-zero
+    ∷ letter-one-zero
+    ∷ zero-stop
+    ∷ wa-ra
+    ∷ ten-syllables
+    ∷ eleven-syllables
+    ∷ o-alone
+    ∷ sa-ra
+    ∷ plain-nya
     ∷ []
 
 -- the words of document 02, E2, whose rows are not, but are rows of before E5

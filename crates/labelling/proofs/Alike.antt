@@ -28,7 +28,7 @@ same-apart a b o e other =
 same-level : (a b : List ℕ) → orderValues a b ≡ Equal → sameList a b ≡ true
 same-level a b e = is-true (sameList a b) (subst (λ (l : List ℕ). T (sameList a l)) (values-are-ordered .identical a b e) (sameList-refl a))
 
-module _ {first second one other : List ℕ} {m n : ℕ} (f : Given first one m) (g : Given second other n) where
+module _ {first second start begin one other : List ℕ} {m n : ℕ} (f : Given first start one m) (g : Given second begin other n) where
   likened : (k : ℕ) (b : Bool) → sameList (skeleton first) (skeleton second) ≡ b → k ≡ bitIf b 1 → Likened first second k
   likened k b e h =
       record {

@@ -17,18 +17,19 @@ use Rattle.labelling.specs.Labelling.{IsLabel, LabelRefusedWith, skeleto
 use Rattle.labelling.proofs.Stored.{skeleton-short}
 
 -- a label, with its skeleton at the front of a list
-pub record Given (word after : List ℕ) (size : ℕ) : Type 0 where
+pub record Given (word before after : List ℕ) (size : ℕ) : Type 0 where
   pub count : ℕ
   pub label : IsLabel word count
   pub long : size ≡ length (skeleton word)
+  pub written : after ≡ skeleton word ++ drop (length (skeleton word)) before
   pub front : take size after ≡ skeleton word
   pub fits : size ≤ length after
 
 module _ (word before after : List ℕ) where
-  given : (size : ℕ) → SkeletonRight word before after (accepts size) → Given word after size
+  pub given : (size : ℕ) → SkeletonRight word before after (accepts size) → Given word before after size
   given size right = go (accepts size) refl right
     where
-      go : (o : Outcome) → o ≡ accepts size → SkeletonRight word before after o → Given word after size
+      go : (o : Outcome) → o ≡ accepts size → SkeletonRight word before after o → Given word before after size
       go o e (refused r s) = let z : _≡_ {A = ℕ} 0 1 = cc in let y : ⊥ = omega arith in absurd y
       go o e (too-short l h s) = let z : _≡_ {A = ℕ} 0 1 = cc in let y : ⊥ = omega arith in absurd y
       go o e (put {thing = n} l h s) =
@@ -37,6 +38,7 @@ module _ (word before after : List ℕ) where
             count = n;
             label = l;
             long = long;
+            written = s;
             front = ap (take size) s ∙ take-at (skeleton word) (drop (length (skeleton word)) before) size (sym long);
             fits = omega (arith, ap length s, length-append (skeleton word) (drop (length (skeleton word)) before));
           }
@@ -55,7 +57,7 @@ module _ (word before after : List ℕ) where
 
 -- the same of the answer that is told
 module _ {word before after : List ℕ} (answer : Counted) (right : SkeletonRight word before after (outcomeOf answer)) where
-  pub told-given : (n : ℕ) → answer ≡ Count n → Given word after n
+  pub told-given : (n : ℕ) → answer ≡ Count n → Given word before after n
   told-given n e = given word before after n (subst (λ (w : Counted). SkeletonRight word before after (outcomeOf w)) e right)
 
   pub told-refused : skeletonLimit ≤ length before → (refusal : Refusal) → answer ≡ Refused refusal

@@ -21,10 +21,12 @@ use Rattle.book_word.specs.WordAt.{WordRight}
 use Rattle.wordbook.specs.Calls.{AddPromise, RemovePromise}
 use Rattle.wordbook.specs.Prefix.{PrefixPromise}
 use Rattle.outputs.specs.Outputs.{RecordWritten, KeyWritten, DecodeWritten}
+use Rattle.labelling.specs.Labelling.{LabelAnswers, SkeletonRight, LookAlikeAnswers}
 use Rattle.packing.specs.Packing.{pack, unpack, Packed}
 use Rattle.packing.specs.Answers.{outcomeNumbers, pairNumbers, FindAnswers}
 use Rattle.packing.proofs.Laws.{unpack-pack, packed-unpacked}
 use Rattle.packing.proofs.WordFits.{read-fits, part-fits, normalise-fits, form-fits, typed-fits, write-fits, spell-fits, compare-fits}
+use Rattle.packing.proofs.LabelFits.{label-fits, skeleton-fits, look-alike-fits}
 use Rattle.packing.proofs.BookFits.{check-fits, rank-fits, order-fits, prefix-fits, record-word-fits, find-fits, add-fits, tidy-fits, remove-fits}
 use Rattle.packing.proofs.OutputFits.{record-fits, key-fits, decode-fits}
 
@@ -56,6 +58,15 @@ module _ (word : List ℕ) (n : ℕ) where
 
   pub compare-unpacked : (other : List ℕ) (p : Packed (CompareAnswers word other) pairNumbers n) → unpack n ≡ pairNumbers (p .outcome)
   compare-unpacked other p = packed-unpacked (CompareAnswers word other) pairNumbers (compare-fits word other) n p
+
+  pub label-unpacked : (p : Packed (LabelAnswers word) outcomeNumbers n) → unpack n ≡ outcomeNumbers (p .outcome)
+  label-unpacked p = packed-unpacked (LabelAnswers word) outcomeNumbers (label-fits word) n p
+
+  pub skeleton-unpacked : (before after : List ℕ) (p : Packed (SkeletonRight word before after) outcomeNumbers n) → unpack n ≡ outcomeNumbers (p .outcome)
+  skeleton-unpacked before after p = packed-unpacked (SkeletonRight word before after) outcomeNumbers (skeleton-fits word before after) n p
+
+  pub look-alike-unpacked : (other : List ℕ) (p : Packed (LookAlikeAnswers word other) pairNumbers n) → unpack n ≡ pairNumbers (p .outcome)
+  look-alike-unpacked other p = packed-unpacked (LookAlikeAnswers word other) pairNumbers (look-alike-fits word other) n p
 
 module _ (bytes before after : List ℕ) (n : ℕ) where
   pub write-unpacked : (p : Packed (WriteRight bytes before after) outcomeNumbers n) → unpack n ≡ outcomeNumbers (p .outcome)
