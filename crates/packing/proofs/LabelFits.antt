@@ -1,6 +1,6 @@
 -- The numbers of every right answer on labels fit their bits: a place is one of the stored form or the limit of syllables, and a skeleton is short.
 -- Assumes nothing.
-use mathlib.Core.Path.{_≡_, refl}
+use mathlib.Core.Path.{_≡_}
 use mathlib.Core.Bool.{Bool, true, false}
 use mathlib.Core.List.{List}
 use Prim.Native.Nat.{ℕ, _≤_}
@@ -13,7 +13,8 @@ use Rattle.refusals.specs.Outcome.{Outcome, accepts, accepts-both, absent, refu
 use Rattle.refusals.specs.Pair.{PairOutcome}
 use Rattle.storage.specs.Stored.{storedForm}
 use Rattle.label_rules.specs.Rules.{labelOf}
-use Rattle.label_rules.proofs.Laws.{Ruled, has-sign, has-digit, has-many, meets-all, ruled, accepted-meets}
+use Rattle.label_rules.proofs.Laws.{accepted-meets}
+use Rattle.label_rules.proofs.Meaning.{Breaks, sign, digit, many, refused-breaks}
 use Rattle.labelling.specs.Labelling.{IsLabel, LabelRefusedWith, no-word, ruled-out, LabelAnswers, skeleton, SkeletonRight, Likened, LookAlikeAnswers}
 use Rattle.labelling.proofs.Stored.{skeleton-short}
 use Rattle.packing.specs.Packing.{Fits}
@@ -21,13 +22,12 @@ use Rattle.packing.specs.Answers.{outcomeNumbers, pairNumbers}
 use Rattle.packing.proofs.WordFits.{Small, small-fits, store-refused-small, writes-fits, pair-fits}
 
 ruled-small : (form : List ℕ) (n number place : ℕ) → length form ≤ limit → labelOf form n ≡ refuses number place → Small number place
-ruled-small form n number place short e = go (labelOf form n) e (ruled form n)
+ruled-small form n number place short e = go number place (refused-breaks form n number place e)
   where
-    go : (o : Outcome) → o ≡ refuses number place → Ruled form n o → Small number place
-    go o f (has-sign h) = let a : _≡_ {A = ℕ} 21 number = cc in let b : _≡_ {A = ℕ} _ place = cc in record { few = omega arith; near = omega arith }
-    go o f (has-digit s h) = let a : _≡_ {A = ℕ} 22 number = cc in let b : _≡_ {A = ℕ} _ place = cc in record { few = omega arith; near = omega arith }
-    go o f (has-many s d h) = let a : _≡_ {A = ℕ} 23 number = cc in let b : _≡_ {A = ℕ} _ place = cc in record { few = omega arith; near = omega arith }
-    go o f (meets-all s d h) = let z : _≡_ {A = ℕ} 0 1 = cc in let y : ⊥ = omega arith in absurd y
+    go : (m q : ℕ) → Breaks form n m q → Small m q
+    go m q (sign f) = let w = f .within in record { few = omega arith; near = omega arith }
+    go m q (digit s f) = let w = f .within in record { few = omega arith; near = omega arith }
+    go m q (many s d h) = record { few = omega arith; near = omega arith }
 
 pub label-refused-small : (word : List ℕ) (number place : ℕ) → LabelRefusedWith word number place → Small number place
 label-refused-small word number place (no-word r) = store-refused-small word number place r

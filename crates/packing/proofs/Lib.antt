@@ -1,6 +1,6 @@
 pub mod Laws
 pub mod WordFits
-mod LabelFits
+pub mod LabelFits
 pub mod BookFits
 pub mod OutputFits
 pub mod Unpacked
