@@ -116,12 +116,22 @@ pub enum Which {
     Second,
 }
 
+/// What is made of each of two words. "the first is tested whole, and the answer says
+/// which".
+pub fn of_both<T>(
+    first: &[u16],
+    second: &[u16],
+    make: fn(&[u16]) -> Result<T, Refusal>,
+) -> Result<(T, T), (Which, Refusal)> {
+    let first = make(first).map_err(|refusal| (Which::First, refusal))?;
+    let second = make(second).map_err(|refusal| (Which::Second, refusal))?;
+    Ok((first, second))
+}
+
 /// "Words compare by their rows of weights, a row before every longer one that
-/// begins with it; equal rows compare by code values in storage order." Of two
-/// words, "the first is tested whole, and the answer says which".
+/// begins with it; equal rows compare by code values in storage order."
 pub fn compare(first: &[u16], second: &[u16]) -> Result<Ordering, (Which, Refusal)> {
-    let first = store(first).map_err(|refusal| (Which::First, refusal))?;
-    let second = store(second).map_err(|refusal| (Which::Second, refusal))?;
+    let (first, second) = of_both(first, second, store)?;
     let (first_key, second_key) = (Key::of(&first.reading), Key::of(&second.reading));
     // Slices compare as asked: item by item, and a beginning before the longer.
     let by_weights = first_key.row().cmp(second_key.row());

@@ -43,6 +43,10 @@ pub const GREAT_SA: u16 = 0x103F;
 pub const NGA: u16 = 0x1004;
 /// The letter that looks like [`LETTER_U`].
 pub const NYA: u16 = 0x1009;
+/// The letter that looks like [`DIGIT_SEVEN`].
+pub const RA: u16 = 0x101B;
+/// The letter that looks like [`DIGIT_ZERO`].
+pub const WA: u16 = 0x101D;
 /// The letter of which great sa is made.
 pub const SA: u16 = 0x101E;
 /// "A final letter is 1000 to 1020": the last of them.
@@ -51,6 +55,12 @@ pub const LAST_FINAL_LETTER: u16 = 0x1020;
 pub const LETTER_U: u16 = 0x1025;
 /// Independent vowel UU.
 pub const LETTER_UU: u16 = 0x1026;
+/// Independent vowel O.
+pub const LETTER_O: u16 = 0x1029;
+/// Digit 0.
+pub const DIGIT_ZERO: u16 = 0x1040;
+/// Digit 7.
+pub const DIGIT_SEVEN: u16 = 0x1047;
 /// The sign that carries a final and a tone (Unicode: aforementioned).
 pub const AFOREMENTIONED: u16 = 0x104E;
 

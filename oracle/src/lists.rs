@@ -1,20 +1,23 @@
-//! Word lists for comparing implementations, and what `wordlist` prints for them.
+//! Word lists for comparing implementations, and what the programs print for them.
 
 mod carried;
 mod changes;
 mod finals;
+mod label_examples;
+mod labels;
 mod lines;
 mod picked_rows;
 mod products;
 
+use crate::program::Program;
 use crate::random::Random;
-use crate::wordlist;
 
 pub use changes::{shuffle_runs, WITH_LETTER_U};
 pub use finals::crowded;
+pub use labels::{exchanged, likely_label, long_skeleton};
 pub use picked_rows::{random_row, row_of_length, RowUnderWay};
 
-/// One list: an input of `wordlist`.
+/// One list: an input of a program.
 pub struct List {
     /// The kind of its lines; also the name of its files.
     pub name: &'static str,
@@ -23,11 +26,16 @@ pub struct List {
 }
 
 impl List {
-    /// What `wordlist` must print for the list.
-    pub fn expected(&self) -> Vec<u8> {
+    /// What the program must print for the list.
+    pub fn expected(&self, program: Program) -> Vec<u8> {
         let mut output = Vec::new();
-        wordlist::run(self.input.as_slice(), &mut output).expect("memory takes every byte");
+        program.run(self.input.as_slice(), &mut output).expect("memory takes every byte");
         output
+    }
+
+    /// A list of these words.
+    fn of_all(name: &'static str, words: impl IntoIterator<Item = Vec<u16>>) -> List {
+        List { name, input: join(words.into_iter().map(|word| encode(&word))) }
     }
 
     /// A list of lines, each of which `make` makes.
@@ -51,15 +59,22 @@ impl List {
     }
 }
 
-/// All lists.
-pub fn all() -> Vec<List> {
+/// All lists of a program.
+pub fn all(program: Program) -> Vec<List> {
+    match program {
+        Program::Wordlist => of_wordlist(),
+        Program::Labels => of_labels(),
+    }
+}
+
+fn of_wordlist() -> Vec<List> {
     vec![
         List { name: "program_example", input: PROGRAM_EXAMPLE.as_bytes().to_vec() },
         List { name: "examples", input: join(lines::examples()) },
-        List { name: "products", input: join(products::words().map(|word| encode(&word))) },
-        List { name: "carried", input: join(carried::words().map(|word| encode(&word))) },
-        List { name: "two_finals", input: join(finals::readable().map(|word| encode(&word))) },
-        List { name: "near_two_finals", input: join(finals::near().map(|word| encode(&word))) },
+        List::of_all("products", products::words()),
+        List::of_all("carried", carried::words()),
+        List::of_all("two_finals", finals::readable()),
+        List::of_all("near_two_finals", finals::near()),
         List::of_words("crowded", 1_000, finals::crowded),
         List::of_words("valid", 5_200, changes::valid),
         List::of_words("long", 500, changes::long),
@@ -79,6 +94,27 @@ pub fn all() -> Vec<List> {
         List { name: "only_newlines", input: b"\n\n\n".to_vec() },
         List { name: "one_newline", input: b"\n".to_vec() },
         List { name: "empty", input: Vec::new() },
+    ]
+}
+
+fn of_labels() -> Vec<List> {
+    vec![
+        List { name: "examples", input: join(label_examples::examples()) },
+        List::of_all("digits", labels::digits()),
+        List::of_all("neighbours", labels::neighbours()),
+        List::of_all("stops_and_signs", labels::stops_and_signs()),
+        List::of_all("replaced_by_finals", labels::replaced_by_finals()),
+        List::of_all("pairs", labels::pairs()),
+        List::of_words("likely_labels", 500, labels::likely_label),
+        List::of_words("long_skeletons", 150, labels::long_skeleton),
+        List::of_words("valid", 300, changes::valid),
+        List::of_words("shuffled", 300, changes::shuffled),
+        List::of_words("letter_u", 300, changes::letter_u),
+        List::of_words("beginnings", 100, changes::beginning),
+        List::of_words("damaged", 300, changes::damaged),
+        List::of_words("foreign", 150, changes::foreign),
+        List::of_lines("bytes", 150, lines::faulty),
+        List::of_lines("limits", 200, lines::near_the_limit),
     ]
 }
 

@@ -1,6 +1,7 @@
 //! Document 01, "Refused because of what is handed in" and "Refused because of
-//! what the book holds".
+//! what the book holds", and the refusals of document 02.
 
+use crate::labels::LABEL_LIMIT;
 use crate::word::WORD_LIMIT;
 
 /// "A refusal gives number and place and writes nothing."
@@ -74,4 +75,19 @@ impl Refusal {
     pub const fn rank_too_high(live_count: usize) -> Refusal {
         Refusal { number: 15, place: live_count }
     }
+
+    /// 21: document 02, "for the first stop or sign", "with its place in the normalised
+    /// word".
+    pub const fn stop_or_sign(place: usize) -> Refusal {
+        Refusal { number: 21, place }
+    }
+
+    /// 22: document 02, "for the first such digit", a 1040 or 1047 next to a value that
+    /// isn't one, "with its place in the normalised word".
+    pub const fn confusable_digit(place: usize) -> Refusal {
+        Refusal { number: 22, place }
+    }
+
+    /// 23: document 02, "with place 10, the limit, for too many syllables".
+    pub const TOO_MANY_SYLLABLES: Refusal = Refusal { number: 23, place: LABEL_LIMIT };
 }

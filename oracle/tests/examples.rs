@@ -1,6 +1,7 @@
 //! All examples of document 01, in its order, and those of document 02 on independent
 //! letters that carry finals and on two finals.
 
+use oracle::program::Program;
 use oracle::spelling::SpelledLengths;
 use oracle::{compare, key, normalise, part, read, record, spell_out, stored_form, write, Refusal};
 use std::cmp::Ordering;
@@ -124,7 +125,7 @@ fn wrong_turns() {
 #[test]
 fn the_program_prints_the_three_lines() {
     let mut output = Vec::new();
-    oracle::wordlist::run("တက္ကသိုလ်\nက္\n\n".as_bytes(), &mut output).unwrap();
+    Program::Wordlist.run("တက္ကသိုလ်\nက္\n\n".as_bytes(), &mut output).unwrap();
     let expected = "1 OK 3 1D0001000000-0D0000000000-2B001D000B00\n2 NO 3 1\n3 OK 0 -\n";
     assert_eq!(String::from_utf8(output).unwrap(), expected);
 }
@@ -349,7 +350,7 @@ fn the_letter_u_is_stored_by_its_neighbour() {
 #[test]
 fn the_program_prints_the_key_of_an_independent_letter_with_its_final() {
     let mut output = Vec::new();
-    oracle::wordlist::run("ဥက္က\n၎င်း\n".as_bytes(), &mut output).unwrap();
+    Program::Wordlist.run("ဥက္က\n၎င်း\n".as_bytes(), &mut output).unwrap();
     let expected = "1 OK 2 2E0001000400-0D0000000000\n2 OK 1 310005000002\n";
     assert_eq!(String::from_utf8(output).unwrap(), expected);
 }
@@ -517,7 +518,7 @@ fn the_part_of_a_syllable_has_both_finals() {
 #[test]
 fn the_program_prints_six_bytes_a_syllable() {
     let mut output = Vec::new();
-    oracle::wordlist::run("ဘတ်စ်\nကက်စ်ကား\n".as_bytes(), &mut output).unwrap();
+    Program::Wordlist.run("ဘတ်စ်\nကက်စ်ကား\n".as_bytes(), &mut output).unwrap();
     let expected = "1 OK 1 250011060000\n2 OK 2 0D0001060000-0D0000000102\n";
     assert_eq!(String::from_utf8(output).unwrap(), expected);
 }

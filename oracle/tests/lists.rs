@@ -3,27 +3,34 @@
 mod markless;
 
 use oracle::lists::{all, random_row, row_of_length, shuffle_runs, List};
+use oracle::program::Program;
 use oracle::random::Random;
 use oracle::storage::store;
-use oracle::{compare, decode, normalise, read};
+use oracle::{compare, decode, look_alike, normalise, read};
 use std::cmp::Ordering;
 use std::collections::BTreeSet;
 use std::sync::LazyLock;
 
-static LISTS: LazyLock<Vec<List>> = LazyLock::new(all);
+static LISTS: LazyLock<Vec<List>> = LazyLock::new(|| all(Program::Wordlist));
+
+static LABEL_LISTS: LazyLock<Vec<List>> = LazyLock::new(|| all(Program::Labels));
 
 fn list(name: &str) -> &'static List {
     LISTS.iter().find(|list| list.name == name).unwrap()
 }
 
 fn answers(list: &List) -> Vec<String> {
-    String::from_utf8(list.expected()).unwrap().lines().map(String::from).collect()
+    printed(list, Program::Wordlist)
+}
+
+fn printed(list: &List, program: Program) -> Vec<String> {
+    String::from_utf8(list.expected(program)).unwrap().lines().map(String::from).collect()
 }
 
 #[test]
 fn the_lists_are_of_the_right_size() {
     let input: usize = LISTS.iter().map(|list| list.input.len()).sum();
-    let expected: usize = LISTS.iter().map(|list| list.expected().len()).sum();
+    let expected: usize = LISTS.iter().map(|list| list.expected(Program::Wordlist).len()).sum();
     let lines: usize = LISTS.iter().map(|list| answers(list).len()).sum();
     assert!((20_000..=40_000).contains(&lines), "{lines} lines");
     assert!(input <= 1_500_000, "{input} bytes of input");
@@ -91,7 +98,11 @@ fn every_weight_occurs() {
 
 /// The words of the lists with these names.
 fn words<'n>(names: &'n [&str]) -> impl Iterator<Item = Vec<u16>> + 'n {
-    let lines = names.iter().flat_map(|name| list(name).input.split(|&byte| byte == b'\n'));
+    names.iter().flat_map(|name| words_of(list(name)))
+}
+
+fn words_of(list: &List) -> impl Iterator<Item = Vec<u16>> + '_ {
+    let lines = list.input.split(|&byte| byte == b'\n');
     lines.filter_map(|line| decode(line).ok()).map(|word| word.to_vec())
 }
 
@@ -147,14 +158,19 @@ fn what_heads_carry_is_read_or_refused_as_the_documents_say() {
     assert_eq!(count(" NO 3 "), 8 * 27 - 1 + 15 * 36 + 2 * 24);
 }
 
+/// The numbers of the refusals among the answers.
+fn refusals_in(answers: &[String]) -> BTreeSet<String> {
+    let refused = answers.iter().filter(|answer| answer.contains(" NO "));
+    refused.map(|answer| answer.split(' ').nth(2).unwrap().to_string()).collect()
+}
+
+fn named(numbers: &[&str]) -> BTreeSet<String> {
+    numbers.iter().map(|number| number.to_string()).collect()
+}
+
 #[test]
 fn every_refusal_of_a_line_occurs() {
-    let refusals = |name| -> BTreeSet<String> {
-        let answers = answers(list(name));
-        let refused = answers.iter().filter(|answer| answer.contains(" NO "));
-        refused.map(|answer| answer.split(' ').nth(2).unwrap().to_string()).collect()
-    };
-    let named = |numbers: &[&str]| numbers.iter().map(|number| number.to_string()).collect();
+    let refusals = |name| refusals_in(&answers(list(name)));
     assert_eq!(refusals("damaged"), named(&["3", "4"]));
     assert_eq!(refusals("crowded"), named(&["3", "4"]));
     assert_eq!(refusals("beginnings"), named(&["4"]), "a valid word's beginning is viable");
@@ -165,4 +181,53 @@ fn every_refusal_of_a_line_occurs() {
     let limits = answers(list("limits"));
     assert!(limits.iter().any(|answer| answer.ends_with(" NO 4 64")));
     assert!(limits.iter().any(|answer| answer.ends_with(" NO 7 189")));
+}
+
+fn label_list(name: &str) -> &'static List {
+    LABEL_LISTS.iter().find(|list| list.name == name).unwrap()
+}
+
+fn label_answers(name: &str) -> Vec<String> {
+    printed(label_list(name), Program::Labels)
+}
+
+#[test]
+fn the_label_lists_are_small() {
+    let lines: usize = LABEL_LISTS.iter().map(|list| label_answers(list.name).len()).sum();
+    assert!((3_000..=6_000).contains(&lines), "{lines} lines");
+}
+
+#[test]
+fn every_refusal_of_a_label_occurs() {
+    let refusals = |name| refusals_in(&label_answers(name));
+    assert_eq!(refusals("examples"), named(&["1", "2", "3", "4", "7", "21", "22", "23"]));
+    assert_eq!(refusals("digits"), named(&["21", "22"]));
+    assert_eq!(refusals("neighbours"), named(&["21", "22"]));
+    assert_eq!(refusals("stops_and_signs"), named(&["3", "21"]));
+    assert_eq!(refusals("replaced_by_finals"), named(&[]));
+    assert_eq!(refusals("pairs"), named(&["3", "21", "22", "23"]));
+    assert_eq!(refusals("likely_labels"), named(&["21", "22", "23"]));
+    assert_eq!(refusals("long_skeletons"), named(&["1"]));
+}
+
+#[test]
+fn labels_have_up_to_ten_syllables_and_73_values_in_a_skeleton() {
+    let words = LABEL_LISTS.iter().flat_map(words_of);
+    let counts: BTreeSet<usize> = words.filter_map(|word| oracle::label(&word).ok()).collect();
+    assert!(counts.into_iter().eq(0..=10));
+    let words = words_of(label_list("long_skeletons"));
+    let lengths: BTreeSet<usize> =
+        words.filter_map(|word| oracle::skeleton(&word).ok()).map(|it| it.len()).collect();
+    assert!((70..=73).all(|length| lengths.contains(&length)), "{lengths:?}");
+}
+
+/// Two words in a row that are spelled otherwise.
+#[test]
+fn many_pairs_look_alike() {
+    let words: Vec<Vec<u16>> = words_of(label_list("pairs")).collect();
+    let is_alike = |pair: &[Vec<u16>]| {
+        pair[0] != pair[1] && look_alike(&pair[0], &pair[1]).is_ok_and(|alike| alike)
+    };
+    let alike = words.as_chunks::<2>().0.iter().filter(|pair| is_alike(*pair)).count();
+    assert!(alike >= 60, "{alike}");
 }

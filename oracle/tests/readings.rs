@@ -1,5 +1,6 @@
 //! The cases that the page of readings names, where they concern no book.
 
+use oracle::program::Program;
 use oracle::{compare, decode, key, normalise, part, put_record, read, record, spell_out, write};
 use oracle::{Key, Refusal, Which};
 use std::cmp::Ordering;
@@ -32,7 +33,7 @@ fn written(records: &[u8]) -> Vec<u16> {
 
 fn printed(input: &[u8]) -> String {
     let mut output = Vec::new();
-    oracle::wordlist::run(input, &mut output).unwrap();
+    Program::Wordlist.run(input, &mut output).unwrap();
     String::from_utf8(output).unwrap()
 }
 

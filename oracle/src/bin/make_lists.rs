@@ -1,6 +1,8 @@
-//! Makes the word lists: for each kind `NAME.input`, which goes into `wordlist`,
-//! and `NAME.expected`, which must come out, in the folder that is named.
+//! Makes the word lists: for each kind `NAME.input`, which goes into the program, and
+//! `NAME.expected`, which must come out, in a folder of the program's name in the one that
+//! is named.
 
+use oracle::program::Program;
 use std::path::Path;
 use std::process::ExitCode;
 use std::{env, fs, io};
@@ -21,18 +23,22 @@ fn main() -> ExitCode {
 }
 
 fn make_lists(folder: &Path) -> io::Result<()> {
-    fs::create_dir_all(folder)?;
-    for list in oracle::lists::all() {
-        let expected = list.expected();
-        let lines = expected.iter().filter(|&&byte| byte == b'\n').count();
-        println!(
-            "{:24} {lines:6} lines {:8} bytes in {:8} bytes out",
-            list.name,
-            list.input.len(),
-            expected.len()
-        );
-        fs::write(folder.join(format!("{}.input", list.name)), &list.input)?;
-        fs::write(folder.join(format!("{}.expected", list.name)), &expected)?;
+    for program in Program::ALL {
+        let folder = folder.join(program.name());
+        fs::create_dir_all(&folder)?;
+        for list in oracle::lists::all(program) {
+            let expected = list.expected(program);
+            let lines = expected.iter().filter(|&&byte| byte == b'\n').count();
+            println!(
+                "{:9}{:24} {lines:6} lines {:8} bytes in {:8} bytes out",
+                program.name(),
+                list.name,
+                list.input.len(),
+                expected.len()
+            );
+            fs::write(folder.join(format!("{}.input", list.name)), &list.input)?;
+            fs::write(folder.join(format!("{}.expected", list.name)), &expected)?;
+        }
     }
     Ok(())
 }

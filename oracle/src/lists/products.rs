@@ -44,7 +44,7 @@ pub fn head_in_turn(number: usize) -> [u16; 1] {
 }
 
 /// What a final asks to stand after it, or one more syllable all the same.
-fn after_final(ending: &Writing, number: usize) -> [u16; 1] {
+pub fn after_final(ending: &Writing, number: usize) -> [u16; 1] {
     match ending.then {
         Piece::GreatSaHead => [0x103F],
         _ => [0x1000 + (number % 33) as u16],
