@@ -1,2 +1,4 @@
 pub mod Decimal
+pub mod Hyphens
 pub mod Keys
+pub mod Values

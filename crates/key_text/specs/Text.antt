@@ -3,7 +3,7 @@
 use mathlib.Core.List.{List, [], _∷_, _++_}
 use Prim.Native.Nat.{ℕ, zero, suc, _+_, _*_, _-_, _/_, _%_}
 use lib.Dec.{ltb}
-use lib.ListN.{getD}
+use lib.ListN.{length, getD}
 use Rattle.letters.specs.Choice.{pick}
 use Rattle.formula.specs.Limits.{limit, weightCount}
 use Rattle.weighing.specs.Keys.{usedBytes}
@@ -35,15 +35,35 @@ hexadecimalsOf (suc count) bytes from = hexadecimalsOf count bytes from ++ hexad
 unfoldable pub syllableText : List ℕ → ℕ → List ℕ
 syllableText key syllable = hexadecimalsOf weightCount key (usedBytes syllable)
 
--- the syllables of a key behind the first, as many as the number says, each behind a hyphen
-abbrev pub furtherText : ℕ → List ℕ → List ℕ
-furtherText zero key = []
-furtherText (suc count) key = furtherText count key ++ (0x2D ∷ syllableText key (suc count))
+-- a value "in upper-case hexadecimal, four digits each": its high byte, and then its low one
+unfoldable pub valueText : ℕ → List ℕ
+valueText value = hexadecimalOf (value / 256) ++ hexadecimalOf (value % 256)
+
+-- the value at a place of a list
+unfoldable pub valueTextAt : List ℕ → ℕ → List ℕ
+valueTextAt values place = valueText (getD values place 0)
+
+-- the elements behind the first, as many as the number says, each behind a hyphen
+abbrev pub furtherText : (ℕ → List ℕ) → ℕ → List ℕ
+furtherText element zero = []
+furtherText element (suc count) = furtherText element count ++ (0x2D ∷ element (suc count))
+
+-- the texts of so many elements "with hyphens between" them "(one hyphen for none)"
+abbrev pub hyphenated : (ℕ → List ℕ) → ℕ → List ℕ
+hyphenated element zero = 0x2D ∷ []
+hyphenated element (suc count) = element 0 ++ furtherText element count
+
+-- what stands behind the first elements, as many as the first number says, of the second: a hyphen where another follows; an inner contract cites it
+unfoldable pub hyphenBehind : ℕ → ℕ → List ℕ
+hyphenBehind done count = pick (ltb done count) (0x2D ∷ []) []
 
 -- "with hyphens between syllables (one hyphen for none)"
 abbrev pub keyText : ℕ → List ℕ → List ℕ
-keyText zero key = 0x2D ∷ []
-keyText (suc count) key = syllableText key 0 ++ furtherText count key
+keyText count key = hyphenated (syllableText key) count
+
+-- values "with hyphens between them, one hyphen for none"
+abbrev pub valuesText : List ℕ → List ℕ
+valuesText values = hyphenated (valueTextAt values) (length values)
 
 -- the most digits of a number of 64 bits in decimal
 abbrev pub decimalLimit : ℕ
@@ -56,3 +76,7 @@ syllableTextSize = 2 * weightCount
 -- the most bytes of a key's text: for each syllable its weights and a hyphen
 abbrev pub keyTextLimit : ℕ
 keyTextLimit = suc syllableTextSize * limit
+
+-- the bytes of a value's text: two digits for each byte
+abbrev pub valueTextSize : ℕ
+valueTextSize = 4

@@ -1,12 +1,12 @@
-// Numbers, keys and single bytes as text, written into a lent list at a place. Each function answers the place behind what it wrote.
+// Numbers, keys, values and single bytes as text, written into a lent list at a place. Each function answers the place behind what it wrote.
 use formula::Word;
-ghost use Prim.Native.Nat.{_+_, _≤_, _<_};
+ghost use Prim.Native.Nat.{suc, _+_, _*_, _≤_, _<_};
 ghost use mathlib.Core.Path.{_≡_};
 ghost use mathlib.Core.List.{[], _∷_};
 ghost use lib.ListN.{length};
 ghost use Rattle.formula.specs.Limits.{limit};
-ghost use Rattle.key_text.specs.Text.{digitOf, decimalOf, hexadecimalOf, syllableText, keyText};
-ghost use Rattle.key_text.specs.Text.{decimalLimit, syllableTextSize, keyTextLimit};
+ghost use Rattle.key_text.specs.Text.{digitOf, decimalOf, hexadecimalOf, hyphenBehind, syllableText, keyText, valueText, valuesText};
+ghost use Rattle.key_text.specs.Text.{decimalLimit, syllableTextSize, keyTextLimit, valueTextSize};
 ghost use Rattle.memory.specs.Put.{Put};
 
 // The most digits of a number in decimal.
@@ -72,6 +72,14 @@ fn put_syllable(out: &mut [u8], at: usize, key: &[u8; Word::KEY], syllable: usiz
     next
 }
 
+// A hyphen behind the first `done` elements of `count`, where another follows.
+fn put_hyphen(out: &mut [u8], at: usize, done: usize, count: usize) -> usize
+    requires { ⌜ at < length (now out) ⌝ }
+    ensures { λ r. ⌜ Put (now (out .entry)) at (hyphenBehind done count) (now (out .exit)) r ⌝ }
+{
+    if done < count { put(out, at, b'-') } else { at }
+}
+
 // A key of `count` syllables, with hyphens between them.
 pub fn put_key(out: &mut [u8], at: usize, count: usize, key: &[u8; Word::KEY]) -> usize
     requires { ⌜ (at + keyTextLimit ≤ length (now out)) × (count ≤ limit) ⌝ }
@@ -85,9 +93,34 @@ pub fn put_key(out: &mut [u8], at: usize, count: usize, key: &[u8; Word::KEY]) -
     while done < count {
         next = put_syllable(out, next, key, done);
         done += 1;
-        if done < count {
-            next = put(out, next, b'-');
-        }
+        next = put_hyphen(out, next, done, count);
+    }
+    next
+}
+
+// A value as four hexadecimal digits.
+fn put_value(out: &mut [u8], at: usize, value: u16) -> usize
+    requires { ⌜ at + valueTextSize ≤ length (now out) ⌝ }
+    ensures { λ r. ⌜ Put (now (out .entry)) at (valueText value) (now (out .exit)) r ⌝ }
+{
+    let next = put_hexadecimal(out, at, (value / 256) as u8);
+    put_hexadecimal(out, next, (value % 256) as u8)
+}
+
+// Values with hyphens between them.
+pub fn put_values(out: &mut [u8], at: usize, values: &[u16]) -> usize
+    requires { ⌜ (at + suc valueTextSize * length (now values) ≤ length (now out)) × (at < length (now out)) ⌝ }
+    ensures { λ r. ⌜ Put (now (out .entry)) at (valuesText (now (values .entry))) (now (out .exit)) r ⌝ }
+{
+    if values.len() == 0 {
+        return put(out, at, b'-');
+    }
+    let mut next = at;
+    let mut done = 0;
+    while done < values.len() {
+        next = put_value(out, next, values[done]);
+        done += 1;
+        next = put_hyphen(out, next, done, values.len());
     }
     next
 }
