@@ -1,4 +1,4 @@
--- Document 01, "The program `wordlist`": numbers and keys as text, in bytes.
+-- Document 01, "The program `wordlist`": numbers and keys as text, in bytes; and values as the program `labels` prints them.
 -- Assumes nothing.
 use mathlib.Core.List.{List, [], _∷_, _++_}
 use Prim.Native.Nat.{ℕ, zero, suc, _+_, _*_, _-_, _/_, _%_}
@@ -35,7 +35,7 @@ hexadecimalsOf (suc count) bytes from = hexadecimalsOf count bytes from ++ hexad
 unfoldable pub syllableText : List ℕ → ℕ → List ℕ
 syllableText key syllable = hexadecimalsOf weightCount key (usedBytes syllable)
 
--- a value "in upper-case hexadecimal, four digits each": its high byte, and then its low one
+-- a value in upper-case hexadecimal, four digits: those of its high byte, and then of its low one
 unfoldable pub valueText : ℕ → List ℕ
 valueText value = hexadecimalOf (value / 256) ++ hexadecimalOf (value % 256)
 
@@ -61,7 +61,7 @@ hyphenBehind done count = pick (ltb done count) (0x2D ∷ []) []
 abbrev pub keyText : ℕ → List ℕ → List ℕ
 keyText count key = hyphenated (syllableText key) count
 
--- values "with hyphens between them, one hyphen for none"
+-- values with hyphens between them, and one hyphen for none
 abbrev pub valuesText : List ℕ → List ℕ
 valuesText values = hyphenated (valueTextAt values) (length values)
 

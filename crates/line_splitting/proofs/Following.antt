@@ -6,6 +6,7 @@ use Prim.Native.Nat.{ℕ, _+_}
 use native.Mathlib.Omega.{arith}
 use lib.ListN.{length-append}
 use lib.Seq.{slice}
+use Rattle.line_printing.specs.declared.Task.{Task}
 use Rattle.line_splitting.specs.Lines.{cutFrom}
 use Rattle.line_splitting.specs.Taken.{none, Taken}
 use Rattle.line_splitting.specs.Following.{Follows, Goes, Passes}
@@ -14,18 +15,18 @@ use Rattle.line_splitting.proofs.Cutting.{joined, cut-append, cut-none}
 use Rattle.line_splitting.proofs.Taking.{prints-append}
 
 -- before the first byte
-pub follows-none : (pending : List ℕ) → Follows [] pending 0 0 []
-follows-none held = record {
+pub follows-none : (task : Task) (pending : List ℕ) → Follows task [] pending 0 0 []
+follows-none task pending = record {
   prints = rw (cut-none []) none;
   count = rw (cut-none []) refl;
   open-line = rw (cut-none []) (record { count = refl; bytes = refl });
 }
 
 -- a piece whose lines were taken
-pub follows-more : {bytes text chunk pending out pending-after out-after : List ℕ} {progress after : Progress}
-    → Follows bytes pending (progress .held) (progress .number) text → Taken chunk pending out progress pending-after out-after after
-    → Goes bytes (slice (progress .at) (after .at) chunk) text out (progress .used) pending-after out-after after
-follows-more {bytes} {text} {chunk} {pending} {out} {pending-after} {out-after} {progress} {after} f taken =
+pub follows-more : {task : Task} {bytes text chunk pending out pending-after out-after : List ℕ} {progress after : Progress}
+    → Follows task bytes pending (progress .held) (progress .number) text → Taken task chunk pending out progress pending-after out-after after
+    → Goes task bytes (slice (progress .at) (after .at) chunk) text out (progress .used) pending-after out-after after
+follows-more {task} {bytes} {text} {chunk} {pending} {out} {pending-after} {out-after} {progress} {after} f taken =
     let p = taken .printed (cutFrom [] bytes .open-line) (f .open-line) in
     let e : cutFrom [] (bytes ++ slice (progress .at) (after .at) chunk) ≡ joined (cutFrom [] bytes) (p .cut) = cut-append [] bytes (slice (progress .at) (after .at) chunk) ∙ ap (joined (cutFrom [] bytes)) (p .follows) in
     record {
@@ -38,9 +39,9 @@ follows-more {bytes} {text} {chunk} {pending} {out} {pending-after} {out-after} 
       };
     }
 
-pub taken-passes : {chunk pending out pending-after out-after : List ℕ} {progress after : Progress} → Taken chunk pending out progress pending-after out-after after
-    → Passes chunk pending out progress pending-after out-after after
-taken-passes {chunk} {pending} {out} {pending-after} {out-after} {progress} {after} taken = record {
+pub taken-passes : {task : Task} {chunk pending out pending-after out-after : List ℕ} {progress after : Progress} → Taken task chunk pending out progress pending-after out-after after
+    → Passes task chunk pending out progress pending-after out-after after
+taken-passes {task} {chunk} {pending} {out} {pending-after} {out-after} {progress} {after} taken = record {
   further = taken .further;
   within = taken .within;
   fits = taken .fits;

@@ -9,20 +9,20 @@ use native.Mathlib.Omega.{arith}
 use lib.ListN.{length, take, drop, length-append, length-take, length-drop, take-append-drop}
 use lib.Seq.{sets-eq, slice, slice-empty, take-all, take-take, take-add, length-take-le, drop-at, drop-drop, drop-append-le, drop-length}
 use borrow.Rule.Slice.PartMut.{midOf, putMid, post-is}
-use Rattle.collation.specs.declared.key.Key.{Key}
 use Rattle.memory.specs.Put.{Put, Written}
-use Rattle.printing.specs.Output.{LineRight, LinePut, printed, printedLimit}
+use Rattle.line_printing.specs.Printed.{Answers, LinePut, printed, printedLimit}
+use Rattle.line_printing.specs.declared.Task.{Task}
 use Rattle.line_splitting.specs.Taken.{heldLimit, Held, Holds, EndFound, Prints, none, more, Ready, Printed, Taken}
 use Rattle.line_splitting.specs.declared.Progress.{Progress}
 use Rattle.memory.proofs.Putting.{put-nothing, put-after}
 use Rattle.line_splitting.proofs.Cutting.{joined, cut-append, still, cut-none, plain-ends}
-use Rattle.printing.proofs.Answers.{line-kept}
+use Rattle.line_printing.proofs.Kept.{line-kept}
 
-pub prints-append : {number : ℕ} {lines further : List (List ℕ)} {text rest : List ℕ} (next : ℕ) → next ≡ number + length lines
-    → Prints number lines text → Prints next further rest → Prints number (lines ++ further) (text ++ rest)
-prints-append {number} {lines} {further} {text} {rest} next e none q = subst (λ (n : ℕ). Prints n further rest) (e ∙ add-zero number) q
-prints-append {number} {lines} {further} {text} {rest} next e (more key right p) q =
-    rw append-assoc (more key right (prints-append next (omega arith) p q))
+pub prints-append : {task : Task} {number : ℕ} {lines further : List (List ℕ)} {text rest : List ℕ} (next : ℕ) → next ≡ number + length lines
+    → Prints task number lines text → Prints task next further rest → Prints task number (lines ++ further) (text ++ rest)
+prints-append {task} {number} {lines} {further} {text} {rest} next e none q = subst (λ (n : ℕ). Prints task n further rest) (e ∙ add-zero number) q
+prints-append {task} {number} {lines} {further} {text} {rest} next e (more one right p) q =
+    rw append-assoc (more one right (prints-append next (omega arith) p q))
 
 pub slice-join : (l : List ℕ) (a b c : ℕ) → a ≤ b → b ≤ c → c ≤ length l → slice a c l ≡ slice a b l ++ slice b c l
 slice-join l a b c h k w =
@@ -60,17 +60,17 @@ module _ (out : List ℕ) (used : ℕ) (text after : List ℕ) (count : ℕ) (h 
       }
 
 -- one line, of which the first bytes were answered
-pub prints-one : (number : ℕ) (line pending : List ℕ) (held : ℕ) (key : Key) → Held pending held line → LineRight (take held pending) key
-    → Prints number (line ∷ []) (printed number (key .answer) (key .bytes))
-prints-one number line pending held key h right =
-    subst (λ (text : List ℕ). Prints number (line ∷ []) text) (append-nil (printed number (key .answer) (key .bytes)))
-    (more key (line-kept heldLimit (omega arith) line key (rw (h .bytes) at right)) none)
+pub prints-one : (task : Task) (number : ℕ) (line pending : List ℕ) (held : ℕ) (text : List ℕ) → Held pending held line → Answers task (take held pending) text
+    → Prints task number (line ∷ []) (printed number text)
+prints-one task number line pending held text h right =
+    subst (Prints task number (line ∷ [])) (append-nil (printed number text))
+    (more text (line-kept task heldLimit (omega arith) line text (rw (h .bytes) at right)) none)
 
 -- lines between two places, and lines from there on
-pub printed-more : {line chunk out pending-after out-after pending-last out-last : List ℕ} {start middle last : Progress}
-    → start .at ≤ middle .at → middle .at ≤ last .at → last .at ≤ length chunk → (p : Printed line chunk out start pending-after out-after middle)
-    → Printed (p .cut .open-line) chunk out-after middle pending-last out-last last → Printed line chunk out start pending-last out-last last
-printed-more {line} {chunk} {out} {pending-after} {out-after} {pending-last} {out-last} {start} {middle} {last} h k w p q = record {
+pub printed-more : {task : Task} {line chunk out pending-after out-after pending-last out-last : List ℕ} {start middle last : Progress}
+    → start .at ≤ middle .at → middle .at ≤ last .at → last .at ≤ length chunk → (p : Printed task line chunk out start pending-after out-after middle)
+    → Printed task (p .cut .open-line) chunk out-after middle pending-last out-last last → Printed task line chunk out start pending-last out-last last
+printed-more {task} {line} {chunk} {out} {pending-after} {out-after} {pending-last} {out-last} {start} {middle} {last} h k w p q = record {
   text = p .text ++ q .text;
   cut = joined (p .cut) (q .cut);
   follows =
@@ -82,10 +82,10 @@ printed-more {line} {chunk} {out} {pending-after} {out-after} {pending-last} {ou
 }
 
 -- a chunk that ends within a line: all of it is held
-pub taken-open : (chunk pending out : List ℕ) (progress : Progress) (pending-after : List ℕ) (end held : ℕ) → Ready chunk pending out progress
+pub taken-open : (task : Task) (chunk pending out : List ℕ) (progress : Progress) (pending-after : List ℕ) (end held : ℕ) → Ready chunk pending out progress
     → EndFound chunk (progress .at) end → Holds pending (progress .held) (midOf (progress .at) (end - progress .at) chunk) pending-after held → end ≡ length chunk
-    → Taken chunk pending out progress pending-after out (record { at = end; held = held; number = progress .number; used = progress .used })
-taken-open chunk pending out progress pending-after end held ready found holds whole = record {
+    → Taken task chunk pending out progress pending-after out (record { at = end; held = held; number = progress .number; used = progress .used })
+taken-open task chunk pending out progress pending-after end held ready found holds whole = record {
   forward = found .forward;
   further = λ h. omega arith;
   within = found .within;
@@ -104,13 +104,13 @@ taken-open chunk pending out progress pending-after end held ready found holds w
 }
 
 -- a line that ends in the chunk: it is printed, and the next one is open
-pub taken-ended : (chunk pending out : List ℕ) (progress : Progress) (pending-after rest : List ℕ) (end held count : ℕ) → Ready chunk pending out progress
+pub taken-ended : (task : Task) (chunk pending out : List ℕ) (progress : Progress) (pending-after rest : List ℕ) (end held count : ℕ) → Ready chunk pending out progress
     → EndFound chunk (progress .at) end → Holds pending (progress .held) (midOf (progress .at) (end - progress .at) chunk) pending-after held → end < length chunk
     → length rest ≡ length (midOf (progress .used) (length out - progress .used) out)
-    → LinePut (midOf (progress .used) (length out - progress .used) out) (progress .number + 1) (take held pending-after) rest count
-    → Taken chunk pending out progress pending-after (putMid (progress .used) (length out - progress .used) out rest)
+    → LinePut task (midOf (progress .used) (length out - progress .used) out) (progress .number + 1) (take held pending-after) rest count
+    → Taken task chunk pending out progress pending-after (putMid (progress .used) (length out - progress .used) out rest)
     (record { at = end + 1; held = 0; number = progress .number + 1; used = progress .used + count })
-taken-ended chunk pending out progress pending-after rest end held count ready found holds inside same line-put = record {
+taken-ended task chunk pending out progress pending-after rest end held count ready found holds inside same line-put = record {
   forward = omega (arith, found .forward);
   further = λ h. omega (arith, found .forward);
   within = omega arith;
@@ -118,11 +118,11 @@ taken-ended chunk pending out progress pending-after rest end held count ready f
   room = part-fits out (progress .used) _ rest count (omega (arith, ready .room)) same (line-put .written);
   fewer = omega (arith, found .forward);
   printed = λ line l. record {
-    text = printed (progress .number + 1) (line-put .key .answer) (line-put .key .bytes);
+    text = printed (progress .number + 1) (line-put .text);
     cut = record { ended = (line ++ slice (progress .at) end chunk) ∷ []; open-line = [] };
     follows = plain-ends chunk (progress .at) end (found .forward) inside (found .none) (found .there inside) line;
     prints =
-        prints-one (progress .number + 1) (line ++ slice (progress .at) end chunk) pending-after held (line-put .key)
+        prints-one task (progress .number + 1) (line ++ slice (progress .at) end chunk) pending-after held (line-put .text)
         (rw (part-slice chunk (progress .at) end (found .forward) (found .within)) at (holds .held line l)) (line-put .right);
     put = part-put out (progress .used) _ rest count (omega (arith, ready .room)) same (line-put .written);
     number = omega arith;
@@ -131,7 +131,7 @@ taken-ended chunk pending out progress pending-after rest end held count ready f
 }
 
 -- how far the loop over a chunk is
-pub record Along (chunk : List ℕ) (pending : List ℕ) (out : List ℕ) (start : Progress) (pending-after : List ℕ) (out-after : List ℕ) (reached : Progress) : Type 0 where
+pub record Along (task : Task) (chunk : List ℕ) (pending : List ℕ) (out : List ℕ) (start : Progress) (pending-after : List ℕ) (out-after : List ℕ) (reached : Progress) : Type 0 where
   pub forward : start .at ≤ reached .at
   pub within : reached .at ≤ length chunk
   pub fits : reached .held ≤ heldLimit
@@ -140,10 +140,10 @@ pub record Along (chunk : List ℕ) (pending : List ℕ) (out : List ℕ) (start
   pub moved : reached .at ≡ start .at → reached .used ≡ start .used
   pub same-pending : length pending-after ≡ length pending
   pub same-out : length out-after ≡ length out
-  pub along : (line : List ℕ) → Held pending (start .held) line → Printed line chunk out start pending-after out-after reached
+  pub along : (line : List ℕ) → Held pending (start .held) line → Printed task line chunk out start pending-after out-after reached
 
-pub along-none : (chunk pending out : List ℕ) (start : Progress) → Ready chunk pending out start → Along chunk pending out start pending out start
-along-none chunk pending out start ready = record {
+pub along-none : (task : Task) (chunk pending out : List ℕ) (start : Progress) → Ready chunk pending out start → Along task chunk pending out start pending out start
+along-none task chunk pending out start ready = record {
   forward = omega arith;
   within = ready .place;
   fits = ready .held;
@@ -163,7 +163,7 @@ along-none chunk pending out start ready = record {
   };
 }
 
-module _ {chunk pending out pending-after out-after : List ℕ} {start reached : Progress} (ready : Ready chunk pending out start) (a : Along chunk pending out start pending-after out-after reached) where
+module _ {task : Task} {chunk pending out pending-after out-after : List ℕ} {start reached : Progress} (ready : Ready chunk pending out start) (a : Along task chunk pending out start pending-after out-after reached) where
   pub along-ready : reached .used + printedLimit ≤ length out-after → Ready chunk pending-after out-after reached
   along-ready room = record {
     place = a .within;
@@ -173,8 +173,8 @@ module _ {chunk pending out pending-after out-after : List ℕ} {start reached :
     numbers = omega (arith, ready .numbers, a .fewer, a .forward);
   }
 
-  pub along-more : {pending-last out-last : List ℕ} {last : Progress} → reached .at < length chunk → Taken chunk pending-after out-after reached pending-last out-last last
-      → length pending-last ≡ length pending-after → length out-last ≡ length out-after → Along chunk pending out start pending-last out-last last
+  pub along-more : {pending-last out-last : List ℕ} {last : Progress} → reached .at < length chunk → Taken task chunk pending-after out-after reached pending-last out-last last
+      → length pending-last ≡ length pending-after → length out-last ≡ length out-after → Along task chunk pending out start pending-last out-last last
   along-more {pending-last} {out-last} {last} inside taken same-pending same-out =
       let further : reached .at < last .at = taken .further inside in
       record {
@@ -191,7 +191,7 @@ module _ {chunk pending out pending-after out-after : List ℕ} {start reached :
             printed-more (a .forward) (taken .forward) (taken .within) before (taken .printed (before .cut .open-line) (before .held));
       }
 
-  pub along-taken : (reached .at < length chunk → length out-after < reached .used + printedLimit) → Taken chunk pending out start pending-after out-after reached
+  pub along-taken : (reached .at < length chunk → length out-after < reached .used + printedLimit) → Taken task chunk pending out start pending-after out-after reached
   along-taken full = record {
     forward = a .forward;
     further = λ h. go (decLt (start .at) (reached .at)) h;

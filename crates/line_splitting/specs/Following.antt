@@ -6,28 +6,29 @@ use Prim.Native.Nat.{ℕ, _+_, _≤_, _<_}
 use lib.ListN.{length}
 use lib.Seq.{slice}
 use Rattle.memory.specs.Put.{Put}
+use Rattle.line_printing.specs.declared.Task.{Task}
 use Rattle.line_splitting.specs.Lines.{cutFrom}
 use Rattle.line_splitting.specs.Taken.{heldLimit, Held, Prints}
 use Rattle.line_splitting.specs.declared.Progress.{Progress}
 
 -- "line number from 1": the lines that ended are printed, and what is held is that of the line that is open
-pub record Follows (bytes : List ℕ) (pending : List ℕ) (held : ℕ) (number : ℕ) (text : List ℕ) : Type 0 where
-  pub prints : Prints 1 (cutFrom [] bytes .ended) text
+pub record Follows (task : Task) (bytes : List ℕ) (pending : List ℕ) (held : ℕ) (number : ℕ) (text : List ℕ) : Type 0 where
+  pub prints : Prints task 1 (cutFrom [] bytes .ended) text
   pub count : number ≡ length (cutFrom [] bytes .ended)
   pub open-line : Held pending held (cutFrom [] bytes .open-line)
 
 -- one more piece of the input: what is put into the output goes on with the text
-pub record Goes (bytes : List ℕ) (piece : List ℕ) (text : List ℕ) (out : List ℕ) (used : ℕ) (pending-after : List ℕ) (out-after : List ℕ) (after : Progress) : Type 0 where
+pub record Goes (task : Task) (bytes : List ℕ) (piece : List ℕ) (text : List ℕ) (out : List ℕ) (used : ℕ) (pending-after : List ℕ) (out-after : List ℕ) (after : Progress) : Type 0 where
   pub more : List ℕ
   pub put : Put out used more out-after (after .used)
-  pub follows : Follows (bytes ++ piece) pending-after (after .held) (after .number) (text ++ more)
+  pub follows : Follows task (bytes ++ piece) pending-after (after .held) (after .number) (text ++ more)
 
 -- the promise of passing lines of a chunk, whatever came before it
-pub record Passes (chunk : List ℕ) (pending : List ℕ) (out : List ℕ) (progress : Progress) (pending-after : List ℕ) (out-after : List ℕ) (after : Progress) : Type 0 where
+pub record Passes (task : Task) (chunk : List ℕ) (pending : List ℕ) (out : List ℕ) (progress : Progress) (pending-after : List ℕ) (out-after : List ℕ) (after : Progress) : Type 0 where
   pub further : progress .at < length chunk → progress .at < after .at
   pub within : after .at ≤ length chunk
   pub fits : after .held ≤ heldLimit
   pub room : after .used ≤ length out
   pub fewer : after .number + progress .at ≤ progress .number + after .at
-  pub goes : (bytes text : List ℕ) → Follows bytes pending (progress .held) (progress .number) text
-      → Goes bytes (slice (progress .at) (after .at) chunk) text out (progress .used) pending-after out-after after
+  pub goes : (bytes text : List ℕ) → Follows task bytes pending (progress .held) (progress .number) text
+      → Goes task bytes (slice (progress .at) (after .at) chunk) text out (progress .used) pending-after out-after after

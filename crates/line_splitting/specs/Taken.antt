@@ -6,9 +6,9 @@ use Prim.Native.Nat.{ℕ, suc, _+_, _≤_, _<_, _^_}
 use lib.ListN.{length, take, getD}
 use lib.Seq.{slice}
 use Rattle.formula.specs.Limits.{lineLimit}
-use Rattle.collation.specs.declared.key.Key.{Key}
 use Rattle.memory.specs.Put.{Put}
-use Rattle.printing.specs.Output.{LineRight, printed, printedLimit}
+use Rattle.line_printing.specs.Printed.{Answers, printed, printedLimit}
+use Rattle.line_printing.specs.declared.Task.{Task}
 use Rattle.line_splitting.specs.Lines.{Cut, cutFrom}
 use Rattle.line_splitting.specs.declared.Progress.{Progress}
 
@@ -34,10 +34,10 @@ pub record EndFound (chunk : List ℕ) (from : ℕ) (end : ℕ) : Type 0 where
   pub there : end < length chunk → getD chunk end 0 ≡ 0x0A
 
 -- what is printed for lines, one after the other, where the first has this number
-pub data Prints : ℕ → List (List ℕ) → List ℕ → Type 0 where
-  none : {number : ℕ} → Prints number [] []
-  more : {number : ℕ} {line : List ℕ} {lines : List (List ℕ)} {text : List ℕ} (key : Key) → LineRight line key
-      → Prints (number + 1) lines text → Prints number (line ∷ lines) (printed number (key .answer) (key .bytes) ++ text)
+pub data Prints (task : Task) : ℕ → List (List ℕ) → List ℕ → Type 0 where
+  none : {number : ℕ} → Prints task number [] []
+  more : {number : ℕ} {line : List ℕ} {lines : List (List ℕ)} {rest : List ℕ} (text : List ℕ) → Answers task line text
+      → Prints task (number + 1) lines rest → Prints task number (line ∷ lines) (printed number text ++ rest)
 
 -- what a run needs before it takes a line: the bytes that are held fit, the output has room for a line, and the line numbers do not run out
 pub record Ready (chunk : List ℕ) (pending : List ℕ) (out : List ℕ) (progress : Progress) : Type 0 where
@@ -48,21 +48,21 @@ pub record Ready (chunk : List ℕ) (pending : List ℕ) (out : List ℕ) (progr
   pub numbers : progress .number + length chunk < 2 ^ 64 + progress .at
 
 -- the lines that ended between two places of a chunk are printed, and what is held is that of the line that is open then
-pub record Printed (line : List ℕ) (chunk : List ℕ) (out : List ℕ) (progress : Progress) (pending-after : List ℕ) (out-after : List ℕ) (progress-after : Progress) : Type 0 where
+pub record Printed (task : Task) (line : List ℕ) (chunk : List ℕ) (out : List ℕ) (progress : Progress) (pending-after : List ℕ) (out-after : List ℕ) (progress-after : Progress) : Type 0 where
   pub text : List ℕ
   pub cut : Cut
   pub follows : cutFrom line (slice (progress .at) (progress-after .at) chunk) ≡ cut
-  pub prints : Prints (progress .number + 1) (cut .ended) text
+  pub prints : Prints task (progress .number + 1) (cut .ended) text
   pub put : Put out (progress .used) text out-after (progress-after .used)
   pub number : progress-after .number ≡ progress .number + length (cut .ended)
   pub held : Held pending-after (progress-after .held) (cut .open-line)
 
 -- the promise of taking lines, whatever line is open
-pub record Taken (chunk : List ℕ) (pending : List ℕ) (out : List ℕ) (progress : Progress) (pending-after : List ℕ) (out-after : List ℕ) (progress-after : Progress) : Type 0 where
+pub record Taken (task : Task) (chunk : List ℕ) (pending : List ℕ) (out : List ℕ) (progress : Progress) (pending-after : List ℕ) (out-after : List ℕ) (progress-after : Progress) : Type 0 where
   pub forward : progress .at ≤ progress-after .at
   pub further : progress .at < length chunk → progress .at < progress-after .at
   pub within : progress-after .at ≤ length chunk
   pub fits : progress-after .held ≤ heldLimit
   pub room : progress-after .used ≤ length out
   pub fewer : progress-after .number + progress .at ≤ progress .number + progress-after .at
-  pub printed : (line : List ℕ) → Held pending (progress .held) line → Printed line chunk out progress pending-after out-after progress-after
+  pub printed : (line : List ℕ) → Held pending (progress .held) line → Printed task line chunk out progress pending-after out-after progress-after

@@ -1,9 +1,10 @@
 // A chunk of input to lines. A line may begin in one chunk and end in another, so its first bytes are held beside the
 // chunk, pending.
 use formula::Word;
+use line_printing::PRINTED_LIMIT;
+use line_printing::Task;
+use line_printing::put_line;
 use memory::copies::put_bytes;
-use printing::PRINTED_LIMIT;
-use printing::put_line;
 ghost use Prim.Native.Nat.{_≤_};
 ghost use lib.ListN.{length};
 ghost use Rattle.line_splitting.specs.Taken.{heldLimit, EndFound, Holds, Ready, Taken};
@@ -48,9 +49,15 @@ fn hold(pending: &mut [u8], held: usize, part: &[u8]) -> usize
 }
 
 // Takes the open line to its end or to the chunk's, and prints it where it ended.
-fn take_line(chunk: &[u8], pending: &mut [u8], out: &mut [u8], progress: Progress) -> Progress
+fn take_line(
+    chunk: &[u8],
+    pending: &mut [u8],
+    out: &mut [u8],
+    progress: Progress,
+    task: Task,
+) -> Progress
     requires { ⌜ Ready (now chunk) (now pending) (now out) progress ⌝ }
-    ensures { λ r. ⌜ Taken (now (chunk .entry)) (now (pending .entry)) (now (out .entry)) progress (now (pending .exit)) (now (out .exit)) r ⌝ }
+    ensures { λ r. ⌜ Taken task (now (chunk .entry)) (now (pending .entry)) (now (out .entry)) progress (now (pending .exit)) (now (out .exit)) r ⌝ }
 {
     let at = progress.at;
     let number = progress.number;
@@ -65,7 +72,7 @@ fn take_line(chunk: &[u8], pending: &mut [u8], out: &mut [u8], progress: Progres
             used,
         };
     }
-    let printed = put_line(&mut out[used..], number + 1, &pending[..held]);
+    let printed = put_line(&mut out[used..], number + 1, &pending[..held], task);
     Progress {
         at: end + 1,
         held: 0,
@@ -75,13 +82,19 @@ fn take_line(chunk: &[u8], pending: &mut [u8], out: &mut [u8], progress: Progres
 }
 
 // Takes lines from a place of the chunk until the chunk is used up or the output has no room for one more.
-pub fn pass_chunk(chunk: &[u8], pending: &mut [u8], out: &mut [u8], progress: Progress) -> Progress
+pub fn pass_chunk(
+    chunk: &[u8],
+    pending: &mut [u8],
+    out: &mut [u8],
+    progress: Progress,
+    task: Task,
+) -> Progress
     requires { ⌜ Ready (now chunk) (now pending) (now out) progress ⌝ }
-    ensures { λ r. ⌜ Passes (now (chunk .entry)) (now (pending .entry)) (now (out .entry)) progress (now (pending .exit)) (now (out .exit)) r ⌝ }
+    ensures { λ r. ⌜ Passes task (now (chunk .entry)) (now (pending .entry)) (now (out .entry)) progress (now (pending .exit)) (now (out .exit)) r ⌝ }
 {
     let mut reached = progress;
     while reached.at < chunk.len() && reached.used + PRINTED_LIMIT <= out.len() {
-        reached = take_line(chunk, pending, out, reached);
+        reached = take_line(chunk, pending, out, reached, task);
     }
     reached
 }

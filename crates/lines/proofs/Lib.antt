@@ -4,3 +4,5 @@ pub mod Passing
 pub mod RoundTrip
 pub mod Words
 pub mod Determined
+pub mod Kept
+pub mod Told

@@ -9,7 +9,8 @@ use lib.ListN.{length, take, drop, length-append}
 use lib.Seq.{sets-eq}
 use Rattle.memory.specs.Put.{Put, Written}
 use Rattle.memory.proofs.Putting.{put-nothing}
-use Rattle.printing.specs.Output.{LinePut, printed}
+use Rattle.line_printing.specs.Printed.{LinePut, printed}
+use Rattle.line_printing.specs.declared.Task.{Task}
 use Rattle.line_splitting.specs.Lines.{cutFrom, lastLine}
 use Rattle.line_splitting.specs.Taken.{Held, none}
 use Rattle.line_splitting.specs.Following.{Follows}
@@ -40,8 +41,8 @@ written-put {before} {text} {after} {used} same w =
       next = front;
     }
 
-module _ {bytes text pending : List ℕ} {held number : ℕ} (f : Follows bytes pending held number text) (out : List ℕ) where
-  pub comes-none : held ≡ 0 → Comes bytes text out 0 out 0
+module _ {task : Task} {bytes text pending : List ℕ} {held number : ℕ} (f : Follows task bytes pending held number text) (out : List ℕ) where
+  pub comes-none : held ≡ 0 → Comes task bytes text out 0 out 0
   comes-none empty = record {
     last = [];
     put = put-nothing out 0;
@@ -49,11 +50,11 @@ module _ {bytes text pending : List ℕ} {held number : ℕ} (f : Follows bytes 
   }
 
   pub comes-line : {out-after : List ℕ} {ready : ℕ} → (held ≡ 0 → ⊥) → length out-after ≡ length out
-      → LinePut out (number + 1) (take held pending) out-after ready → Comes bytes text out 0 out-after ready
+      → LinePut task out (number + 1) (take held pending) out-after ready → Comes task bytes text out 0 out-after ready
   comes-line {out-after} {ready} nonzero same line-put = record {
-    last = printed (number + 1) (line-put .key .answer) (line-put .key .bytes);
+    last = printed (number + 1) (line-put .text);
     put = written-put same (line-put .written);
     prints =
         prints-append (number + 1) (omega (arith, f .count)) (f .prints)
-        (rw (last-one pending (cutFrom [] bytes .open-line) held nonzero (f .open-line)) (prints-one (number + 1) (cutFrom [] bytes .open-line) pending held (line-put .key) (f .open-line) (line-put .right)));
+        (rw (last-one pending (cutFrom [] bytes .open-line) held nonzero (f .open-line)) (prints-one task (number + 1) (cutFrom [] bytes .open-line) pending held (line-put .text) (f .open-line) (line-put .right)));
   }

@@ -6,6 +6,7 @@ use Prim.Native.Nat.{ℕ, _+_, _*_, _-_, _≤_, _<_, _^_}
 use native.Mathlib.Omega.{arith}
 use lib.ListN.{length, take, drop, take-append-drop}
 use lib.Seq.{slice, take-all, take-take, length-take-le}
+use Rattle.line_printing.specs.declared.Task.{Task}
 use Rattle.line_splitting.specs.Taken.{heldLimit, Ready}
 use Rattle.line_splitting.specs.Following.{Follows, Passes}
 use Rattle.line_splitting.specs.declared.Progress.{Progress}
@@ -16,17 +17,17 @@ use Rattle.listing.specs.declared.running.OpenLine.{OpenLine}
 abbrev pub opening : OpenLine → Progress
 opening current = record { at = 0; held = current .held; number = current .number; used = 0 }
 
-answered-none : {bytes text pending : List ℕ} {held number : ℕ} → Follows bytes pending held number text → Answered bytes [] text pending held number
-answered-none {bytes} {text} {pending} {held} {number} f = record { written = []; follows = rw (append-nil bytes, append-nil text) f }
+answered-none : {task : Task} {bytes text pending : List ℕ} {held number : ℕ} → Follows task bytes pending held number text → Answered task bytes [] text pending held number
+answered-none {task} {bytes} {text} {pending} {held} {number} f = record { written = []; follows = rw (append-nil bytes, append-nil text) f }
 
 take-further : (l : List ℕ) (from to : ℕ) → from ≤ to → take from l ++ slice from to l ≡ take to l
 take-further l from to h = ap (λ (m : List ℕ). m ++ drop from (take to l)) (sym (take-take from to l h)) ∙ take-append-drop from (take to l)
 
 -- one more part of a chunk, whose text was written
-answered-more : {bytes text chunk pending out pending-next out-next : List ℕ} {reached next : Progress} → reached .at ≤ next .at
-    → Answered bytes (take (reached .at) chunk) text pending (reached .held) (reached .number) → Passes chunk pending out reached pending-next out-next next
-    → Answered bytes (take (next .at) chunk) text pending-next (next .held) (next .number)
-answered-more {bytes} {text} {chunk} {pending} {out} {pending-next} {out-next} {reached} {next} h a passes =
+answered-more : {task : Task} {bytes text chunk pending out pending-next out-next : List ℕ} {reached next : Progress} → reached .at ≤ next .at
+    → Answered task bytes (take (reached .at) chunk) text pending (reached .held) (reached .number) → Passes task chunk pending out reached pending-next out-next next
+    → Answered task bytes (take (next .at) chunk) text pending-next (next .held) (next .number)
+answered-more {task} {bytes} {text} {chunk} {pending} {out} {pending-next} {out-next} {reached} {next} h a passes =
     let goes = passes .goes _ _ (a .follows) in
     record {
       written = a .written ++ goes .more;
@@ -34,19 +35,19 @@ answered-more {bytes} {text} {chunk} {pending} {out} {pending-next} {out-next} {
     }
 
 -- how far a chunk is
-pub record Passing (chunk : List ℕ) (pending : List ℕ) (out : List ℕ) (start : Progress) (pending-now : List ℕ) (out-now : List ℕ) (reached : Progress) : Type 0 where
+pub record Passing (task : Task) (chunk : List ℕ) (pending : List ℕ) (out : List ℕ) (start : Progress) (pending-now : List ℕ) (out-now : List ℕ) (reached : Progress) : Type 0 where
   pub within : reached .at ≤ length chunk
   pub held : reached .held ≤ heldLimit
   pub empty : reached .used ≡ 0
   pub fewer : reached .number ≤ start .number + reached .at
   pub same-pending : length pending-now ≡ length pending
   pub same-out : length out-now ≡ length out
-  pub answered : (bytes text : List ℕ) → Follows bytes pending (start .held) (start .number) text
-      → Answered bytes (take (reached .at) chunk) text pending-now (reached .held) (reached .number)
+  pub answered : (bytes text : List ℕ) → Follows task bytes pending (start .held) (start .number) text
+      → Answered task bytes (take (reached .at) chunk) text pending-now (reached .held) (reached .number)
 
-pub passing-none : {chunk pending out : List ℕ} {current : OpenLine} → ChunkReady chunk pending out current
-    → Passing chunk pending out (opening current) pending out (opening current)
-passing-none {chunk} {pending} {out} {current} ready = record {
+pub passing-none : {task : Task} {chunk pending out : List ℕ} {current : OpenLine} → ChunkReady chunk pending out current
+    → Passing task chunk pending out (opening current) pending out (opening current)
+passing-none {task} {chunk} {pending} {out} {current} ready = record {
   within = omega arith;
   held = ready .held;
   empty = refl;
@@ -56,7 +57,7 @@ passing-none {chunk} {pending} {out} {current} ready = record {
   answered = λ bytes text f. answered-none f;
 }
 
-module _ {chunk pending out pending-now out-now : List ℕ} {current : OpenLine} {reached : Progress} (ready : ChunkReady chunk pending out current) (p : Passing chunk pending out (opening current) pending-now out-now reached) where
+module _ {task : Task} {chunk pending out pending-now out-now : List ℕ} {current : OpenLine} {reached : Progress} (ready : ChunkReady chunk pending out current) (p : Passing task chunk pending out (opening current) pending-now out-now reached) where
   pub passing-ready : Ready chunk pending-now out-now reached
   passing-ready = record {
     place = p .within;
@@ -67,9 +68,9 @@ module _ {chunk pending out pending-now out-now : List ℕ} {current : OpenLine}
   }
 
   -- lines are passed, and all that is ready is written
-  pub passing-more : {pending-next out-next : List ℕ} {next : Progress} (used : ℕ) → Passes chunk pending-now out-now reached pending-next out-next next
+  pub passing-more : {pending-next out-next : List ℕ} {next : Progress} (used : ℕ) → Passes task chunk pending-now out-now reached pending-next out-next next
       → reached .at < length chunk → length pending-next ≡ length pending-now → length out-next ≡ length out-now → used ≡ 0
-      → Passing chunk pending out (opening current) pending-next out-next (record { at = next .at; held = next .held; number = next .number; used = used })
+      → Passing task chunk pending out (opening current) pending-next out-next (record { at = next .at; held = next .held; number = next .number; used = used })
   passing-more {pending-next} {out-next} {next} used passes inside same-pending same-out empty =
       let further : reached .at < next .at = passes .further inside in
       record {
@@ -82,7 +83,7 @@ module _ {chunk pending out pending-now out-now : List ℕ} {current : OpenLine}
         answered = λ bytes text f. answered-more (omega arith) (p .answered bytes text f) passes;
       }
 
-  pub passing-whole : length chunk ≤ reached .at → Onward chunk pending current pending-now (record { held = reached .held; number = reached .number })
+  pub passing-whole : length chunk ≤ reached .at → Onward task chunk pending current pending-now (record { held = reached .held; number = reached .number })
   passing-whole over = record {
     held = p .held;
     numbers = omega (arith, p .fewer, p .within);
@@ -94,7 +95,7 @@ abbrev bufferSize : ℕ
 bufferSize = 65536
 
 -- between two reads: each of the calls that are left brings no more lines than a chunk has bytes, and what was printed follows the bytes so far
-pub record Going (chunk : List ℕ) (pending : List ℕ) (out : List ℕ) (current : OpenLine) (calls : ℕ) : Type 0 where
+pub record Going (task : Task) (chunk : List ℕ) (pending : List ℕ) (out : List ℕ) (current : OpenLine) (calls : ℕ) : Type 0 where
   pub chunk-size : bufferSize ≡ length chunk
   pub pending-size : heldLimit ≡ length pending
   pub out-size : bufferSize ≡ length out
@@ -102,9 +103,9 @@ pub record Going (chunk : List ℕ) (pending : List ℕ) (out : List ℕ) (curre
   pub numbers : current .number + bufferSize * calls < 2 ^ 63
   pub bytes : List ℕ
   pub text : List ℕ
-  pub follows : Follows bytes pending (current .held) (current .number) text
+  pub follows : Follows task bytes pending (current .held) (current .number) text
 
-module _ {chunk pending out : List ℕ} {current : OpenLine} {calls : ℕ} (going : Going chunk pending out current calls) where
+module _ {task : Task} {chunk pending out : List ℕ} {current : OpenLine} {calls : ℕ} (going : Going task chunk pending out current calls) where
   pub going-end : EndReady pending out current
   going-end = record {
     fits = omega (arith, going .held, going .pending-size);
@@ -121,8 +122,8 @@ module _ {chunk pending out : List ℕ} {current : OpenLine} {calls : ℕ} (goin
       numbers = omega (arith, length-take-le count chunk-next within, going .chunk-size, going .numbers);
     }
 
-    pub going-on : {pending-next out-next : List ℕ} {next : OpenLine} → 0 < calls → Onward (take count chunk-next) pending current pending-next next
-        → length pending-next ≡ length pending → length out-next ≡ length out → Going chunk-next pending-next out-next next (calls - 1)
+    pub going-on : {pending-next out-next : List ℕ} {next : OpenLine} → 0 < calls → Onward task (take count chunk-next) pending current pending-next next
+        → length pending-next ≡ length pending → length out-next ≡ length out → Going task chunk-next pending-next out-next next (calls - 1)
     going-on {pending-next} {out-next} {next} left onward same-pending same-out =
         let answered = onward .answered (going .bytes) (going .text) (going .follows) in
         record {

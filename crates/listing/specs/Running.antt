@@ -11,7 +11,8 @@ use Rattle.letters.specs.Choice.{pick}
 use Rattle.io.specs.Counts.{clamped}
 use Rattle.libc.specs.Io.{Moved}
 use Rattle.memory.specs.Put.{Put}
-use Rattle.printing.specs.Output.{printedLimit}
+use Rattle.line_printing.specs.Printed.{printedLimit}
+use Rattle.line_printing.specs.declared.Task.{Task}
 use Rattle.line_splitting.specs.Lines.{linesOf}
 use Rattle.line_splitting.specs.Taken.{heldLimit, Prints}
 use Rattle.line_splitting.specs.Following.{Follows}
@@ -48,21 +49,21 @@ pub record ChunkReady (chunk : List ℕ) (pending : List ℕ) (out : List ℕ) (
   pub numbers : current .number + length chunk < 2 ^ 64
 
 -- one more piece of the input: what is printed for the lines that ended in it goes on with the text
-pub record Answered (bytes : List ℕ) (piece : List ℕ) (text : List ℕ) (pending-after : List ℕ) (held : ℕ) (number : ℕ) : Type 0 where
+pub record Answered (task : Task) (bytes : List ℕ) (piece : List ℕ) (text : List ℕ) (pending-after : List ℕ) (held : ℕ) (number : ℕ) : Type 0 where
   pub written : List ℕ
-  pub follows : Follows (bytes ++ piece) pending-after held number (text ++ written)
+  pub follows : Follows task (bytes ++ piece) pending-after held number (text ++ written)
 
 -- the promise of a chunk, whatever came before it
-pub record Onward (chunk : List ℕ) (pending : List ℕ) (current : OpenLine) (pending-after : List ℕ) (after : OpenLine) : Type 0 where
+pub record Onward (task : Task) (chunk : List ℕ) (pending : List ℕ) (current : OpenLine) (pending-after : List ℕ) (after : OpenLine) : Type 0 where
   pub held : after .held ≤ heldLimit
   pub numbers : after .number ≤ current .number + length chunk
-  pub answered : (bytes text : List ℕ) → Follows bytes pending (current .held) (current .number) text
-      → Answered bytes chunk text pending-after (after .held) (after .number)
+  pub answered : (bytes text : List ℕ) → Follows task bytes pending (current .held) (current .number) text
+      → Answered task bytes chunk text pending-after (after .held) (after .number)
 
 -- a write that failed ends the run
-abbrev pub Answers : List ℕ → List ℕ → OpenLine → List ℕ → Passed → Type 0
-Answers chunk pending current pending-after (Whole after) = Onward chunk pending current pending-after after
-Answers chunk pending current pending-after Stopped = Unit {0}
+abbrev pub ChunkAnswers : Task → List ℕ → List ℕ → OpenLine → List ℕ → Passed → Type 0
+ChunkAnswers task chunk pending current pending-after (Whole after) = Onward task chunk pending current pending-after after
+ChunkAnswers task chunk pending current pending-after Stopped = Unit {0}
 
 -- what the end of an input needs
 pub record EndReady (pending : List ℕ) (out : List ℕ) (current : OpenLine) : Type 0 where
@@ -71,10 +72,10 @@ pub record EndReady (pending : List ℕ) (out : List ℕ) (current : OpenLine) :
   pub numbers : current .number + 1 < 2 ^ 64
 
 -- the end of the input: the text is that of all its lines
-pub record Comes (bytes : List ℕ) (text : List ℕ) (out : List ℕ) (used : ℕ) (out-after : List ℕ) (used-after : ℕ) : Type 0 where
+pub record Comes (task : Task) (bytes : List ℕ) (text : List ℕ) (out : List ℕ) (used : ℕ) (out-after : List ℕ) (used-after : ℕ) : Type 0 where
   pub last : List ℕ
   pub put : Put out used last out-after used-after
-  pub prints : Prints 1 (linesOf bytes) (text ++ last)
+  pub prints : Prints task 1 (linesOf bytes) (text ++ last)
 
 -- nothing is ready, and the output is as it was
 pub record Silent (out : List ℕ) (out-after : List ℕ) (ready : ℕ) : Type 0 where
@@ -83,14 +84,14 @@ pub record Silent (out : List ℕ) (out-after : List ℕ) (ready : ℕ) : Type 0
 
 -- "a last line without it counts if it has a byte": at the end of the input what is ready completes the text of all lines, whatever came before; where a
 -- read failed, nothing is ready
-abbrev pub Finished : Transfer → List ℕ → List ℕ → OpenLine → List ℕ → ℕ → Type 0
-Finished End pending out current out-after ready =
-    (bytes text : List ℕ) → Follows bytes pending (current .held) (current .number) text → Comes bytes text out 0 out-after ready
-Finished Failed pending out current out-after ready = Silent out out-after ready
-Finished Interrupted pending out current out-after ready = Silent out out-after ready
-Finished (Bytes count) pending out current out-after ready = Silent out out-after ready
+abbrev pub Finished : Task → Transfer → List ℕ → List ℕ → OpenLine → List ℕ → ℕ → Type 0
+Finished task End pending out current out-after ready =
+    (bytes text : List ℕ) → Follows task bytes pending (current .held) (current .number) text → Comes task bytes text out 0 out-after ready
+Finished task Failed pending out current out-after ready = Silent out out-after ready
+Finished task Interrupted pending out current out-after ready = Silent out out-after ready
+Finished task (Bytes count) pending out current out-after ready = Silent out out-after ready
 
 -- the promise at the end of an input
-pub record Finishes (input : Transfer) (pending : List ℕ) (out : List ℕ) (current : OpenLine) (out-after : List ℕ) (ready : ℕ) : Type 0 where
+pub record Finishes (task : Task) (input : Transfer) (pending : List ℕ) (out : List ℕ) (current : OpenLine) (out-after : List ℕ) (ready : ℕ) : Type 0 where
   pub within : ready ≤ length out
-  pub right : Finished input pending out current out-after ready
+  pub right : Finished task input pending out current out-after ready

@@ -2,13 +2,14 @@
 use libc::EINTR;
 use libc::STDIN_FILENO;
 use libc::STDOUT_FILENO;
+use line_printing::Task;
+use line_printing::put_line;
 use line_splitting::HELD_LIMIT;
 use line_splitting::Progress;
 use line_splitting::pass_chunk;
-use printing::put_line;
 ghost use mathlib.Core.Path.{_≡_};
 ghost use lib.ListN.{length};
-ghost use Rattle.listing.specs.Running.{transferOf, Reads, EndReady, Finishes, ChunkReady, Answers};
+ghost use Rattle.listing.specs.Running.{transferOf, Reads, EndReady, Finishes, ChunkReady, ChunkAnswers};
 
 // A proved loop has to end, and nothing says that the input does. So the loops over calls count down, from a number that no run uses
 // up: at a microsecond a call it lasts two years.
@@ -91,9 +92,15 @@ fn write_whole(bytes: &[u8]) -> bool {
 }
 
 // Takes all lines of a chunk, and writes what is printed for them.
-fn answer_chunk(chunk: &[u8], pending: &mut [u8], out: &mut [u8], current: OpenLine) -> Passed
+fn answer_chunk(
+    chunk: &[u8],
+    pending: &mut [u8],
+    out: &mut [u8],
+    current: OpenLine,
+    task: Task,
+) -> Passed
     requires { ⌜ ChunkReady (now chunk) (now pending) (now out) current ⌝ }
-    ensures { λ r. ⌜ Answers (now (chunk .entry)) (now (pending .entry)) current (now (pending .exit)) r ⌝ }
+    ensures { λ r. ⌜ ChunkAnswers task (now (chunk .entry)) (now (pending .entry)) current (now (pending .exit)) r ⌝ }
 {
     let mut reached = Progress {
         at: 0,
@@ -102,7 +109,7 @@ fn answer_chunk(chunk: &[u8], pending: &mut [u8], out: &mut [u8], current: OpenL
         used: 0,
     };
     while reached.at < chunk.len() {
-        reached = pass_chunk(chunk, pending, out, reached);
+        reached = pass_chunk(chunk, pending, out, reached, task);
         let used = reached.used;
         if !write_whole(&out[..used]) {
             return Passed::Stopped;
@@ -117,9 +124,9 @@ fn answer_chunk(chunk: &[u8], pending: &mut [u8], out: &mut [u8], current: OpenL
 
 // Prints the open line at the end of the input, where it has a byte, and answers how many bytes are ready to be written. A line that a
 // failed read broke off is not printed.
-fn finish(input: Transfer, pending: &[u8], out: &mut [u8], current: OpenLine) -> usize
+fn finish(input: Transfer, pending: &[u8], out: &mut [u8], current: OpenLine, task: Task) -> usize
     requires { ⌜ EndReady (now pending) (now out) current ⌝ }
-    ensures { λ r. ⌜ Finishes input (now (pending .entry)) (now (out .entry)) current (now (out .exit)) r ⌝ }
+    ensures { λ r. ⌜ Finishes task input (now (pending .entry)) (now (out .entry)) current (now (out .exit)) r ⌝ }
 {
     let held = current.held;
     let Transfer::End = input else {
@@ -128,16 +135,16 @@ fn finish(input: Transfer, pending: &[u8], out: &mut [u8], current: OpenLine) ->
     if held == 0 {
         return 0;
     }
-    put_line(out, current.number + 1, &pending[..held])
+    put_line(out, current.number + 1, &pending[..held], task)
 }
 
-// Runs a list to its end. What is printed for the lines of a chunk is written before the next read, so that at a terminal and at the
+// Runs a list to its end, with the same asked of each line. What is printed for the lines of a chunk is written before the next read, so that at a terminal and at the
 // other end of a pipe each line is answered at once.
 //
 // What has no promise are the two system calls, since no contract can say what a read brings or a write takes: that the bytes of the
 // reads are those that are passed on, and the bytes made ready those that are written, is to be read here, in `answer_chunk`, in
 // `read_chunk` and in `write_whole`.
-pub fn run() {
+pub fn run(task: Task) {
     let mut chunk = io::large_buffer();
     let mut pending = [0; HELD_LIMIT];
     let mut out = io::large_buffer();
@@ -146,11 +153,11 @@ pub fn run() {
     while 0 < calls {
         let input = read_chunk(&mut chunk);
         let Transfer::Bytes(count) = input else {
-            let ready = finish(input, &pending, &mut out, current);
+            let ready = finish(input, &pending, &mut out, current, task);
             write_whole(&out[..ready]);
             return;
         };
-        let passed = answer_chunk(&chunk[..count], &mut pending, &mut out, current);
+        let passed = answer_chunk(&chunk[..count], &mut pending, &mut out, current, task);
         let Passed::Whole(next) = passed else {
             return;
         };

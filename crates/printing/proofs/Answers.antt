@@ -1,14 +1,10 @@
--- What is printed for a line is its fields one behind the other; what a line is answered goes by its decoding.
+-- What a line is answered goes by its decoding, and the first bytes of a line that is too long are answered as the line.
 -- Assumes nothing.
-use mathlib.Core.Path.{_≡_, refl, subst}
-use mathlib.Core.List.{List, [], _∷_, _++_}
-use Prim.Native.Nat.{ℕ, _≤_, _<_, _^_}
-use native.Mathlib.Omega.{arith}
-use native.Mathlib.Decide.{decLe}
-use lib.ListN.{length, take, length-append}
-use lib.Seq.{take-all, length-take-le}
+use mathlib.Core.Path.{_≡_, refl}
+use mathlib.Core.List.{List}
+use Prim.Native.Nat.{ℕ, _<_}
+use lib.ListN.{take}
 use Rattle.formula.specs.Limits.{lineLimit}
-use Rattle.formula.proofs.Held.{held-front, held-fits}
 use Rattle.weighing.specs.Keys.{keyLimit, zeros}
 use Rattle.refusals.specs.Outcome.{outcomeOf}
 use Rattle.refusals.specs.declared.Refusal.{Refusal}
@@ -17,72 +13,48 @@ use Rattle.refusals.specs.declared.Counted.the-variants.{Count, Refused}
 use Rattle.recogniser.proofs.Counted.{count-limit}
 use Rattle.storage.specs.Stored.{storedForm}
 use Rattle.normaliser.specs.Normal.{StoreAnswers}
-use Rattle.lines.specs.Line.{too-long, faulty-three, LineHolds, LineAnswers, DecodeRight}
+use Rattle.lines.specs.Line.{Decodes, LineRefused, DecodeRight}
 use Rattle.lines.specs.declared.Decoded.{Decoded}
+use Rattle.lines.proofs.Kept.{decodes-kept, refused-kept}
+use Rattle.lines.proofs.Told.{told-refusal}
 use Rattle.collation.specs.Keyed.{KeyRight}
 use Rattle.collation.specs.declared.key.Key.{Key}
-use Rattle.key_text.specs.Text.{decimalOf}
-use Rattle.memory.specs.Put.{Put, PutWithin, Written}
-use Rattle.printing.specs.Output.{answerText, printed, answerTextLimit, printedLimit, Printable, KeyOfLine, of-values, line-refused, LineRight}
-use Rattle.memory.proofs.Putting.{put-after, put-front}
-use Rattle.key_text.proofs.Decimal.{decimal-short}
-
--- the bytes behind the number of a refused line
-pub refused-short : (number place : ℕ) → number < 2 ^ 64 → place < 2 ^ 64
-    → length ((0x4E ∷ 0x4F ∷ 0x20 ∷ decimalOf number) ++ (0x20 ∷ decimalOf place)) ≤ answerTextLimit
-refused-short number place h k = simp length-append (omega (arith, decimal-short number h, decimal-short place k))
-
-pub answer-written : {a b c d e text : List ℕ} {i j k l : ℕ} (number : ℕ) (answer : Counted) (key : List ℕ) → text ≡ answerText answer key → number < 2 ^ 64
-    → printedLimit ≤ length a → Put a 0 (decimalOf number) b i → Put b i (0x20 ∷ []) c j → PutWithin answerTextLimit c j text d k → Put d k (0x0A ∷ []) e l
-    → Written a (printed number answer key) e l
-unfolding printed
-answer-written {a} {b} {c} {d} {e} {text} {i} {j} {k} {l} number answer key is fits room p q r s =
-    rw (← is)
-    (put-front (simp length-append (omega (arith, decimal-short number fits, r .short)))
-    (put-after (put-after p (put-after q (r .put))) s))
+use Rattle.memory.specs.Put.{PutWithin}
+use Rattle.answer_text.specs.Answer.{answerTextLimit, AnswerPut}
+use Rattle.printing.specs.Output.{answerText, Printable, KeyOfLine, of-values, line-refused, LineRight, WordText}
 
 -- no word has more syllables than values
-pub key-printable : (word : List ℕ) (key : Key) → KeyRight word key → Printable (key .answer)
+key-printable : (word : List ℕ) (key : Key) → KeyRight word key → Printable (key .answer)
 key-printable word key right = go (key .answer) (right .answers)
   where
     go : (answer : Counted) → StoreAnswers word (outcomeOf answer) → Printable answer
     go (Count count) stores = count-limit (storedForm word) count (stores .reads)
     go (Refused refusal) stores = tt
 
--- what decoding tells of a line that is refused, and of one that has values
-module _ (line : List ℕ) (decoded : Decoded) (right : DecodeRight line decoded) where
-  pub refused-right : (refusal : Refusal) → decoded .answer ≡ Refused refusal → LineRight line (record { answer = Refused refusal; bytes = zeros keyLimit })
-  refused-right refusal e =
-      let told = subst (λ (a : Counted). LineAnswers line (outcomeOf a) (decoded .word)) e right in
-      record { right = line-refused (told .0) refl refl; printable = tt }
+-- what decoding tells of a line that is refused
+pub refused-right : (line : List ℕ) (decoded : Decoded) → DecodeRight line decoded → (refusal : Refusal) → decoded .answer ≡ Refused refusal
+    → LineRight line (record { answer = Refused refusal; bytes = zeros keyLimit })
+refused-right line decoded right refusal e = record { right = line-refused (told-refusal line decoded right refusal e) refl refl; printable = tt }
 
-  module _ (n : ℕ) (e : decoded .answer ≡ Count n) where
-    pub line-holds : LineHolds line n (decoded .word)
-    line-holds = subst (λ (a : Counted). LineAnswers line (outcomeOf a) (decoded .word)) e right
+-- and of one that has values
+pub values-right : {line word : List ℕ} {key : Key} → Decodes line word → KeyRight word key → LineRight line key
+values-right {line} {word} {key} d k = record { right = of-values d k; printable = key-printable word key k }
 
-    pub word-fits : decoded .word .count ≤ length (decoded .word .values)
-    word-fits = held-fits (decoded .word) (line-holds .word) (line-holds .is)
-
-    pub values-right : (key : Key) → KeyRight (take (decoded .word .count) (decoded .word .values)) key → LineRight line key
-    values-right key k =
-        let h = subst (λ (l : List ℕ). KeyRight l key) (held-front (decoded .word) (line-holds .word) (line-holds .is)) k in
-        record { right = of-values (line-holds .decodes) h; printable = key-printable (line-holds .word) key h }
+-- what is put for a line by its key
+pub word-put : {line before text after : List ℕ} {at end : ℕ} {key : Key} → LineRight line key → text ≡ answerText (key .answer) (key .bytes)
+    → PutWithin answerTextLimit before at text after end → AnswerPut (WordText line) before at after end
+word-put {line} {before} {text} {after} {at} {end} {key} right is put =
+    record { text = text; right = record { key = key; right = right; is = is }; put = put }
 
 -- the first bytes of a line, more than a line may have, are answered as the line
-module _ (most : ℕ) (over : lineLimit < most) (line : List ℕ) (key : Key) where
-  long-kept : most < length line → KeyOfLine (take most line) key → KeyOfLine line key
-  long-kept more (of-values d k) =
-      let h = d .short in
-      let z : ⊥ = omega (arith, length-take-le most line (omega arith)) in
-      absurd z
-  long-kept more (line-refused (too-long h) e b) = line-refused (too-long (omega arith)) e b
-  long-kept more (line-refused (faulty-three h f) e b) =
-      let z : ⊥ = omega (arith, length-take-le most line (omega arith)) in
-      absurd z
+module _ (most : ℕ) (over : lineLimit < most) (line : List ℕ) where
+  key-kept : {key : Key} → KeyOfLine (take most line) key → KeyOfLine line key
+  key-kept {key} (of-values d k) = of-values (decodes-kept most over line d) k
+  key-kept {key} (line-refused r e b) = line-refused (refused-kept most over line r) e b
 
-  pub line-kept : LineRight (take most line) key → LineRight line key
-  line-kept right = record { right = go (decLe (length line) most); printable = right .printable }
-    where
-      go : Dec (length line ≤ most) → KeyOfLine line key
-      go (yes h) = subst (λ (l : List ℕ). KeyOfLine l key) (take-all most line h) (right .right)
-      go (no h) = long-kept (omega arith) (right .right)
+  pub word-kept : {text : List ℕ} → WordText (take most line) text → WordText line text
+  word-kept {text} w = record {
+    key = w .key;
+    right = record { right = key-kept (w .right .right); printable = w .right .printable };
+    is = w .is;
+  }

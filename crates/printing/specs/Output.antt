@@ -1,8 +1,8 @@
--- Document 01, "The program `wordlist`": what is printed for a line.
+-- Document 01, "The program `wordlist`": what is printed for a line behind its number.
 -- Assumes nothing.
 use mathlib.Core.Path.{_≡_}
-use mathlib.Core.List.{List, [], _∷_, _++_}
-use Prim.Native.Nat.{ℕ, _+_, _≤_}
+use mathlib.Core.List.{List, _∷_, _++_}
+use Prim.Native.Nat.{ℕ, _≤_}
 use Rattle.formula.specs.Limits.{limit}
 use Rattle.weighing.specs.Keys.{keyLimit, zeros}
 use Rattle.lines.specs.Line.{Decodes, LineRefused}
@@ -14,8 +14,8 @@ use Rattle.refusals.specs.declared.Counted.{Counted}
 use Rattle.refusals.specs.declared.Counted.the-variants.{Count, Refused}
 use Rattle.collation.specs.Keyed.{KeyRight}
 use Rattle.collation.specs.declared.key.Key.{Key}
-use Rattle.key_text.specs.Text.{decimalOf, keyText, decimalLimit, keyTextLimit}
-use Rattle.memory.specs.Put.{Written}
+use Rattle.key_text.specs.Text.{decimalOf, keyText}
+use Rattle.answer_text.specs.Answer.{refusedText}
 
 -- the refusal of an answer; one that is none is never asked for it
 abbrev pub refusalIn : Counted → Refusal
@@ -26,25 +26,10 @@ refusalIn (Count count) = NoSuchRow
 unfoldable pub acceptedText : ℕ → List ℕ → List ℕ
 acceptedText count key = (0x4F ∷ 0x4B ∷ 0x20 ∷ decimalOf count) ++ (0x20 ∷ keyText count key)
 
--- "NO, refusal number, place"
-unfoldable pub refusedText : Refusal → List ℕ
-refusedText refusal = (0x4E ∷ 0x4F ∷ 0x20 ∷ decimalOf (numberOf refusal)) ++ (0x20 ∷ decimalOf (placeOf refusal))
-
+-- what the answer of a line and its key come to
 abbrev pub answerText : Counted → List ℕ → List ℕ
 answerText (Count count) key = acceptedText count key
-answerText (Refused refusal) key = refusedText refusal
-
--- "with one space between fields and 0A at the end: line number from 1", and then the answer
-unfoldable pub printed : ℕ → Counted → List ℕ → List ℕ
-printed number answer key = decimalOf number ++ (0x20 ∷ answerText answer key) ++ (0x0A ∷ [])
-
--- the most bytes behind the number of a line: OK or NO with a space, a number with a space, and a key or one more number
-abbrev pub answerTextLimit : ℕ
-answerTextLimit = 3 + decimalLimit + 1 + keyTextLimit
-
--- the most bytes that are printed for a line: its number with a space, the answer, and 0A
-abbrev pub printedLimit : ℕ
-printedLimit = decimalLimit + 1 + answerTextLimit + 1
+answerText (Refused refusal) key = refusedText (numberOf refusal) (placeOf refusal)
 
 -- the answers that a line has: no word has more syllables than values
 abbrev pub Printable : Counted → Type 0
@@ -62,8 +47,8 @@ pub record LineRight (line : List ℕ) (key : Key) : Type 0 where
   pub right : KeyOfLine line key
   pub printable : Printable (key .answer)
 
--- the promise of what is printed for a line
-pub record LinePut (before : List ℕ) (number : ℕ) (line : List ℕ) (after : List ℕ) (used : ℕ) : Type 0 where
+-- what is printed for a line behind its number: what its key says
+pub record WordText (line : List ℕ) (text : List ℕ) : Type 0 where
   pub key : Key
   pub right : LineRight line key
-  pub written : Written before (printed number (key .answer) (key .bytes)) after used
+  pub is : text ≡ answerText (key .answer) (key .bytes)

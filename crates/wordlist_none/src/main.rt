@@ -1,4 +1,6 @@
 // The program over no input.
+use line_printing::Task;
+
 fn main() {
-    listing::running::run();
+    listing::running::run(Task::Words);
 }

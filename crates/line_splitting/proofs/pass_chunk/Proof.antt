@@ -10,26 +10,33 @@ use Rattle.line_splitting.proofs.pass_chunk.Statement.{statement}
 use Rattle.line_splitting.proofs.pass_chunk.Tie as tie
 
 abbrev Inv-loop : tie.InvT-loop
-Inv-loop chunk line₀ out₀ reached₀ line out reached = Along chunk line₀ out₀ reached₀ line out reached
+Inv-loop chunk line₀ out₀ task reached₀ line out reached = Along task chunk line₀ out₀ reached₀ line out reached
 
 abbrev μ-loop : tie.MeasureT-loop
-μ-loop chunk line₀ out₀ reached₀ line out reached = length chunk - reached .at
+μ-loop chunk line₀ out₀ task reached₀ line out reached = length chunk - reached .at
 
 loop-holds : tie.Need-loop-holds Inv-loop μ-loop
-loop-holds c = along-none _ _ _ _ (c .before .before .before .pre)
+loop-holds c = along-none _ _ _ _ _ (c .before .before .before .pre)
 
 add-if2 : tie.Need-add-if2 Inv-loop μ-loop
 add-if2 c = omega (arith, c .before .before .before .loop .inv .room)
 
 take-line-requires : tie.Need-take-line-requires Inv-loop μ-loop
-take-line-requires c κs = along-ready (c .before .before .before .before .before .before .before .before .before .before .pre) (c .before .before .before .before .before .before .loop .inv) (leb-true _ _ (c .before .before .if2 .taken))
+take-line-requires c κs =
+    let l = c .before .before .before .before .before .before in
+    along-ready (l .before .before .before .before .pre) (l .loop .inv) (leb-true _ _ (c .before .before .if2 .taken))
 
 loop-less : tie.Need-loop-less Inv-loop μ-loop
-loop-less c = let further = c .before .before .before .before .take-line .ensures .further (c .before .before .before .before .before .before .before .before .before .if1 .taken) in omega (arith, c .before .before .before .before .take-line .ensures .within)
+loop-less c =
+    let t = c .before .before .before .before in
+    let further = t .take-line .ensures .further (t .before .before .before .before .before .if1 .taken) in
+    omega (arith, t .take-line .ensures .within)
 
 loop-again : tie.Need-loop-again Inv-loop μ-loop
 loop-again c =
-    along-more (c .before .before .before .before .before .before .before .before .before .before .before .before .before .before .before .pre) (c .before .before .before .before .before .before .before .before .before .before .before .loop .inv) (c .before .before .before .before .before .before .before .before .before .if1 .taken) (c .before .before .before .before .take-line .ensures) (c .before .before .before .before .take-line .kept .1 .0) (c .before .before .before .before .take-line .kept .1 .1 .0)
+    let t = c .before .before .before .before in
+    let l = t .before .before .before .before .before .before .before in
+    along-more (l .before .before .before .before .pre) (l .loop .inv) (t .before .before .before .before .before .if1 .taken) (t .take-line .ensures) (t .take-line .kept .1 .0) (t .take-line .kept .1 .1 .0)
 
 same-length : tie.Need-same-length Inv-loop μ-loop
 same-length c = c .before .before .before .before .loop .inv .same-pending

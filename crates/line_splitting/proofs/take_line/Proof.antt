@@ -29,8 +29,11 @@ same-length c = search needs
 
 returns : tie.Need-returns
 returns c =
-    taken-open (now (c .before .before .before .before .before .before .before .before .before .before .args .chunk)) (now (c .before .before .before .before .before .before .before .before .before .before .args .pending)) (now (c .before .before .before .before .before .before .before .before .before .before .args .out)) (c .before .before .before .before .before .before .before .before .before .before .args .progress) (c .before .before .before .hold .last .0)
-    (c .before .before .before .before .before .before .line-end .result) (c .before .before .before .hold .result) (c .before .before .before .before .before .before .before .before .before .before .pre) (c .before .before .before .before .before .before .line-end .ensures) (c .before .before .before .hold .ensures) (c .if1 .taken)
+    let held = c .before .before .before in
+    let ended = held .before .before .before in
+    let start = ended .before .before .before .before in
+    taken-open (start .args .task) (now (start .args .chunk)) (now (start .args .pending)) (now (start .args .out)) (start .args .progress) (held .hold .last .0)
+    (ended .line-end .result) (held .hold .result) (start .pre) (ended .line-end .ensures) (held .hold .ensures) (c .if1 .taken)
 
 sub-put-line : tie.Need-sub-put-line
 sub-put-line c = search needs
@@ -48,20 +51,25 @@ slice-reshare-prefix-put-line : tie.Need-slice-reshare-prefix-put-line
 slice-reshare-prefix-put-line c = search needs
 
 slice-aggregate-put-line : tie.Need-slice-aggregate-put-line
-slice-aggregate-put-line c = sym (length-take-le _ _ (omega (arith, c .before .before .before .before .before .hold .ensures .fits, c .before .before .before .before .before .hold .kept .0)))
+slice-aggregate-put-line c =
+    let held = c .before .before .before .before .before in
+    sym (length-take-le _ _ (omega (arith, held .hold .ensures .fits, held .hold .kept .0)))
 
 put-line-requires : tie.Need-put-line-requires
 put-line-requires c κs = search needs
 
-add-t14 : tie.Need-add-t14
-add-t14 c = search needs
+add-t15 : tie.Need-add-t15
+add-t15 c = search needs
 
-add-t21 : tie.Need-add-t21
-add-t21 c = search needs
+add-t22 : tie.Need-add-t22
+add-t22 c = search needs
 
-add-t24 : tie.Need-add-t24
-add-t24 c =
-    let fits = part-fits (now (c .before .before .before .before .before .before .before .before .before .before .before .before .before .before .before .args .out)) (c .before .before .before .before .before .before .before .before .before .before .before .before .before .before .before .args .progress .used) _ (c .before .before .put-line .last .0) (c .before .before .put-line .result) (omega arith) (c .before .before .put-line .kept .0) (c .before .before .put-line .ensures .written) in
+add-t25 : tie.Need-add-t25
+add-t25 c =
+    let put = c .before .before in
+    let held = put .before .before .before .before .before .before in
+    let start = held .before .before .before .before .before .before .before in
+    let fits = part-fits (now (start .args .out)) (start .args .progress .used) _ (put .put-line .last .0) (put .put-line .result) (omega arith) (put .put-line .kept .0) (put .put-line .ensures .written) in
     omega arith
 
 same-length-2 : tie.Need-same-length-2
@@ -72,9 +80,13 @@ same-length-3 c = search needs
 
 returns-2 : tie.Need-returns-2
 returns-2 c =
-    taken-ended (now (c .before .before .before .before .before .before .before .before .before .before .before .before .before .before .before .args .chunk)) (now (c .before .before .before .before .before .before .before .before .before .before .before .before .before .before .before .args .pending)) (now (c .before .before .before .before .before .before .before .before .before .before .before .before .before .before .before .args .out)) (c .before .before .before .before .before .before .before .before .before .before .before .before .before .before .before .args .progress) (c .before .before .before .before .before .before .before .before .hold .last .0)
-    (c .before .before .put-line .last .0) (c .before .before .before .before .before .before .before .before .before .before .before .line-end .result) (c .before .before .before .before .before .before .before .before .hold .result) (c .before .before .put-line .result) (c .before .before .before .before .before .before .before .before .before .before .before .before .before .before .before .pre) (c .before .before .before .before .before .before .before .before .before .before .before .line-end .ensures)
-    (c .before .before .before .before .before .before .before .before .hold .ensures) (omega arith) (c .before .before .put-line .kept .0) (c .before .before .put-line .ensures)
+    let put = c .before .before in
+    let held = put .before .before .before .before .before .before in
+    let ended = held .before .before .before in
+    let start = ended .before .before .before .before in
+    taken-ended (start .args .task) (now (start .args .chunk)) (now (start .args .pending)) (now (start .args .out)) (start .args .progress) (held .hold .last .0)
+    (put .put-line .last .0) (ended .line-end .result) (held .hold .result) (put .put-line .result) (start .pre) (ended .line-end .ensures)
+    (held .hold .ensures) (omega arith) (put .put-line .kept .0) (put .put-line .ensures)
 
 pub take-line-spec : {M : Type 1} → statement M
 take-line-spec =
@@ -94,9 +106,9 @@ take-line-spec =
     slice-reshare-prefix-put-line
     slice-aggregate-put-line
     put-line-requires
-    add-t14
-    add-t21
-    add-t24
+    add-t15
+    add-t22
+    add-t25
     same-length-2
     same-length-3
     returns-2)

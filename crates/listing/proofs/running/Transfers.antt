@@ -18,6 +18,7 @@ use mir.ValLaws.{toZ-ofZ}
 use Rattle.letters.specs.Choice.{pick}
 use Rattle.io.specs.Counts.{clamped}
 use Rattle.libc.specs.Io.{Moved}
+use Rattle.line_printing.specs.declared.Task.{Task}
 use Rattle.listing.specs.Running.{failureOf, transferOf, Reads, Finished, Finishes}
 use Rattle.listing.specs.declared.running.OpenLine.{OpenLine}
 use Rattle.listing.specs.declared.running.Transfer.{Transfer}
@@ -102,11 +103,11 @@ bytes-within (pos (suc answer)) error size count e = let z : count ≡ min (suc 
 bytes-within (negsuc answer) error size count e = absurd (no-bytes error count e)
 
 -- what is told by its tag to be another than the end is another
-pub finished-other : {input : Transfer} (pending out : List ℕ) (current : OpenLine) → OneOf (0 ∷ 2 ∷ 3 ∷ []) (tagOf the-type input)
-    → Finishes input pending out current out 0
-finished-other {input} pending out current other = record { within = omega arith; right = go input other }
+pub finished-other : {task : Task} {input : Transfer} (pending out : List ℕ) (current : OpenLine) → OneOf (0 ∷ 2 ∷ 3 ∷ []) (tagOf the-type input)
+    → Finishes task input pending out current out 0
+finished-other {task} {input} pending out current other = record { within = omega arith; right = go input other }
   where
-    go : (i : Transfer) → OneOf (0 ∷ 2 ∷ 3 ∷ []) (tagOf the-type i) → Finished i pending out current out 0
+    go : (i : Transfer) → OneOf (0 ∷ 2 ∷ 3 ∷ []) (tagOf the-type i) → Finished task i pending out current out 0
     go (Bytes count) o = record { nothing = refl; same = refl }
     go Interrupted o = record { nothing = refl; same = refl }
     go Failed o = record { nothing = refl; same = refl }

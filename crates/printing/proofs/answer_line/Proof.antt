@@ -1,9 +1,8 @@
 -- `printing::answer_line` meets its contract: it answers the refusal of the decoding, or the key of its values.
 -- Assumes nothing.
-use mathlib.Core.Path.{sym}
 use denote.Ref.{now}
-use lib.Seq.{length-take-le}
-use Rattle.printing.proofs.Answers.{refused-right, word-fits, values-right}
+use Rattle.lines.proofs.Told.{told-word, told-fits, told-count}
+use Rattle.printing.proofs.Answers.{refused-right, values-right}
 use borrow.Author.Needs.{needs}
 use Rattle.printing.proofs.answer_line.Statement.{statement}
 use Rattle.printing.proofs.answer_line.Tie as tie
@@ -26,15 +25,13 @@ array-share-prefix-values : tie.Need-array-share-prefix-values
 array-share-prefix-values c =
     let e = c .before .before in
     let d = e .before .before in
-    word-fits (now (d .before .before .args .line)) (d .decode .result) (d .decode .ensures) (e .enum-told .given .0 .0) (e .enum-told .given .1)
+    told-fits (now (d .before .before .args .line)) (d .decode .result) (d .decode .ensures) (e .enum-told .given .0 .0) (e .enum-told .given .1)
 
 slice-aggregate-key-of : tie.Need-slice-aggregate-key-of
 slice-aggregate-key-of c =
     let e = c .before .before .before in
     let d = e .before .before in
-    sym
-    (length-take-le _ _
-    (word-fits (now (d .before .before .args .line)) (d .decode .result) (d .decode .ensures) (e .enum-told .given .0 .0) (e .enum-told .given .1)))
+    told-count (now (d .before .before .args .line)) (d .decode .result) (d .decode .ensures) (e .enum-told .given .0 .0) (e .enum-told .given .1)
 
 key-of-requires : tie.Need-key-of-requires
 key-of-requires c κs = search needs
@@ -43,7 +40,8 @@ returns-2 : tie.Need-returns-2
 returns-2 c =
     let e = c .before .before .before .before in
     let d = e .before .before in
-    values-right (now (d .before .before .args .line)) (d .decode .result) (d .decode .ensures) (e .enum-told .given .0 .0) (e .enum-told .given .1) (c .key-of .result)
+    values-right
+    (told-word (now (d .before .before .args .line)) (d .decode .result) (d .decode .ensures) (e .enum-told .given .0 .0) (e .enum-told .given .1))
     (c .key-of .ensures)
 
 pub answer-line-spec : {M : Type 1} → statement M

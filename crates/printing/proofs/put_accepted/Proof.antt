@@ -24,10 +24,16 @@ put-decimal-requires : tie.Need-put-decimal-requires
 put-decimal-requires c κs = search needs
 
 put-requires-4 : tie.Need-put-requires-4
-put-requires-4 c κs = omega (arith, decimal-short (c .before .before .before .before .before .before .before .before .before .before .before .before .before .before .before .before .before .before .args .count) (omega arith))
+put-requires-4 c κs =
+    let third = c .before .before .before .before .before .before .before in
+    let start = third .before .before .before .before .before .before .before .before .before .before .before in
+    omega (arith, decimal-short (start .args .count) (omega arith))
 
 put-key-requires : tie.Need-put-key-requires
-put-key-requires c κs = (omega (arith, decimal-short (c .before .before .before .before .before .before .before .before .before .before .before .before .before .before .before .before .before .before .before .before .before .before .args .count) (omega arith)), omega arith)
+put-key-requires c κs =
+    let third = c .before .before .before .before .before .before .before .before .before .before .before in
+    let start = third .before .before .before .before .before .before .before .before .before .before .before in
+    (omega (arith, decimal-short (start .args .count) (omega arith)), omega arith)
 
 same-length : tie.Need-same-length
 same-length c = search needs
@@ -35,10 +41,20 @@ same-length c = search needs
 returns : tie.Need-returns
 unfolding acceptedText
 returns c =
-    let counted = decimal-short (c .before .before .before .before .before .before .before .before .before .before .before .before .before .before .before .before .before .before .before .before .before .before .before .before .before .args .count) (omega arith) in
-    let keyed = key-short (c .before .before .before .before .before .before .before .before .before .before .before .before .before .before .before .before .before .before .before .before .before .before .before .before .before .args .count) (now (c .before .before .before .before .before .before .before .before .before .before .before .before .before .before .before .before .before .before .before .before .before .before .before .before .before .args .key)) (c .before .before .before .before .before .before .before .before .before .before .before .before .before .before .before .before .before .before .before .before .before .before .before .before .before .pre .1) in
+    let spaced = c .before .before .before .before .before .before in
+    let counted = spaced .before .before .before .before in
+    let third = counted .before .before .before .before in
+    let second = third .before .before .before .before in
+    let first = second .before .before .before .before in
+    let start = first .before .before .before in
+    let digits = decimal-short (start .args .count) (omega arith) in
+    let keyed = key-short (start .args .count) (now (start .args .key)) (start .pre .1) in
     record {
-      put = put-after (c .before .before .before .before .before .before .before .before .before .before .before .before .before .before .before .before .before .before .before .before .before .before .put .ensures) (put-after (c .before .before .before .before .before .before .before .before .before .before .before .before .before .before .before .before .before .before .put2 .ensures) (put-after (c .before .before .before .before .before .before .before .before .before .before .before .before .before .before .put3 .ensures) (put-after (c .before .before .before .before .before .before .before .before .before .before .put-decimal .ensures) (put-after (c .before .before .before .before .before .before .put4 .ensures) (c .before .before .put-key .ensures)))));
+      put =
+          put-after (first .put .ensures)
+          (put-after (second .put2 .ensures)
+          (put-after (third .put3 .ensures)
+          (put-after (counted .put-decimal .ensures) (put-after (spaced .put4 .ensures) (c .before .before .put-key .ensures)))));
       short = simp length-append (omega arith);
     }
 

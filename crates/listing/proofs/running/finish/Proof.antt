@@ -33,10 +33,11 @@ same-length c = search needs
 
 returns-3 : tie.Need-returns-3
 returns-3 c =
-    rw (c .before .before .before .before .before .before .before .enum-told .given .1)
+    let put = c .before .before in
+    rw (put .before .before .before .before .before .enum-told .given .1)
     (record {
-      within = written-within (c .before .before .put-line .kept .0) (c .before .before .put-line .ensures .written);
-      right = λ bytes text f. comes-line f _ (λ e. omega arith) (c .before .before .put-line .kept .0) (c .before .before .put-line .ensures);
+      within = written-within (put .put-line .kept .0) (put .put-line .ensures .written);
+      right = λ bytes text f. comes-line f _ (λ e. omega arith) (put .put-line .kept .0) (put .put-line .ensures);
     })
 
 pub finish-spec : {M : Type 1} → statement M

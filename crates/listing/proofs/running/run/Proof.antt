@@ -14,10 +14,10 @@ use Rattle.listing.proofs.running.run.Statement.{statement}
 use Rattle.listing.proofs.running.run.Tie as tie
 
 abbrev Inv-loop : tie.InvT-loop
-Inv-loop chunk₀ line₀ out₀ current₀ calls₀ chunk line out current calls = Going chunk line out current calls
+Inv-loop task chunk₀ line₀ out₀ current₀ calls₀ chunk line out current calls = Going task chunk line out current calls
 
 abbrev μ-loop : tie.MeasureT-loop
-μ-loop chunk₀ line₀ out₀ current₀ calls₀ chunk line out current calls = calls
+μ-loop task chunk₀ line₀ out₀ current₀ calls₀ chunk line out current calls = calls
 
 large-buffer-requires : tie.Need-large-buffer-requires Inv-loop μ-loop
 large-buffer-requires c κs = tt
@@ -35,7 +35,7 @@ loop-holds c =
       numbers = omega arith;
       bytes = [];
       text = [];
-      follows = follows-none _;
+      follows = follows-none _ _;
     }
 
 slice-aggregate-read-chunk : tie.Need-slice-aggregate-read-chunk Inv-loop μ-loop
@@ -86,7 +86,9 @@ slice-aggregate-answer-chunk-3 c = c .before .before .before .before .before .be
 
 answer-chunk-requires : tie.Need-answer-chunk-requires Inv-loop μ-loop
 answer-chunk-requires c κs =
-    going-ready (c .before .before .before .before .before .before .before .before .before .before .loop .inv) (c .before .before .before .before .before .before .before .read-chunk .last .0) (c .before .before .before .before .input .given .0 .0) (c .before .before .before .before .before .before .before .read-chunk .kept .0) (within (c .before .before .before .before))
+    let brought = c .before .before .before .before in
+    let read = brought .before .before .before in
+    going-ready (read .before .before .before .loop .inv) (read .read-chunk .last .0) (brought .input .given .0 .0) (read .read-chunk .kept .0) (within brought)
 
 enum-known-passed : tie.Need-enum-known-passed Inv-loop μ-loop
 enum-known-passed c = search needs
@@ -105,8 +107,12 @@ loop-less c = omega arith
 
 loop-again : tie.Need-loop-again Inv-loop μ-loop
 loop-again c =
-    going-on (c .before .before .before .before .before .before .before .before .before .before .before .before .before .before .before .before .loop .inv) (c .before .before .before .before .before .before .before .before .before .before .before .before .before .read-chunk .last .0) (c .before .before .before .before .before .before .before .before .before .before .input .given .0 .0) (c .before .before .before .before .before .before .before .before .before .before .before .before .before .read-chunk .kept .0) (within (c .before .before .before .before .before .before .before .before .before .before)) (c .before .before .before .before .before .before .before .before .before .before .before .before .before .before .before .loop-test .taken)
-    (rw (c .before .passed .given .1) at (c .before .before .before .before .before .answer-chunk .ensures)) (c .before .before .before .before .before .answer-chunk .kept .1 .0) (c .before .before .before .before .before .answer-chunk .kept .1 .1 .0)
+    let answered = c .before .before .before .before .before in
+    let brought = answered .before .before .before .before .before in
+    let read = brought .before .before .before in
+    let l = read .before .before .before in
+    going-on (l .loop .inv) (read .read-chunk .last .0) (brought .input .given .0 .0) (read .read-chunk .kept .0) (within brought) (read .before .before .loop-test .taken)
+    (rw (c .before .passed .given .1) at (answered .answer-chunk .ensures)) (answered .answer-chunk .kept .1 .0) (answered .answer-chunk .kept .1 .1 .0)
 
 returns-3 : tie.Need-returns-3 Inv-loop μ-loop
 returns-3 c = tt
