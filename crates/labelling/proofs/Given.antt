@@ -4,7 +4,7 @@ use mathlib.Core.Path.{_≡_, refl, sym, ap, subst, _∙_}
 use mathlib.Core.List.{List, _++_}
 use Prim.Native.Nat.{ℕ, _≤_}
 use native.Mathlib.Omega.{arith}
-use lib.ListN.{length, take, drop, length-append}
+use lib.ListN.{length, take, drop, replicate, length-append}
 use lib.Seq.{take-at}
 use Rattle.refusals.specs.Refusal.{numberOf, placeOf}
 use Rattle.refusals.specs.Outcome.{Outcome, accepts, refuses, outcomeOf}
@@ -15,6 +15,10 @@ use Rattle.refusals.specs.declared.Counted.the-variants.{Count, Refused}
 use Rattle.skeletons.specs.Skeleton.{skeletonLimit}
 use Rattle.labelling.specs.Labelling.{IsLabel, LabelRefusedWith, skeleton, SkeletonRight}
 use Rattle.labelling.proofs.Stored.{skeleton-short}
+
+-- a list as long as the longest skeleton, as it is lent
+abbrev pub unwritten : List ℕ
+unwritten = replicate skeletonLimit 0
 
 -- a label, with its skeleton at the front of a list
 pub record Given (word before after : List ℕ) (size : ℕ) : Type 0 where

@@ -3,6 +3,7 @@ use answer_text::ANSWER_TEXT_LIMIT;
 use key_text::DECIMAL_LIMIT;
 use key_text::put;
 use key_text::put_decimal;
+use label_printing::put_label;
 use printing::put_word;
 ghost use Prim.Native.Nat.{_+_, _≤_};
 ghost use lib.ListN.{length};
@@ -12,9 +13,10 @@ ghost use Rattle.line_printing.specs.Printed.{Answers, printedLimit, Lin
 // The most bytes that are printed for a line: its number with a space, the answer, and 0A.
 pub const PRINTED_LIMIT: usize = DECIMAL_LIMIT + 1 + ANSWER_TEXT_LIMIT + 1;
 
-// What is asked of each line of a list: the key of its word.
+// What is asked of each line of a list: the key of its word, or the skeleton of its label.
 pub enum Task {
     Words,
+    Labels,
 }
 
 // What follows the number of a line.
@@ -24,6 +26,7 @@ fn put_answer(out: &mut [u8], at: usize, line: &[u8], task: Task) -> usize
 {
     match task {
         Task::Words => put_word(out, at, line),
+        Task::Labels => put_label(out, at, line),
     }
 }
 

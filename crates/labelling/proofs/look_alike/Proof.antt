@@ -1,25 +1,17 @@
 -- `labelling::look_alike` meets its contract: each word's tests come before the comparison, and both outputs have room for every skeleton.
 -- Assumes nothing.
 use mathlib.Core.Path.{sym}
-use mathlib.Core.List.{List}
-use Prim.Native.Nat.{ℕ}
 use native.Mathlib.Omega.{arith}
-use lib.ListN.{replicate}
 use lib.Seq.{length-take-le}
 use borrow.Author.Needs.{needs}
-use Rattle.skeletons.specs.Skeleton.{skeletonLimit}
-use Rattle.labelling.proofs.Given.{Given, told-given, told-refused}
+use Rattle.labelling.proofs.Given.{unwritten, Given, told-given, told-refused}
 use Rattle.labelling.proofs.Alike.{likeness-right}
 use Rattle.labelling.proofs.look_alike.Statement.{statement}
 use Rattle.labelling.proofs.look_alike.Tie as tie
 
--- a list of the limit's length, as it is lent
-abbrev none : List ℕ
-none = replicate skeletonLimit 0
-
 -- the first word, once its skeleton is made, and the second
 one : (c : tie.After-one-answer2)
-    → let s = c .before .before .before in Given (s .before .before .before .before .args .first .now) none (s .skeleton .last .1 .0) (c .one-answer2 .given .0 .0)
+    → let s = c .before .before .before in Given (s .before .before .before .before .args .first .now) unwritten (s .skeleton .last .1 .0) (c .one-answer2 .given .0 .0)
 one c = let s = c .before .before .before in told-given (s .skeleton .result) (s .skeleton .ensures) (c .one-answer2 .given .0 .0) (c .one-answer2 .given .1)
 
 -- where the second word has one, so has the first
@@ -28,7 +20,7 @@ first-of c = c .before .before .before .before .before .before
 
 other : (c : tie.After-other-answer2)
     → let s = c .before .before .before in
-    Given (first-of c .before .before .before .before .before .before .before .args .second .now) none (s .skeleton2 .last .1 .0) (c .other-answer2 .given .0 .0)
+    Given (first-of c .before .before .before .before .before .before .before .args .second .now) unwritten (s .skeleton2 .last .1 .0) (c .other-answer2 .given .0 .0)
 other c =
     let s = c .before .before .before in
     told-given (s .skeleton2 .result) (s .skeleton2 .ensures) (c .other-answer2 .given .0 .0) (c .other-answer2 .given .1)
