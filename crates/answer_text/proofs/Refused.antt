@@ -1,10 +1,8 @@
 -- The bytes behind the number of a refused line are few, since its two numbers have 64 bits.
 -- Assumes nothing.
-use mathlib.Core.List.{_∷_, _++_}
 use Prim.Native.Nat.{ℕ, _≤_, _<_, _^_}
 use native.Mathlib.Omega.{arith}
 use lib.ListN.{length, length-append}
-use Rattle.key_text.specs.Text.{decimalOf}
 use Rattle.key_text.proofs.Decimal.{decimal-short}
 use Rattle.answer_text.specs.Answer.{refusedText, answerTextLimit}
 

@@ -13,7 +13,7 @@ use Rattle.refusals.specs.declared.Counted.the-variants.{Count, Refused}
 use Rattle.recogniser.proofs.Counted.{count-limit}
 use Rattle.storage.specs.Stored.{storedForm}
 use Rattle.normaliser.specs.Normal.{StoreAnswers}
-use Rattle.lines.specs.Line.{Decodes, LineRefused, DecodeRight}
+use Rattle.lines.specs.Line.{Decodes, DecodeRight}
 use Rattle.lines.specs.declared.Decoded.{Decoded}
 use Rattle.lines.proofs.Kept.{decodes-kept, refused-kept}
 use Rattle.lines.proofs.Told.{told-refusal}

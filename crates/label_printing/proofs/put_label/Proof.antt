@@ -2,7 +2,6 @@
 -- Assumes nothing.
 use mathlib.Core.Path.{refl}
 use borrow.Author.Needs.{needs}
-use denote.Ref.{now}
 use Rattle.lines.proofs.Told.{told-refusal, told-word, told-fits, told-count}
 use Rattle.label_printing.specs.Output.{of-word, line-refused}
 use Rattle.label_printing.proofs.put_label.Statement.{statement}
@@ -26,7 +25,7 @@ returns c =
     let d = told .before .before in
     record {
       text = _;
-      right = line-refused (told-refusal (now (d .before .before .before .args .line)) (d .decode .result) (d .decode .ensures) (told .answer .given .0 .0) (told .answer .given .1)) refl;
+      right = line-refused (told-refusal _ (d .decode .result) (d .decode .ensures) _ (told .answer .given .1)) refl;
       put = c .before .before .put-refused .ensures;
     }
 
@@ -37,13 +36,13 @@ array-share-prefix-values : tie.Need-array-share-prefix-values
 array-share-prefix-values c =
     let told = c .before .before .before in
     let d = told .before .before in
-    told-fits (now (d .before .before .before .args .line)) (d .decode .result) (d .decode .ensures) (told .enum-told .given .0 .0) (told .enum-told .given .1)
+    told-fits _ (d .decode .result) (d .decode .ensures) _ (told .enum-told .given .1)
 
 slice-aggregate-put-word-label : tie.Need-slice-aggregate-put-word-label
 slice-aggregate-put-word-label c =
     let told = c .before .before .before .before in
     let d = told .before .before in
-    told-count (now (d .before .before .before .args .line)) (d .decode .result) (d .decode .ensures) (told .enum-told .given .0 .0) (told .enum-told .given .1)
+    told-count _ (d .decode .result) (d .decode .ensures) _ (told .enum-told .given .1)
 
 put-word-label-requires : tie.Need-put-word-label-requires
 put-word-label-requires c κs = search needs
@@ -56,7 +55,7 @@ returns-2 c =
     let answered = c .before .before in
     let told = answered .before .before .before .before .before in
     let d = told .before .before in
-    let word = told-word (now (d .before .before .before .args .line)) (d .decode .result) (d .decode .ensures) (told .enum-told .given .0 .0) (told .enum-told .given .1) in
+    let word = told-word _ (d .decode .result) (d .decode .ensures) _ (told .enum-told .given .1) in
     record { text = _; right = of-word word (answered .put-word-label .ensures .right); put = answered .put-word-label .ensures .put }
 
 pub put-label-spec : {M : Type 1} → statement M

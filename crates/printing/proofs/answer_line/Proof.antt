@@ -1,6 +1,5 @@
 -- `printing::answer_line` meets its contract: it answers the refusal of the decoding, or the key of its values.
 -- Assumes nothing.
-use denote.Ref.{now}
 use Rattle.lines.proofs.Told.{told-word, told-fits, told-count}
 use Rattle.printing.proofs.Answers.{refused-right, values-right}
 use borrow.Author.Needs.{needs}
@@ -16,7 +15,7 @@ enum-known-answer c = search needs
 returns : tie.Need-returns
 returns c =
     let d = c .before .before .before in
-    refused-right (now (d .before .before .args .line)) (d .decode .result) (d .decode .ensures) (c .before .answer .given .0 .0) (c .before .answer .given .1)
+    refused-right _ (d .decode .result) (d .decode .ensures) _ (c .before .answer .given .1)
 
 enum-told : tie.Need-enum-told
 enum-told c = search needs
@@ -25,13 +24,13 @@ array-share-prefix-values : tie.Need-array-share-prefix-values
 array-share-prefix-values c =
     let e = c .before .before in
     let d = e .before .before in
-    told-fits (now (d .before .before .args .line)) (d .decode .result) (d .decode .ensures) (e .enum-told .given .0 .0) (e .enum-told .given .1)
+    told-fits _ (d .decode .result) (d .decode .ensures) _ (e .enum-told .given .1)
 
 slice-aggregate-key-of : tie.Need-slice-aggregate-key-of
 slice-aggregate-key-of c =
     let e = c .before .before .before in
     let d = e .before .before in
-    told-count (now (d .before .before .args .line)) (d .decode .result) (d .decode .ensures) (e .enum-told .given .0 .0) (e .enum-told .given .1)
+    told-count _ (d .decode .result) (d .decode .ensures) _ (e .enum-told .given .1)
 
 key-of-requires : tie.Need-key-of-requires
 key-of-requires c κs = search needs
@@ -41,7 +40,7 @@ returns-2 c =
     let e = c .before .before .before .before in
     let d = e .before .before in
     values-right
-    (told-word (now (d .before .before .args .line)) (d .decode .result) (d .decode .ensures) (e .enum-told .given .0 .0) (e .enum-told .given .1))
+    (told-word _ (d .decode .result) (d .decode .ensures) _ (e .enum-told .given .1))
     (c .key-of .ensures)
 
 pub answer-line-spec : {M : Type 1} → statement M
