@@ -3,7 +3,8 @@
 use borrow.Author.Needs.{needs}
 use mathlib.Core.Path.{refl}
 use Rattle.refusals.specs.Outcome.{outcomeOf}
-use Rattle.outputs.proofs.Decoding.{refused-right, held-room, held-count, written-right}
+use Rattle.lines.proofs.Told.{told-fits, told-count}
+use Rattle.outputs.proofs.Decoding.{refused-right, written-right}
 use Rattle.outputs.proofs.put_values.Statement.{statement}
 use Rattle.outputs.proofs.put_values.Tie as tie
 
@@ -25,13 +26,13 @@ array-share-prefix-values : tie.Need-array-share-prefix-values
 array-share-prefix-values c =
     let e = c .before .before in
     let d = e .before .before in
-    held-room _ (d .decode .result) (d .decode .ensures) _ (e .enum-told .given .1)
+    told-fits _ (d .decode .result) (d .decode .ensures) _ (e .enum-told .given .1)
 
 slice-aggregate-put-out : tie.Need-slice-aggregate-put-out
 slice-aggregate-put-out c =
     let e = c .before .before .before in
     let d = e .before .before in
-    held-count _ (d .decode .result) (d .decode .ensures) _ (e .enum-told .given .1)
+    told-count _ (d .decode .result) (d .decode .ensures) _ (e .enum-told .given .1)
 
 put-out-requires : tie.Need-put-out-requires
 put-out-requires c κs = search needs
