@@ -1,7 +1,7 @@
 // The skeleton of a label: its stored form, with the values that look like others replaced.
 use formula::Word;
 ghost use mathlib.Core.Path.{_≡_};
-ghost use Prim.Native.Nat.{_+_, _≤_};
+ghost use Prim.Native.Nat.{_+_, _≤_, _<_};
 ghost use lib.ListN.{length};
 ghost use Rattle.memory.specs.Put.{Put, Written};
 ghost use Rattle.skeletons.specs.Skeleton.{replaced, skeletonOf};
@@ -10,21 +10,47 @@ ghost use Rattle.skeletons.specs.Parts.{firstOf, sizeOf};
 // The most values of a skeleton.
 pub const LIMIT: usize = Word::LIMIT + Word::LABEL_LIMIT - 1;
 
+// Letters and marks stand before the digits, stops and signs behind them.
+const FIRST_DIGIT: u16 = 0x1040;
+
 // The one value that is replaced by two, and the second of them.
 const LETTER_O: u16 = 0x1029;
 
 const MEDIAL_RA: u16 = 0x103C;
 
-// The first value that takes the place of a value: the value itself, unless it looks like another.
-fn first_of(x: u16) -> u16
+// What a digit begins with in a skeleton: the letter that it looks like, or itself. So for any other value from 1040 on.
+fn digit_first(x: u16) -> u16
+    requires { ⌜ 0x1040 ≤ x ⌝ }
     ensures { λ r. ⌜ r ≡ firstOf x ⌝ }
 {
     match x {
         0x1040 => 0x101D,
         0x1047 => 0x101B,
+        _ => x,
+    }
+}
+
+// What a letter or a mark begins with in a skeleton.
+fn letter_first(x: u16) -> u16
+    requires { ⌜ x < 0x1040 ⌝ }
+    ensures { λ r. ⌜ r ≡ firstOf x ⌝ }
+{
+    match x {
         0x1025 => 0x1009,
         LETTER_O => 0x101E,
         _ => x,
+    }
+}
+
+// The first value that takes the place of a value: the value itself, unless it looks like another. One choice among all four would be compiled to a table
+// of 35 entries, from the least of them to the greatest.
+fn first_of(x: u16) -> u16
+    ensures { λ r. ⌜ r ≡ firstOf x ⌝ }
+{
+    if x < FIRST_DIGIT {
+        letter_first(x)
+    } else {
+        digit_first(x)
     }
 }
 
