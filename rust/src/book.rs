@@ -7,6 +7,7 @@
 //! A record keeps its start until the book is tidied, by [`Book::tidy`] or by a [`Book::add`] that
 //! says so. Starts that were taken before are then to be asked for again.
 
+use crate::collecting::collected;
 use crate::entries::{Entries, Entry, Listing};
 use crate::ffi;
 use crate::refusal::Refusal;
@@ -107,7 +108,7 @@ pub fn order_into(book: &[u8], starts: &mut [u16]) -> Result<usize, Refusal> {
 /// # Ok::<(), jogcairn::Refusal>(())
 /// ```
 pub fn order(book: &[u8]) -> Result<Vec<u16>, Refusal> {
-    collected(|starts| order_into(book, starts))
+    collected::<MOST_LIVE>(|starts| order_into(book, starts))
 }
 
 /// Writes the starts of all live records whose words begin with the syllables of the query, in
@@ -149,14 +150,7 @@ pub fn find_prefix_into(book: &[u8], query: &[u16], starts: &mut [u16]) -> Resul
 /// # Ok::<(), jogcairn::Refusal>(())
 /// ```
 pub fn find_prefix(book: &[u8], query: &[u16]) -> Result<Vec<u16>, Refusal> {
-    collected(|starts| find_prefix_into(book, query, starts))
-}
-
-/// The starts that a call puts at the front of a list, which has room for those of any book.
-fn collected(put: impl FnOnce(&mut [u16]) -> Result<usize, Refusal>) -> Result<Vec<u16>, Refusal> {
-    let mut starts = [0; MOST_LIVE];
-    let count = put(&mut starts)?;
-    Ok(starts[..count].to_vec())
+    collected::<MOST_LIVE>(|starts| find_prefix_into(book, query, starts))
 }
 
 /// Writes the word of the record that starts at a byte to the front of `output`, be it live or

@@ -73,6 +73,7 @@
 
 mod answer;
 pub mod book;
+mod collecting;
 mod comparison;
 mod entries;
 #[allow(unsafe_code)]

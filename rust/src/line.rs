@@ -1,5 +1,6 @@
 //! Lines of UTF-8 to code values.
 
+use crate::collecting::collected;
 use crate::ffi;
 use crate::refusal::Refusal;
 use crate::WORD_LIMIT;
@@ -26,7 +27,5 @@ pub fn decode_into(line: &[u8], word: &mut [u16]) -> Result<usize, Refusal> {
 /// # Ok::<(), jogcairn::Refusal>(())
 /// ```
 pub fn decode(line: &[u8]) -> Result<Vec<u16>, Refusal> {
-    let mut word = [0; WORD_LIMIT];
-    let count = decode_into(line, &mut word)?;
-    Ok(word[..count].to_vec())
+    collected::<WORD_LIMIT>(|word| decode_into(line, word))
 }

@@ -1,5 +1,6 @@
 //! Storage: a word to its one stored spelling.
 
+use crate::collecting::collected;
 use crate::ffi;
 use crate::refusal::Refusal;
 use crate::WORD_LIMIT;
@@ -23,9 +24,7 @@ pub fn normalise_into(word: &[u16], output: &mut [u16]) -> Result<usize, Refusal
 /// # Ok::<(), jogcairn::Refusal>(())
 /// ```
 pub fn normalise(word: &[u16]) -> Result<Vec<u16>, Refusal> {
-    let mut output = [0; WORD_LIMIT];
-    let count = normalise_into(word, &mut output)?;
-    Ok(output[..count].to_vec())
+    collected::<WORD_LIMIT>(|output| normalise_into(word, output))
 }
 
 /// Writes the outcome of the storage rules to the front of `output`, whether or not it is a word,
@@ -52,9 +51,7 @@ pub fn stored_form_into(word: &[u16], output: &mut [u16]) -> Result<usize, Refus
 /// # Ok::<(), jogcairn::Refusal>(())
 /// ```
 pub fn stored_form(word: &[u16]) -> Result<Vec<u16>, Refusal> {
-    let mut output = [0; WORD_LIMIT];
-    let count = stored_form_into(word, &mut output)?;
-    Ok(output[..count].to_vec())
+    collected::<WORD_LIMIT>(|output| stored_form_into(word, output))
 }
 
 /// Which value of the word, as it was typed, stands at a place of its stored form: its place in the

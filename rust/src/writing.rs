@@ -1,5 +1,6 @@
 //! Writing: records to the word that has them.
 
+use crate::collecting::collected;
 use crate::ffi;
 use crate::refusal::Refusal;
 use crate::WORD_LIMIT;
@@ -33,7 +34,5 @@ pub fn write_into(records: &[u8], word: &mut [u16]) -> Result<usize, Refusal> {
 /// # Ok::<(), jogcairn::Refusal>(())
 /// ```
 pub fn write(records: &[u8]) -> Result<Vec<u16>, Refusal> {
-    let mut word = [0; WORD_LIMIT];
-    let count = write_into(records, &mut word)?;
-    Ok(word[..count].to_vec())
+    collected::<WORD_LIMIT>(|word| write_into(records, word))
 }
