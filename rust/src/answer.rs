@@ -89,6 +89,12 @@ impl Answer {
         }
     }
 
+    /// Whether something holds of two accepted words: 0 no, 1 yes.
+    pub(crate) fn whether(self) -> bool {
+        self.demand(self.0 <= 1);
+        self.0 == 1
+    }
+
     /// The refusal, whose second number must be as given.
     fn refusal(self, second: u32) -> Refusal {
         self.demand(self.second() == second);
@@ -138,11 +144,12 @@ mod tests {
         assert_eq!(packed(11, 2, 16_384).refused_word(), Some((2, refusal)));
         assert_eq!(packed(0, 0, 2).refused_word(), None);
         assert_eq!(packed(0, 0, 2).ordering(), Ordering::Greater);
+        assert!(packed(0, 0, 1).whether() && !packed(0, 0, 0).whether());
     }
 
     #[test]
     fn an_answer_that_the_contract_excludes_ends_the_program() {
-        let excluded: [fn() -> bool; 8] = [
+        let excluded: [fn() -> bool; 10] = [
             || packed(9, 0, 0).one().is_ok(),
             || packed(128, 0, 0).one().is_ok(),
             || packed(0, 1, 0).one().is_ok(),
@@ -151,6 +158,8 @@ mod tests {
             || packed(128, 0, 8).one_or_none().is_ok(),
             || packed(3, 1, 0).two().is_ok(),
             || packed(0, 0, 3).ordering().is_eq(),
+            || packed(0, 0, 2).whether(),
+            || packed(0, 1, 1).whether(),
         ];
         for call in excluded {
             assert!(std::panic::catch_unwind(call).is_err());

@@ -1,5 +1,6 @@
-//! Comparison of two words as they are handed in.
+//! Comparison of two words as they are handed in, and the refusal of a call on two words.
 
+use crate::answer::Answer;
 use crate::ffi;
 use crate::refusal::Refusal;
 use std::cmp::Ordering;
@@ -15,16 +16,21 @@ pub enum Which {
     Second,
 }
 
-/// A refused comparison. The first word is tested whole before the second.
+/// A refused call on two words, [`compare`] or [`look_alike`](crate::look_alike). The first word is
+/// tested whole before the second.
 ///
 /// ```
-/// use jogcairn::{compare, Which};
+/// use jogcairn::{compare, look_alike, Which};
 ///
 /// let refused = compare(&[0x1000], &[0x103F]).unwrap_err();
 /// assert_eq!(refused.which, Which::Second);
 /// assert_eq!(
 ///     refused.to_string(),
 ///     "the second word: refusal 3: no word begins with the first value"
+/// );
+/// assert_eq!(
+///     look_alike(&[0x1000; 11], &[0x103F]).unwrap_err().to_string(),
+///     "the first word: refusal 23: a label has at most 10 syllables"
 /// );
 /// ```
 #[derive(Clone, Copy, Debug, PartialEq, Eq, Hash)]
@@ -51,6 +57,14 @@ impl Error for ComparisonRefusal {
     }
 }
 
+/// The answer of a call on two words, where both are accepted.
+pub(crate) fn both_accepted(answer: Answer) -> Result<Answer, ComparisonRefusal> {
+    let Some((which, refusal)) = answer.refused_word() else { return Ok(answer) };
+    answer.demand(which == 1 || which == 2);
+    let which = if which == 1 { Which::First } else { Which::Second };
+    Err(ComparisonRefusal { which, refusal })
+}
+
 /// Compares two words, which are normalised first: by their rows of weights, and then by the code
 /// values of their stored forms. Words that are compared often are better held as
 /// [`Word`](crate::Word)s.
@@ -67,11 +81,5 @@ impl Error for ComparisonRefusal {
 /// # Ok::<(), jogcairn::ComparisonRefusal>(())
 /// ```
 pub fn compare(first: &[u16], second: &[u16]) -> Result<Ordering, ComparisonRefusal> {
-    let answer = ffi::compare(first, second);
-    if let Some((which, refusal)) = answer.refused_word() {
-        answer.demand(which == 1 || which == 2);
-        let which = if which == 1 { Which::First } else { Which::Second };
-        return Err(ComparisonRefusal { which, refusal });
-    }
-    Ok(answer.ordering())
+    Ok(both_accepted(ffi::compare(first, second))?.ordering())
 }

@@ -31,6 +31,9 @@ unsafe extern "C" {
     fn jogcairn_typed_place(word: *const u16, count: usize, place: usize) -> u64;
     fn jogcairn_key(word: *const u16, count: usize, key: *mut u8, room: usize) -> u64;
     fn jogcairn_compare(a: *const u16, a_count: usize, b: *const u16, b_count: usize) -> u64;
+    fn jogcairn_label(word: *const u16, count: usize) -> u64;
+    fn jogcairn_skeleton(word: *const u16, count: usize, skeleton: *mut u16, room: usize) -> u64;
+    fn jogcairn_look_alike(a: *const u16, a_count: usize, b: *const u16, b_count: usize) -> u64;
     fn jogcairn_decode(line: *const u8, bytes: usize, word: *mut u16, room: usize) -> u64;
     fn jogcairn_book_check(book: *const u8, bytes: usize) -> u64;
     fn jogcairn_book_add(
@@ -127,6 +130,26 @@ pub(crate) fn compare(first: &[u16], second: &[u16]) -> Answer {
     // overlap.
     Answer::new(unsafe {
         jogcairn_compare(first.as_ptr(), first.len(), second.as_ptr(), second.len())
+    })
+}
+
+pub(crate) fn label(word: &[u16]) -> Answer {
+    // SAFETY: the pointer and the count are those of a slice.
+    Answer::new(unsafe { jogcairn_label(word.as_ptr(), word.len()) })
+}
+
+pub(crate) fn skeleton(word: &[u16], skeleton: &mut [u16]) -> Answer {
+    let (skeleton_at, room) = (skeleton.as_mut_ptr(), skeleton.len());
+    // SAFETY: the pointers and counts are those of slices, of which the output is borrowed mutably
+    // and so does not overlap the input.
+    Answer::new(unsafe { jogcairn_skeleton(word.as_ptr(), word.len(), skeleton_at, room) })
+}
+
+pub(crate) fn look_alike(first: &[u16], second: &[u16]) -> Answer {
+    // SAFETY: the pointers and counts are those of slices; both are only read, so that they may
+    // overlap.
+    Answer::new(unsafe {
+        jogcairn_look_alike(first.as_ptr(), first.len(), second.as_ptr(), second.len())
     })
 }
 

@@ -59,6 +59,7 @@
 //! | store a word in its one spelling | [`Word`], [`normalise`], [`normalise_into`] |
 //! | point at the value that makes a word refused | [`stored_form`], [`typed_place`] |
 //! | file words | [`Word`], [`Key`], [`key_into`], [`compare`] |
+//! | tell labels that look alike | [`label`], [`skeleton`], [`skeleton_into`], [`look_alike`] |
 //! | take the values of a line of UTF-8 | [`decode`], [`decode_into`] |
 //! | keep a word book | [`Book`], and the functions of [`book`] for shared bytes |
 //! | use the room of removed records again | [`Book::add`] by itself, [`Book::tidy`] |
@@ -79,6 +80,7 @@ mod entries;
 #[allow(unsafe_code)]
 mod ffi;
 mod key;
+mod label;
 mod line;
 mod reading;
 mod record;
@@ -93,6 +95,7 @@ pub use book::{Added, Book, Found, Told};
 pub use comparison::{compare, ComparisonRefusal, Which};
 pub use entries::{Entries, Entry, Listing};
 pub use key::{key_into, Key};
+pub use label::{label, look_alike, skeleton, skeleton_into};
 pub use line::{decode, decode_into};
 pub use reading::{part, read, record, record_into, Syllable, Syllables};
 pub use record::{Link, Record};
@@ -110,6 +113,12 @@ pub const LINE_LIMIT: usize = 192;
 
 /// The values of the longest spelled word.
 pub const SPELLED_LIMIT: usize = 190;
+
+/// The most syllables that a label has.
+pub const LABEL_LIMIT: usize = 10;
+
+/// The values of the longest skeleton.
+pub const SKELETON_LIMIT: usize = 73;
 
 /// The bytes of a syllable's record.
 pub const RECORD_SIZE: usize = 8;

@@ -37,10 +37,18 @@ pub enum Reason {
     BookFull = 14,
     /// The rank is not below the number of live records. The place is that number.
     RankTooHigh = 15,
+    /// A word that is to be a label has a stop or a sign. The place is the first one's, in the
+    /// stored form.
+    StopOrSign = 21,
+    /// A word that is to be a label has a 1040 or a 1047 next to a value that is no digit. The
+    /// place is that of the first such 1040 or 1047, in the stored form.
+    ConfusableDigit = 22,
+    /// A word that is to be a label has more than ten syllables. The place is 10.
+    TooManySyllables = 23,
 }
 
 impl Reason {
-    const ALL: [Reason; 13] = [
+    const ALL: [Reason; 16] = [
         Reason::TooLong,
         Reason::Foreign,
         Reason::NoContinuation,
@@ -54,6 +62,9 @@ impl Reason {
         Reason::NotLive,
         Reason::BookFull,
         Reason::RankTooHigh,
+        Reason::StopOrSign,
+        Reason::ConfusableDigit,
+        Reason::TooManySyllables,
     ];
 
     /// The number of the refusal.
@@ -168,6 +179,17 @@ impl fmt::Display for Refusal {
             Reason::RankTooHigh => {
                 write!(f, "the rank is not below {place}, the number of live records")
             }
+            Reason::StopOrSign => {
+                write!(f, "the value at place {place} of the stored form is a stop or a sign")
+            }
+            Reason::ConfusableDigit => {
+                write!(
+                    f,
+                    "the 1040 or 1047 at place {place} of the stored form stands next to a value \
+                     that is no digit"
+                )
+            }
+            Reason::TooManySyllables => write!(f, "a label has at most {place} syllables"),
         }
     }
 }
@@ -179,9 +201,9 @@ mod tests {
     use super::*;
 
     #[test]
-    fn each_number_of_the_two_tables_has_its_reason() {
+    fn each_number_of_a_refusal_has_its_reason() {
         let numbers: Vec<u8> = (0..=u8::MAX).filter(|&n| Reason::of_number(n).is_some()).collect();
-        assert_eq!(numbers, [1, 2, 3, 4, 5, 6, 7, 8, 11, 12, 13, 14, 15]);
+        assert_eq!(numbers, [1, 2, 3, 4, 5, 6, 7, 8, 11, 12, 13, 14, 15, 21, 22, 23]);
     }
 
     #[test]

@@ -1,5 +1,7 @@
 //! What the tests ask of an answer.
 
+#![allow(dead_code, reason = "each program of tests asks its part of this")]
+
 use jogcairn::{decode, Added, Book, Key, Refusal};
 
 /// The number and the place of a refusal.
