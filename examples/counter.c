@@ -1,5 +1,6 @@
 /* A day at the counter of a parts shop: names are filed, one is found, those that begin with what the clerk typed are listed, then all, in dictionary
-   order, and in a misspelt one the letter that breaks it is pointed at. Parts are renamed in the full book, which makes room by tidying. */
+   order, and in a misspelt one the letter that breaks it is pointed at. Parts are renamed in the full book, which makes room by tidying. Then labels
+   of the web shop are registered, no two of which look alike. */
 #include "jogcairn.h"
 
 #include <inttypes.h>
@@ -36,6 +37,25 @@ static const struct part parts[] = {
     {"fan", 7},             /* no Myanmar letters */
 };
 
+/* Labels that are asked for. */
+static const char *const wanted[] = {
+    "ဩဇာ",     /* a name that begins with the letter 1029 */
+    "သြဇာ",    /* the same to the eye, typed with 101E and the medial 103C */
+    "ရတနာ",    /* jewel */
+    "ဦး၇တနာ", /* Mr Jewel, with the digit seven for the letter 101B, and its first letter typed as 1025 102E */
+    "ရတနာ။",   /* a stop at its end */
+};
+
+/* A registered label, with the skeleton that it is kept under. */
+struct label {
+    const char *text;
+    uint16_t skeleton[JOGCAIRN_SKELETON_LIMIT];
+    size_t count;
+};
+
+static struct label labels[sizeof wanted / sizeof wanted[0]];
+static size_t registered;
+
 /* The parts that are accepted fill the book to its last byte. */
 static uint8_t book[121];
 
@@ -56,12 +76,18 @@ static void print_pointed(const struct name *name, size_t at)
     print_values(name->values + at + 1, name->count - at - 1);
 }
 
-/* Says why an answer is a refusal. The place of refusal 3 is a place in the stored spelling: there stands the value that nothing before it can be
-   continued with, and that is pointed at where it was typed. */
+/* Whether the place of a refusal is one in the stored spelling, with the value there that is to be blamed: nothing before it can be continued with it,
+   or a label may not have it there. */
+static int blames_value(unsigned refusal)
+{
+    return refusal == JOGCAIRN_NO_CONTINUATION || refusal == JOGCAIRN_STOP_OR_SIGN || refusal == JOGCAIRN_CONFUSABLE_DIGIT;
+}
+
+/* Says why an answer is a refusal. A value that is to be blamed is pointed at where it was typed. */
 static void print_refusal(uint64_t answer, const struct name *name)
 {
     printf("refusal %u, place %" PRIu32, jogcairn_tag(answer), jogcairn_first(answer));
-    if (jogcairn_tag(answer) == JOGCAIRN_NO_CONTINUATION) {
+    if (blames_value(jogcairn_tag(answer))) {
         uint64_t typed = jogcairn_typed_place(name->values, name->count, jogcairn_first(answer));
         printf(", typed ");
         print_pointed(name, jogcairn_first(typed));
@@ -247,22 +273,39 @@ static void print_syllables(const char *text)
     }
 }
 
+/* Two names that are held side by side. */
+struct pair {
+    struct name first, second;
+};
+
+/* Takes the values of two names; where that is refused, says why. */
+static int decode_pair(const char *one, const char *other, struct pair *pair)
+{
+    printf("%s and %s: ", one, other);
+    return decode(one, &pair->first) && decode(other, &pair->second);
+}
+
+/* Whether both names are accepted; where one is not, says why. */
+static int both_accepted(uint64_t answer, const struct pair *pair)
+{
+    if (!jogcairn_accepted(answer))
+        print_refusal(answer, jogcairn_second(answer) == 1 ? &pair->first : &pair->second);
+    return jogcairn_accepted(answer);
+}
+
 /* How two names compare, and the used bytes of the first one's key. */
 static void print_order(const char *one, const char *other)
 {
     enum { WEIGHTS = JOGCAIRN_KEY_SIZE / JOGCAIRN_WORD_LIMIT }; /* the used bytes of a syllable */
     static const char *const orders[] = {"before", "the same as", "after"};
-    struct name first, second;
+    struct pair pair;
     uint8_t key[JOGCAIRN_KEY_SIZE];
-    printf("%s and %s: ", one, other);
-    if (!decode(one, &first) || !decode(other, &second))
+    if (!decode_pair(one, other, &pair))
         return;
-    uint64_t order = jogcairn_compare(first.values, first.count, second.values, second.count);
-    if (!jogcairn_accepted(order)) {
-        print_refusal(order, jogcairn_second(order) == 1 ? &first : &second);
+    uint64_t order = jogcairn_compare(pair.first.values, pair.first.count, pair.second.values, pair.second.count);
+    if (!both_accepted(order, &pair))
         return;
-    }
-    uint64_t keyed = jogcairn_key(first.values, first.count, key, sizeof key);
+    uint64_t keyed = jogcairn_key(pair.first.values, pair.first.count, key, sizeof key);
     printf("the first is %s the second, its key", orders[jogcairn_first(order)]);
     for (size_t byte = 0; byte < WEIGHTS * jogcairn_first(keyed); byte++)
         printf(byte % WEIGHTS == 0 ? " %02X" : "%02X", key[byte]);
@@ -298,6 +341,57 @@ static void print_stored(const char *text)
     else
         printf(", right as far as %" PRIu32 " of its values", jogcairn_first(answer));
     printf("\n");
+}
+
+/* The registered label with the same skeleton; none where there is no such label. */
+static const struct label *label_like(const struct label *label)
+{
+    for (size_t at = 0; at < registered; at++)
+        if (labels[at].count == label->count && memcmp(labels[at].skeleton, label->skeleton, label->count * sizeof label->skeleton[0]) == 0)
+            return &labels[at];
+    return NULL;
+}
+
+/* Keeps a label under its skeleton, where none is kept there yet. */
+static void keep_label(const struct label *label, const struct name *name)
+{
+    const struct label *other = label_like(label);
+    if (other != NULL) {
+        printf("looks like %s\n", other->text);
+        return;
+    }
+    labels[registered++] = *label;
+    printf("%" PRIu32 " syllables, skeleton ", jogcairn_first(jogcairn_label(name->values, name->count)));
+    for (size_t at = 0; at < label->count; at++)
+        printf(at == 0 ? "%04X" : "-%04X", (unsigned)label->skeleton[at]);
+    printf("\n");
+}
+
+static void register_label(const char *text)
+{
+    struct name name;
+    struct label label = {text, {0}, 0};
+    printf("register %s: ", text);
+    if (!decode(text, &name))
+        return;
+    uint64_t answer = jogcairn_skeleton(name.values, name.count, label.skeleton, JOGCAIRN_SKELETON_LIMIT);
+    if (!jogcairn_accepted(answer)) {
+        print_refusal(answer, &name);
+        return;
+    }
+    label.count = jogcairn_first(answer);
+    keep_label(&label, &name);
+}
+
+/* Whether two labels look alike, by themselves: the register is not asked. */
+static void print_alike(const char *one, const char *other)
+{
+    struct pair pair;
+    if (!decode_pair(one, other, &pair))
+        return;
+    uint64_t alike = jogcairn_look_alike(pair.first.values, pair.first.count, pair.second.values, pair.second.count);
+    if (both_accepted(alike, &pair))
+        printf(jogcairn_first(alike) ? "look alike\n" : "do not look alike\n");
 }
 
 int main(void)
@@ -354,5 +448,10 @@ int main(void)
     print_stored("၎ငး်");
     print_stored("ဘတ်စ့်");
     print_stored("ပုိက့း်");
+    for (size_t at = 0; at < sizeof wanted / sizeof wanted[0]; at++)
+        register_label(wanted[at]);
+    print_alike("ဥယျာဉ်", "ဉယျာဉ်");
+    print_alike("ဥယျာဉ်", "ရတနာ");
+    print_alike("ရတနာ", "၇တနာ");
     return 0;
 }

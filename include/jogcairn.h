@@ -1,5 +1,6 @@
 /*
- * Jogcairn: Myanmar (Burmese) words, their syllables, their dictionary order, and a word book in a buffer that the caller lends.
+ * Jogcairn: Myanmar (Burmese) words, their syllables, their dictionary order, labels that look alike, and a word book in a buffer that the caller
+ * lends.
  *
  * Link with the archive that `scripts/archive` writes, target/libjogcairn.a (x86-64 Linux).
  *
@@ -18,8 +19,8 @@
  *     bits 56 to 63: the tag        bits 32 to 55: the second number        bits 0 to 31: the first number
  *
  *     accepted: tag 0, and the two numbers as each function says; the second is 0 where nothing is said of it
- *     refused: the tag is the refusal, 1 to 15, the first number is its place, and the second is 0
- *         (in jogcairn_compare 1 or 2: the word that is refused)
+ *     refused: the tag is the refusal, 1 to 23, the first number is its place, and the second is 0
+ *         (in jogcairn_compare and jogcairn_look_alike 1 or 2: the word that is refused)
  *     tag JOGCAIRN_NONE: there is no such syllable, place or record, which is no refusal (jogcairn_record, jogcairn_part,
  *         jogcairn_typed_place, jogcairn_book_word)
  *
@@ -39,6 +40,8 @@ extern "C" {
 #define JOGCAIRN_WORD_LIMIT 64      /* the most values of a word: room for any normalised, written or decoded word */
 #define JOGCAIRN_LINE_LIMIT 192     /* the most bytes of a line */
 #define JOGCAIRN_SPELLED_LIMIT 190  /* the most values of a spelled word; it has at most JOGCAIRN_WORD_LIMIT syllables */
+#define JOGCAIRN_LABEL_LIMIT 10     /* the most syllables of a label */
+#define JOGCAIRN_SKELETON_LIMIT 73  /* the most values of a skeleton */
 #define JOGCAIRN_RECORD_SIZE 8      /* the bytes of a syllable's record */
 #define JOGCAIRN_KEY_SIZE 384       /* the bytes of a key, of which six a syllable are used */
 #define JOGCAIRN_BOOK_LIMIT 16384   /* the most bytes of a book */
@@ -65,7 +68,10 @@ enum jogcairn_refusal {
     JOGCAIRN_ALREADY_LIVE = 12,     /* add: the word is there already; place: the start of its record */
     JOGCAIRN_NOT_LIVE = 13,         /* find, remove: the word is not there; place 0 */
     JOGCAIRN_BOOK_FULL = 14,        /* add: the live records and the new one together pass the buffer's end; place: the live length */
-    JOGCAIRN_RANK_TOO_HIGH = 15     /* rank: so many live records there are not; place: how many there are */
+    JOGCAIRN_RANK_TOO_HIGH = 15,    /* rank: so many live records there are not; place: how many there are */
+    JOGCAIRN_STOP_OR_SIGN = 21,     /* no label, by a stop or a sign; place: the first, in the stored spelling */
+    JOGCAIRN_CONFUSABLE_DIGIT = 22, /* no label, by a 1040 or 1047 next to a value that is no digit; place: the first such, in the stored spelling */
+    JOGCAIRN_TOO_MANY_SYLLABLES = 23 /* no label, by more than ten syllables; place 10 */
 };
 
 static inline unsigned jogcairn_tag(uint64_t answer)
@@ -130,8 +136,8 @@ uint64_t jogcairn_normalise(const uint16_t *word, size_t count, uint16_t *output
 uint64_t jogcairn_stored_form(const uint16_t *word, size_t count, uint16_t *output, size_t room);
 
 /* Which value of the word, as typed, stands at a place of the stored spelling. First: its place in the word. So a counter can point at the
-   letter that makes a word refused: refusal 3 at a place is the typed value that this call gives for that place. A 1026 that was typed as
-   1025 102E is pointed at by its 1025. None where the stored spelling ends before the place. [1, 2, none] */
+   letter that makes a word refused: refusal 3, 21 or 22 at a place is the typed value that this call gives for that place. A 1026 that was
+   typed as 1025 102E is pointed at by its 1025. None where the stored spelling ends before the place. [1, 2, none] */
 uint64_t jogcairn_typed_place(const uint16_t *word, size_t count, size_t place);
 
 /* Writes the collation key of a word, normalised, always JOGCAIRN_KEY_SIZE bytes: six a syllable (head, medial, final, second final, vowel, tone), then
@@ -145,6 +151,24 @@ uint64_t jogcairn_compare(const uint16_t *first, size_t first_count, const uint1
 
 /* Writes the values of a line of UTF-8, without the byte that ends it. First: the values. [1, 5, 7] */
 uint64_t jogcairn_decode(const uint8_t *line, size_t bytes, uint16_t *word, size_t room);
+
+/*
+ * A label names a web shop: a word, normalised, without a stop (104A, 104B) or a sign (104C to 104F), without a 1040 or 1047 next to a value that is
+ * no digit, and of at most JOGCAIRN_LABEL_LIMIT syllables. They are tested in this order, each over the whole word. The word's end is no value: 1040
+ * alone is a label, and so is the empty word.
+ *
+ * Two labels look alike exactly when they have the same skeleton: the normalised word with 1040 as 101D, 1047 as 101B, 1025 as 1009, and 1029 as 101E
+ * 103C. A host keeps the skeleton as the key under which a label is registered, and finds what a new label looks like by one search.
+ */
+
+/* Whether a word is a label. First: its syllables. [1 to 4, 21 to 23] */
+uint64_t jogcairn_label(const uint16_t *word, size_t count);
+
+/* Writes the skeleton of a label, which has its own length: at most JOGCAIRN_SKELETON_LIMIT values. First: its values. [1 to 5, 21 to 23] */
+uint64_t jogcairn_skeleton(const uint16_t *word, size_t count, uint16_t *skeleton, size_t room);
+
+/* Whether two labels look alike. First: 1 where they do, 0 where not. [1 to 4, 21 to 23; second: 1 or 2, the word that is refused] */
+uint64_t jogcairn_look_alike(const uint16_t *first, size_t first_count, const uint16_t *second, size_t second_count);
 
 /*
  * A book: a buffer of at most JOGCAIRN_BOOK_LIMIT bytes, which are its only state. It has records one behind the other from the first byte on,

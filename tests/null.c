@@ -44,6 +44,13 @@ static void on_words(void)
     expect("compare", jogcairn_compare(NULL, 0, NULL, 0), 0, 0, 1);
     expect("compare, first", jogcairn_compare(NULL, 0, ka, 1), 0, 0, 0);
     expect("compare, second", jogcairn_compare(ka, 1, NULL, 0), 0, 0, 2);
+    expect("label", jogcairn_label(NULL, 0), 0, 0, 0);
+    expect("skeleton", jogcairn_skeleton(NULL, 0, NULL, 0), 0, 0, 0);
+    expect("skeleton, no word", jogcairn_skeleton(NULL, 0, values, 1), 0, 0, 0);
+    expect("skeleton, no output", jogcairn_skeleton(ka, 1, NULL, 0), JOGCAIRN_OUTPUT_TOO_SHORT, 0, 1);
+    expect("look alike", jogcairn_look_alike(NULL, 0, NULL, 0), 0, 0, 1);
+    expect("look alike, first", jogcairn_look_alike(NULL, 0, ka, 1), 0, 0, 0);
+    expect("look alike, second", jogcairn_look_alike(ka, 1, NULL, 0), 0, 0, 0);
     expect("decode", jogcairn_decode(NULL, 0, NULL, 0), 0, 0, 0);
     expect("decode, no output", jogcairn_decode(line, sizeof line, NULL, 0), JOGCAIRN_OUTPUT_TOO_SHORT, 0, 1);
 }

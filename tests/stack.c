@@ -13,10 +13,10 @@ static unsigned char stack[STACK_SIZE];
 static ucontext_t here, there;
 static void (*measured)(void);
 
-/* The longest word, which is a row of syllables; one that has to be sorted; one that is refused; a row of independent vowels with finals; and one of
-   syllables with two finals. */
-static uint16_t words[5][JOGCAIRN_WORD_LIMIT];
-static const uint16_t *word = words[0];
+/* The longest word, which is a row of syllables; one that has to be sorted; one that is refused; a row of independent vowels with finals; one of
+   syllables with two finals; and the label with the longest skeleton. */
+static uint16_t words[6][JOGCAIRN_WORD_LIMIT];
+static const uint16_t *word = words[0], *const label = words[5];
 
 /* The longest book, full; the same with every second record removed; a copy of either to be changed; and a full one whose words all begin with the same
    syllable. */
@@ -36,6 +36,8 @@ static void run_stored_form(void) { jogcairn_stored_form(word, 64, values, JOGCA
 static void run_typed_place(void) { jogcairn_typed_place(word, 64, 60); }
 static void run_key(void) { jogcairn_key(word, 64, key, sizeof key); }
 static void run_compare(void) { jogcairn_compare(word, 64, words[1], 64); }
+static void run_label(void) { jogcairn_label(word, 64); }
+static void run_skeleton(void) { jogcairn_skeleton(word, 64, values, JOGCAIRN_SKELETON_LIMIT); }
 static void run_decode(void) { jogcairn_decode((const uint8_t *)"\xE1\x80\x80\xE1\x80\x81", 6, values, JOGCAIRN_WORD_LIMIT); }
 static void run_check(void) { jogcairn_book_check(book, sizeof book); }
 static void run_add(void) { jogcairn_book_add(book, sizeof book, word, 64, 1); }
@@ -51,6 +53,13 @@ static void run_record(void)
 {
     jogcairn_record(word, 64, 63, record, sizeof record);
     jogcairn_record(word, 64, 0, record, sizeof record);
+}
+
+/* With the longest label on either side, so that the other word is looked at wherever it stands. */
+static void run_look_alike(void)
+{
+    jogcairn_look_alike(word, 64, label, 64);
+    jogcairn_look_alike(label, 64, word, 64);
 }
 
 /* The longest query, and one that every record fits. */
@@ -75,6 +84,9 @@ static const struct {
     {"jogcairn_typed_place", run_typed_place, JOGCAIRN_STACK_WORD},
     {"jogcairn_key", run_key, JOGCAIRN_STACK_WORD},
     {"jogcairn_compare", run_compare, JOGCAIRN_STACK_WORD},
+    {"jogcairn_label", run_label, JOGCAIRN_STACK_WORD},
+    {"jogcairn_skeleton", run_skeleton, JOGCAIRN_STACK_WORD},
+    {"jogcairn_look_alike", run_look_alike, JOGCAIRN_STACK_WORD},
     {"jogcairn_decode", run_decode, JOGCAIRN_STACK_WORD},
     {"jogcairn_book_check", run_check, JOGCAIRN_STACK_BOOK},
     {"jogcairn_book_add", run_add, JOGCAIRN_STACK_BOOK},
@@ -127,12 +139,15 @@ static void make_words(void)
 {
     static const uint16_t sorted[] = {0x1000, 0x1037, 0x103A, 0x102F}, refused[] = {0x1000, 0x1038, 0x1037, 0x103B};
     static const uint16_t closed[] = {0x1025, 0x1000, 0x1039, 0x1000}, twice[] = {0x1018, 0x1010, 0x103A, 0x1005, 0x103A};
+    static const uint16_t longer[] = {0x1029, 0x1000, 0x103A, 0x1005, 0x103A, 0x1038};
+    static const uint16_t last[] = {0x1015, 0x103C, 0x1031, 0x102B, 0x103A, 0x1000, 0x103A, 0x1005, 0x103A, 0x1037};
     for (size_t at = 0; at < JOGCAIRN_WORD_LIMIT; at++) {
         words[0][at] = 0x1000;
         words[1][at] = at < 2 ? 0x1000 : sorted[at % 4];
         words[2][at] = refused[at % 4];
         words[3][at] = closed[at % 4];
         words[4][at] = twice[at % 5];
+        words[5][at] = at < 54 ? longer[at % 6] : last[at - 54];
     }
 }
 
@@ -167,6 +182,10 @@ int main(void)
 {
     int wrong = 0;
     make_words();
+    if (jogcairn_skeleton(label, JOGCAIRN_WORD_LIMIT, values, JOGCAIRN_SKELETON_LIMIT) != JOGCAIRN_SKELETON_LIMIT) {
+        printf("the longest skeleton is not made\n");
+        return 1;
+    }
     if (!make_book(full, 0) || !make_book(alike, 1) || !make_gaps()) {
         printf("a book is not filled, or not tidied\n");
         return 1;
