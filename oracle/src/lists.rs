@@ -14,6 +14,7 @@ use crate::random::Random;
 
 pub use changes::{shuffle_runs, WITH_LETTER_U};
 pub use finals::crowded;
+pub use label_examples::with_longest_skeleton;
 pub use labels::{exchanged, likely_label, long_skeleton};
 pub use picked_rows::{random_row, row_of_length, RowUnderWay};
 

@@ -3,7 +3,7 @@
 use oracle::formula::writings;
 use oracle::labels::{replaced, LABEL_LIMIT, REPLACEMENTS};
 use oracle::letters::admitted_values;
-use oracle::lists::{likely_label, long_skeleton};
+use oracle::lists::{likely_label, long_skeleton, with_longest_skeleton};
 use oracle::program::Program;
 use oracle::random::Random;
 use oracle::syllable::Piece;
@@ -172,9 +172,8 @@ fn longest_skeleton() -> usize {
 
 #[test]
 fn no_skeleton_is_longer_than_73_values() {
-    let nine = [0x1029, 0x1014, 0x103A, 0x1005, 0x103A, 0x1038].repeat(9);
-    let last = [0x1000, 0x103B, 0x1031, 0x102C, 0x103A, 0x1014, 0x103A, 0x1005, 0x103A, 0x1038];
-    let word = [&nine[..], &last].concat();
+    let word = with_longest_skeleton();
+    assert_eq!(word[..6], [0x1029, 0x1014, 0x103A, 0x1005, 0x103A, 0x1038]);
     let (syllables, skeleton) = accepted(&word);
     assert_eq!((word.len(), syllables, skeleton.len()), (64, 10, 73));
     assert_eq!(longest_skeleton(), 73);

@@ -71,8 +71,8 @@ const FAULTY_LINES: [&[u8]; 7] = [
     b"\xE1\x81\x8A\xE1\x80",
 ];
 
-/// 64 values in ten syllables, nine of which begin with 1029: its skeleton has 73.
-fn of_longest_skeleton() -> Vec<u16> {
+/// The word with the longest skeleton: 64 values in ten syllables, nine of which begin with 1029.
+pub fn with_longest_skeleton() -> Vec<u16> {
     let nine = [0x1029, 0x1014, 0x103A, 0x1005, 0x103A, 0x1038].repeat(9);
     let last = [0x1000, 0x103B, 0x1031, 0x102C, 0x103A, 0x1014, 0x103A, 0x1005, 0x103A, 0x1038];
     [nine, last.to_vec()].concat()
@@ -88,7 +88,7 @@ pub fn examples() -> impl Iterator<Item = Vec<u8>> {
         [&[0x1000; 10][..], &[0x1040]].concat(),
         vec![0x1040; 10],
         vec![0x1047; 11],
-        of_longest_skeleton(),
+        with_longest_skeleton(),
         vec![0x1000; WORD_LIMIT],
         vec![0x104A; WORD_LIMIT],
         vec![0x1000; WORD_LIMIT + 1],
