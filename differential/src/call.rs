@@ -17,6 +17,9 @@ pub enum Call {
     Key,
     Compare,
     WordOrder,
+    Label,
+    Skeleton,
+    LookAlike,
     Decode,
     BookCheck,
     BookAdd,
@@ -33,7 +36,7 @@ pub enum Call {
 
 impl Call {
     /// All calls.
-    pub const ALL: [Call; 25] = [
+    pub const ALL: [Call; 28] = [
         Call::Read,
         Call::Record,
         Call::RecordBytes,
@@ -47,6 +50,9 @@ impl Call {
         Call::Key,
         Call::Compare,
         Call::WordOrder,
+        Call::Label,
+        Call::Skeleton,
+        Call::LookAlike,
         Call::Decode,
         Call::BookCheck,
         Call::BookAdd,
@@ -77,6 +83,9 @@ impl Call {
             Call::Key => "key",
             Call::Compare => "compare",
             Call::WordOrder => "order of words",
+            Call::Label => "label",
+            Call::Skeleton => "skeleton",
+            Call::LookAlike => "look alike",
             Call::Decode => "decode",
             Call::BookCheck => "book check",
             Call::BookAdd => "book add",
@@ -100,6 +109,8 @@ impl Call {
             Call::Record | Call::Part => &[0, 1, 2, 3, 4, 128],
             Call::RecordBytes => &[0, 1, 2, 3, 4, 5, 128],
             Call::Spell | Call::Normalise | Call::Key => &[0, 1, 2, 3, 4, 5],
+            Call::Label | Call::LookAlike => &[0, 1, 2, 3, 4, 21, 22, 23],
+            Call::Skeleton => &[0, 1, 2, 3, 4, 5, 21, 22, 23],
             Call::StoredForm => &[0, 1, 2, 5],
             Call::TypedPlace => &[0, 1, 2, 128],
             Call::Write => &[0, 5, 6],
@@ -117,7 +128,7 @@ impl Call {
 
     /// Whether two words are handed in, so that a refusal says which.
     pub const fn takes_two_words(self) -> bool {
-        matches!(self, Call::Compare | Call::WordOrder)
+        matches!(self, Call::Compare | Call::WordOrder | Call::LookAlike)
     }
 
     /// What the bytes of a case are, if the call takes any.
@@ -151,6 +162,7 @@ impl Call {
             | Call::Normalise
             | Call::StoredForm
             | Call::Key
+            | Call::Skeleton
             | Call::Decode
             | Call::BookFindPrefix
             | Call::BookOrder => &["room"],

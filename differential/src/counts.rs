@@ -13,7 +13,10 @@ pub struct Counts {
 }
 
 /// The tags in the order of the columns.
-const COLUMNS: [u8; 15] = [0, 1, 2, 3, 4, 5, 6, 7, 8, 11, 12, 13, 14, 15, 128];
+const COLUMNS: [u8; 18] = [0, 1, 2, 3, 4, 5, 6, 7, 8, 11, 12, 13, 14, 15, 21, 22, 23, 128];
+
+/// The row of labels that look alike, behind those of the refused ones.
+const ALIKE: u8 = 3;
 
 impl Counts {
     /// No answers yet.
@@ -26,6 +29,7 @@ impl Counts {
         let row = match answer {
             Answer::Refused { which, .. } => *which,
             Answer::Accepted(numbers) if call == Call::BookAdd => numbers[1] as u8,
+            Answer::Accepted(numbers) if call == Call::LookAlike => ALIKE * numbers[0] as u8,
             _ => 0,
         };
         if let Some(tag) = answer.tag() {
@@ -56,11 +60,12 @@ impl Counts {
     }
 }
 
-/// The rows of a call: of two words, refusals of each have a row of their own, and so have the adds
-/// that tidied.
+/// The rows of a call: of two words, refusals of each have a row of their own, and so have the labels
+/// that look alike and the adds that tidied.
 fn rows(call: Call) -> Vec<(Call, u8, String)> {
     let further: &[&str] = match call {
         Call::Compare | Call::WordOrder => &["first", "second"],
+        Call::LookAlike => &["first", "second", "alike"],
         Call::BookAdd => &["tidied"],
         _ => &[],
     };
@@ -72,7 +77,7 @@ fn rows(call: Call) -> Vec<(Call, u8, String)> {
 /// The tags that a row can have.
 fn tags(call: Call, row: u8) -> impl Iterator<Item = u8> {
     let fits = move |tag: &&u8| match (call, row) {
-        (Call::BookAdd, 1) => **tag == 0,
+        (Call::BookAdd, 1) | (Call::LookAlike, ALIKE) => **tag == 0,
         _ => !call.takes_two_words() || (row == 0) == (**tag == 0),
     };
     call.tags().iter().filter(fits).copied()

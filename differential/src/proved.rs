@@ -17,16 +17,19 @@ impl Library for Proved {
             Call::Spell => spell(case),
             Call::RecordBytes => record_bytes(case),
             Call::Write | Call::Decode => bytes_to_values(case),
-            Call::Normalise | Call::StoredForm => stored(case),
+            Call::Normalise | Call::StoredForm | Call::Skeleton => word_to_values(case),
             Call::Key => key(case),
-            Call::Compare | Call::WordOrder => of_two_words(case),
+            Call::Compare | Call::WordOrder | Call::LookAlike => of_two_words(case),
             Call::BookCheck | Call::BookTidy | Call::BookRank | Call::BookEntries => of_book(case),
             Call::BookOrder | Call::BookWord => from_book(case),
             Call::BookAdd | Call::BookRemove | Call::BookFind => of_book_and_word(case),
             Call::BookFindPrefix | Call::BookPrefixEntries => of_book_and_query(case),
-            Call::Read | Call::Record | Call::Part | Call::Syllables | Call::TypedPlace => {
-                of_word(case)
-            }
+            Call::Read
+            | Call::Record
+            | Call::Part
+            | Call::Syllables
+            | Call::TypedPlace
+            | Call::Label => of_word(case),
         }
     }
 }
@@ -76,6 +79,7 @@ fn of_word(case: &Case) -> Outcome {
             jogcairn::typed_place(values, number)
                 .map(|typed| typed.map(|typed| vec![typed as u64])),
         ),
+        Call::Label => one(jogcairn::label(values)),
         _ => one(jogcairn::read(values).map(|syllables| syllables.len())),
     };
     Outcome { answer, lent: vec![word.after()] }
@@ -120,11 +124,12 @@ fn bytes_to_values(case: &Case) -> Outcome {
     Outcome { answer: one(count), lent: vec![bytes.after(), word.after()] }
 }
 
-fn stored(case: &Case) -> Outcome {
+fn word_to_values(case: &Case) -> Outcome {
     let word = Lent::input(&case.word);
     let mut output = Lent::output(case.numbers[0]);
     let count = match case.call {
         Call::Normalise => jogcairn::normalise_into(word.inside(), output.inside_mut()),
+        Call::Skeleton => jogcairn::skeleton_into(word.inside(), output.inside_mut()),
         _ => jogcairn::stored_form_into(word.inside(), output.inside_mut()),
     };
     Outcome { answer: one(count), lent: vec![word.after(), output.after()] }
@@ -139,16 +144,22 @@ fn key(case: &Case) -> Outcome {
 
 fn of_two_words(case: &Case) -> Outcome {
     let (first, second) = (Lent::input(&case.word), Lent::input(&case.second));
-    let ordering = match case.call {
-        Call::Compare => jogcairn::compare(first.inside(), second.inside()),
-        _ => order_of_words(first.inside(), second.inside()),
+    let words = (first.inside(), second.inside());
+    let number = match case.call {
+        Call::Compare => jogcairn::compare(words.0, words.1).map(number_of),
+        Call::LookAlike => jogcairn::look_alike(words.0, words.1).map(u64::from),
+        _ => order_of_words(words.0, words.1).map(number_of),
     };
-    let answer = match ordering {
-        Ok(ordering) => Answer::Accepted(vec![(ordering as i8 + 1) as u64]),
+    let answer = match number {
+        Ok(number) => Answer::Accepted(vec![number]),
         Err(ComparisonRefusal { which: Which::First, refusal }) => refused(refusal, 1),
         Err(ComparisonRefusal { which: Which::Second, refusal }) => refused(refusal, 2),
     };
     Outcome { answer, lent: vec![first.after(), second.after()] }
+}
+
+fn number_of(ordering: Ordering) -> u64 {
+    (ordering as i8 + 1) as u64
 }
 
 fn order_of_words(first: &[u16], second: &[u16]) -> Result<Ordering, ComparisonRefusal> {

@@ -18,16 +18,19 @@ impl Library for Reference {
             Call::Spell => spell(case),
             Call::RecordBytes => record_bytes(case),
             Call::Write | Call::Decode => bytes_to_values(case),
-            Call::Normalise | Call::StoredForm => stored(case),
+            Call::Normalise | Call::StoredForm | Call::Skeleton => word_to_values(case),
             Call::Key => key(case),
-            Call::Compare | Call::WordOrder => compare(case),
+            Call::Compare | Call::WordOrder | Call::LookAlike => of_two_words(case),
             Call::BookCheck | Call::BookTidy | Call::BookRank | Call::BookEntries => of_book(case),
             Call::BookOrder | Call::BookWord => from_book(case),
             Call::BookAdd | Call::BookRemove | Call::BookFind => of_book_and_word(case),
             Call::BookFindPrefix | Call::BookPrefixEntries => of_book_and_query(case),
-            Call::Read | Call::Record | Call::Part | Call::Syllables | Call::TypedPlace => {
-                of_word(case)
-            }
+            Call::Read
+            | Call::Record
+            | Call::Part
+            | Call::Syllables
+            | Call::TypedPlace
+            | Call::Label => of_word(case),
         }
     }
 }
@@ -60,6 +63,7 @@ fn of_word(case: &Case) -> Outcome {
     let answer = match case.call {
         Call::Read => accepted(oracle::read(word.inside()).map(|read| one(read.syllables().len()))),
         Call::Syllables => accepted(syllables(word.inside())),
+        Call::Label => accepted(oracle::label(word.inside()).map(one)),
         Call::TypedPlace => accepted_or_nothing(
             oracle::typed_place(word.inside(), case.numbers[0]).map(|typed| typed.map(one)),
         ),
@@ -124,11 +128,12 @@ fn bytes_to_values(case: &Case) -> Outcome {
     Outcome { answer: accepted(count.map(one)), lent: vec![bytes.after(), word.after()] }
 }
 
-fn stored(case: &Case) -> Outcome {
+fn word_to_values(case: &Case) -> Outcome {
     let word = Lent::input(&case.word);
     let mut output = Lent::output(case.numbers[0]);
     let count = match case.call {
         Call::Normalise => oracle::normalise(word.inside(), output.inside_mut()),
+        Call::Skeleton => oracle::put_skeleton(word.inside(), output.inside_mut()),
         _ => oracle::stored_form(word.inside(), output.inside_mut()),
     };
     Outcome { answer: accepted(count.map(one)), lent: vec![word.after(), output.after()] }
@@ -143,10 +148,15 @@ fn key(case: &Case) -> Outcome {
     Outcome { answer: accepted(count.map(one)), lent: vec![word.after(), output.after()] }
 }
 
-fn compare(case: &Case) -> Outcome {
+fn of_two_words(case: &Case) -> Outcome {
     let (first, second) = (Lent::input(&case.word), Lent::input(&case.second));
-    let answer = match oracle::compare(first.inside(), second.inside()) {
-        Ok(ordering) => Answer::Accepted(vec![(ordering as i8 + 1) as u64]),
+    let number = match case.call {
+        Call::LookAlike => oracle::look_alike(first.inside(), second.inside()).map(u64::from),
+        _ => oracle::compare(first.inside(), second.inside())
+            .map(|ordering| (ordering as i8 + 1) as u64),
+    };
+    let answer = match number {
+        Ok(number) => Answer::Accepted(vec![number]),
         Err((Which::First, refusal)) => refused(refusal, 1),
         Err((Which::Second, refusal)) => refused(refusal, 2),
     };

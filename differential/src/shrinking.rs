@@ -34,6 +34,7 @@ fn shorter_cases(case: &Case) -> impl Iterator<Item = Case> + '_ {
         .chain(without_records_before(case))
         .chain(shorter_adds(case))
         .chain(with_shorter_words(case))
+        .chain(without_syllables(case))
         .chain(with_word_of_record(case))
         .chain(shorter(&case.word).map(|word| Case { word, ..case.clone() }))
         .chain(shorter(&case.second).map(|second| Case { second, ..case.clone() }))
@@ -211,6 +212,23 @@ fn with_shorter_words(case: &Case) -> impl Iterator<Item = Case> + '_ {
             places.map(|place| replaced(case, place, &letters[stretch.clone()], None))
         })
     })
+}
+
+/// Cases without the syllables of a number in both words, which may still look alike, however each of
+/// them was written.
+fn without_syllables(case: &Case) -> impl Iterator<Item = Case> + '_ {
+    let most = if case.call.takes_two_words() { WORD_LIMIT } else { 0 };
+    (0..most).map_while(|number| {
+        let word = without_syllable(&case.word, number)?;
+        let second = without_syllable(&case.second, number)?;
+        Some(Case { word, second, ..case.clone() })
+    })
+}
+
+/// The word without the syllable of a number, if it has one.
+fn without_syllable(word: &[u16], number: usize) -> Option<Vec<u16>> {
+    let start = oracle::read(word).ok()?.syllables().get(number)?.start;
+    Some(without(word, start..start + oracle::part(word, number).len()))
 }
 
 /// Cases with the word of a record for their own, where it is shorter: a search by another spelling

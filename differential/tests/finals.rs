@@ -2,12 +2,14 @@
 //! what may not.
 
 mod kinds;
+mod recorded;
 
 use differential::cases::Cases;
 use differential::{Answer, Call, Case, Library, Memory, Outcome, Reference, MARGIN};
 use jogcairn::{KEY_SIZE, RECORD_SIZE, WORD_LIMIT};
-use kinds::{demand, place_of, record, word};
+use kinds::{demand, place_of};
 use oracle::syllable::Record;
+use recorded::{record, word};
 use std::collections::BTreeSet;
 
 /// Whether the call takes the word as it is handed in, and accepts it.

@@ -1,10 +1,12 @@
 //! Heads that are no consonants come with all that they carry, and with what they do not.
 
 mod kinds;
+mod recorded;
 
 use differential::{Answer, Call, Case, Memory, Outcome, MARGIN};
-use kinds::{demand, place_of, record, word};
+use kinds::{demand, place_of};
 use oracle::syllable::Record;
+use recorded::{record, word};
 
 const INDEPENDENT: [u16; 7] = [0x1023, 0x1024, 0x1025, 0x1026, 0x1027, 0x1029, 0x102A];
 

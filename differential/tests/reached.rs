@@ -1,11 +1,13 @@
 //! The inputs come in all kinds: every state of a book, every room of an output.
 
 mod kinds;
+mod recorded;
 
 use differential::cases::Cases;
 use differential::{Answer, Call, Case, Library, Outcome, Reference};
 use jogcairn::{BOOK_LIMIT, KEY_SIZE, RECORD_SIZE, WORD_LIMIT};
-use kinds::{demand, place_of, record, word, INPUTS};
+use kinds::{demand, place_of, INPUTS};
+use recorded::{record, word};
 use std::collections::BTreeSet;
 
 /// The bytes from the place on at which a buffer is no book.
@@ -335,7 +337,8 @@ fn words_come_in_every_length() {
 fn outputs_come_in_every_length_from_none_to_enough() {
     const LONGEST: usize = 6;
     let (rooms, rooms_for_keys) = rooms(4 * INPUTS);
-    let of_values = [Call::Spell, Call::Write, Call::Normalise, Call::StoredForm, Call::Decode];
+    let of_values =
+        [Call::Spell, Call::Write, Call::Normalise, Call::StoredForm, Call::Skeleton, Call::Decode];
     let of_books = [Call::BookFindPrefix, Call::BookOrder, Call::BookWord];
     for call in of_values.into_iter().chain(of_books) {
         // No record is without a value.

@@ -1,10 +1,12 @@
 //! The searches by first syllables come in all kinds: what is found, what is missed, what is refused.
 
 mod kinds;
+mod recorded;
 
 use differential::{Answer, Call, Case, Memory, Outcome, MARGIN};
 use jogcairn::{BOOK_LIMIT, WORD_LIMIT};
-use kinds::{demand, place_of, record, word};
+use kinds::{demand, place_of};
+use recorded::{record, word};
 
 #[test]
 fn words_are_found_in_every_way() {

@@ -1,7 +1,8 @@
 //! Every short word and every small book, none left out.
 
 use differential::{difference, Call, Case, Proved, Reference};
-use jogcairn::KEY_SIZE;
+use jogcairn::{KEY_SIZE, SKELETON_LIMIT};
+use oracle::lists::with_longest_skeleton;
 
 /// One value or more of each kind: those that the rules name, and one of the others.
 const REPRESENTATIVES: [u16; 26] = [
@@ -20,6 +21,17 @@ const MADE_INTO_FINALS: [u16; 12] = [
 /// and a head that takes no marks.
 const MADE_INTO_TWO_FINALS: [u16; 6] = [0x1000, 0x1004, 0x1025, 0x1038, 0x1039, 0x103A];
 
+/// What decides over a label or its skeleton: digits that may be refused and one that is not, values
+/// that are replaced and those that they become, a stop and the sign that carries a final, and what
+/// is stored otherwise.
+const MADE_INTO_LABELS: [u16; 12] = [
+    0x1000, 0x1009, 0x101E, 0x1025, 0x1029, 0x1040, 0x1041, 0x1047, 0x104A, 0x104E, 0x102E, 0x103A,
+];
+
+/// Digits, letters that they look like, and letters that are replaced by others.
+const THAT_LOOK_ALIKE: [u16; 9] =
+    [0x1009, 0x101B, 0x101D, 0x101E, 0x1025, 0x1029, 0x103C, 0x1040, 0x1047];
+
 /// Demands that both libraries have the same outcome.
 fn demand_agreement(case: &Case) {
     assert!(difference(&Proved, &Reference, case).is_none(), "{case}");
@@ -37,10 +49,14 @@ fn try_all_at(values: &[u16], length: usize, call: Call, numbers: [usize; 2]) {
 
 /// Tries each word of so many of the values, in the case otherwise as given.
 fn try_all_in(values: &[u16], length: usize, case: &Case) {
+    for_all(values, length, |word| demand_agreement(&Case { word, ..case.clone() }));
+}
+
+/// Does something with each word of so many of the values.
+fn for_all(values: &[u16], length: usize, mut act: impl FnMut(Vec<u16>)) {
     let mut places = vec![0; length];
     loop {
-        let word = places.iter().map(|&place| values[place]).collect();
-        demand_agreement(&Case { word, ..case.clone() });
+        act(places.iter().map(|&place| values[place]).collect());
         // The next word: the places count like the digits of a number.
         let Some(digit) = places.iter().rposition(|&place| place + 1 < values.len()) else { break };
         places[digit] += 1;
@@ -55,7 +71,8 @@ fn values() -> Vec<u16> {
 
 #[test]
 fn every_word_of_up_to_two_values() {
-    for call in [Call::Syllables, Call::Spell, Call::Normalise, Call::StoredForm, Call::Key] {
+    let of_words = [Call::Syllables, Call::Spell, Call::Normalise, Call::StoredForm, Call::Key];
+    for call in of_words.into_iter().chain([Call::Label, Call::Skeleton]) {
         for length in 0..=2 {
             try_all(&values(), length, call);
         }
@@ -66,6 +83,7 @@ fn every_word_of_up_to_two_values() {
 fn every_word_of_three_values() {
     try_all(&values(), 3, Call::Syllables);
     try_all(&values(), 3, Call::Normalise);
+    try_all(&values(), 3, Call::Skeleton);
 }
 
 #[test]
@@ -89,6 +107,57 @@ fn every_word_of_six_and_seven_values_that_are_made_into_two_finals() {
     for length in 6..=7 {
         for call in [Call::Syllables, Call::Spell, Call::Key] {
             try_all(&MADE_INTO_TWO_FINALS, length, call);
+        }
+    }
+}
+
+/// Five values hold a digit between two others, and letters on both sides of them.
+#[test]
+fn every_word_of_four_and_five_values_that_are_made_into_labels() {
+    for length in 4..=5 {
+        for call in [Call::Label, Call::Skeleton] {
+            try_all(&MADE_INTO_LABELS, length, call);
+        }
+    }
+}
+
+#[test]
+fn every_pair_of_up_to_two_values_that_look_alike() {
+    let mut words = Vec::new();
+    for length in 0..=2 {
+        for_all(&THAT_LOOK_ALIKE, length, |word| words.push(word));
+    }
+    for (word, second) in words.iter().flat_map(|one| words.iter().map(move |two| (one, two))) {
+        let look_alike = Case::of_word(Call::LookAlike, word.clone());
+        demand_agreement(&Case { second: second.clone(), ..look_alike });
+    }
+}
+
+/// Syllables of one value and of two, with a stop or a digit at each place among them or none.
+#[test]
+fn every_number_of_syllables_with_a_stop_or_a_digit_at_each_place() {
+    for syllables in 0..=13 {
+        for syllable in [&[0x1000][..], &[0x1029, 0x1038], &[0x1041], &[0x1047]] {
+            let word = syllable.repeat(syllables);
+            let at_each_place = (0..=word.len()).flat_map(|place| {
+                let (before, behind) = word.split_at(place);
+                [&[][..], &[0x104B], &[0x1040]].map(|value| [before, value, behind].concat())
+            });
+            for word in at_each_place {
+                demand_agreement(&Case::of_word(Call::Label, word.clone()));
+                let skeleton = Case::of_word(Call::Skeleton, word);
+                demand_agreement(&Case { numbers: [SKELETON_LIMIT, 0], ..skeleton });
+            }
+        }
+    }
+}
+
+#[test]
+fn every_room_for_a_skeleton() {
+    for word in [with_longest_skeleton(), vec![0x1047; 10], vec![0x1029], Vec::new()] {
+        for room in 0..=SKELETON_LIMIT + 1 {
+            let skeleton = Case::of_word(Call::Skeleton, word.clone());
+            demand_agreement(&Case { numbers: [room, 0], ..skeleton });
         }
     }
 }

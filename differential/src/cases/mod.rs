@@ -1,6 +1,7 @@
 //! Inputs made by chance, the same for the same seed on every machine.
 
 mod books;
+mod labels;
 mod lines;
 mod queries;
 mod records;
@@ -17,11 +18,16 @@ use oracle::random::Random;
 use shelf::Shelf;
 use std::mem::swap;
 
-/// A maker of inputs.
+/// A maker of inputs. Those on labels are made by a generator of their own, so that the others are
+/// what they are without them.
 pub struct Cases {
     random: Random,
+    label_random: Random,
     shelf: Shelf,
 }
+
+/// So many of a hundred inputs are on labels.
+const ON_LABELS: usize = 12;
 
 /// The calls on words and lines, each as often as it stands here.
 const WORD_CALLS: [Call; 24] = [
@@ -54,11 +60,18 @@ const WORD_CALLS: [Call; 24] = [
 impl Cases {
     /// The inputs of a seed.
     pub fn new(seed: u64) -> Cases {
-        Cases { random: Random::of(&format!("differential {seed}")), shelf: Shelf::new() }
+        Cases {
+            random: Random::of(&format!("differential {seed}")),
+            label_random: Random::of(&format!("labels {seed}")),
+            shelf: Shelf::new(),
+        }
     }
 
     /// The next input.
     pub fn next_case(&mut self) -> Case {
+        if self.label_random.chance(ON_LABELS) {
+            return labels::case(&mut self.label_random);
+        }
         if self.random.chance(42) {
             return books::case(&mut self.random, &mut self.shelf);
         }
@@ -95,8 +108,7 @@ impl Cases {
                 [self.number(accepted(&stored)[0]), 0]
             }
             Call::Spell | Call::Write | Call::Normalise | Call::StoredForm | Call::Decode => {
-                let enough = Case { numbers: [256; 2], ..case.clone() };
-                accepted(&enough).map(|needed| self.near(needed))
+                needed(case).map(|needed| self.near(needed))
             }
             _ => [0; 2],
         }
@@ -130,6 +142,11 @@ fn near(random: &mut Random, needed: usize) -> usize {
 /// How many syllables the word has; none where it is refused.
 fn syllables(case: &Case) -> usize {
     accepted(&Case { call: Call::Read, ..case.clone() })[0]
+}
+
+/// How much is written where there is room enough; zeros where the case is refused.
+fn needed(case: &Case) -> [usize; 2] {
+    accepted(&Case { numbers: [256; 2], ..case.clone() })
 }
 
 /// The numbers with which the other implementation accepts a case; zeros where it does not.
