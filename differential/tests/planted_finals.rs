@@ -3,6 +3,7 @@
 
 mod doubles;
 mod faults;
+mod giving;
 mod searching;
 
 use differential::{Answer, Call, Case, Finding, Library, Outcome, Proved};

@@ -1,12 +1,14 @@
 //! Searches by first syllables that are planted wrong must be found, and made as small as they can be.
 
 mod faults;
+mod giving;
 mod searching;
 
 use differential::{run, Answer, Call, Case, Finding, Library, Memory, Outcome, Reference, MARGIN};
 use faults::finding;
+use giving::give;
 use jogcairn::Key;
-use searching::{give, is_search, records, search_by};
+use searching::{is_search, records, search_by};
 
 /// Whether the weights of a word begin with those of the query.
 fn fits(word: &[u16], query: &[u16]) -> bool {

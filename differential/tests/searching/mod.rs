@@ -1,6 +1,7 @@
 //! Searches by first syllables that go by another rule.
 
-use differential::{Answer, Call, Case, Lent, Outcome};
+use crate::giving::give;
+use differential::{Call, Case, Outcome};
 
 /// A record of a book.
 pub struct Record {
@@ -34,17 +35,4 @@ pub fn search_by(case: &Case, outcome: &mut Outcome, rule: fn(&Record, &[u16]) -
 /// Whether the answer is that of a search: neither the query nor the buffer is refused.
 pub fn is_search(case: &Case, outcome: &Outcome) -> bool {
     case.call == Call::BookFindPrefix && matches!(outcome.answer.tag(), Some(0 | 5))
-}
-
-/// Gives these starts for an answer.
-pub fn give(case: &Case, outcome: &mut Outcome, starts: &[u16]) {
-    let mut output = Lent::output(case.numbers[0]);
-    outcome.answer = match output.inside_mut().get_mut(..starts.len()) {
-        None => Answer::Refused { number: 5, place: starts.len(), which: 0 },
-        Some(front) => {
-            front.copy_from_slice(starts);
-            Answer::Accepted(vec![starts.len() as u64])
-        }
-    };
-    outcome.lent[2] = output.after();
 }
