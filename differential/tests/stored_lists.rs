@@ -38,7 +38,7 @@ const MEDIALS: [u8; 16] = [0, 1, 2, 255, 3, 5, 6, 255, 4, 7, 8, 255, 9, 10, 11, 
 
 /// How many refusals there are (the variants of `Refusal` in crates/refusals/src/lib.rt): a call
 /// jumps by its refusal where it packs its answer.
-const REFUSALS: usize = 13;
+const REFUSALS: usize = 16;
 
 /// The bytes of read-only memory that the archive takes. The price-label terminal has little left,
 /// so a request that needs more has to raise this, knowingly.

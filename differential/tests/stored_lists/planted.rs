@@ -215,15 +215,15 @@ fn jump(count: usize) -> String {
 
 /// A function of one value.
 fn choosing(body: &str) -> String {
-    let steps: String = (0..16).map(|value| format!("void step_{value}(void);\n")).collect();
+    let steps: String = (0..20).map(|value| format!("void step_{value}(void);\n")).collect();
     format!("{steps}void done(int);\nvoid choose(unsigned value) {{\n{body}}}\n")
 }
 
 #[test]
 fn a_jump_by_more_than_the_refusals_is_found() {
-    let complaints = long_jumps(&in_c(&choosing(&jump(16))));
-    demand_one(&complaints, ".rodata.choose at byte 0: a jump table of 16 entries, more than 13");
-    assert!(long_jumps(&in_c(&choosing(&jump(13)))).is_empty());
+    let complaints = long_jumps(&in_c(&choosing(&jump(20))));
+    demand_one(&complaints, ".rodata.choose at byte 0: a jump table of 20 entries, more than 16");
+    assert!(long_jumps(&in_c(&choosing(&jump(16)))).is_empty());
 }
 
 #[test]
