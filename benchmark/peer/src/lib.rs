@@ -23,7 +23,8 @@ unsafe fn output<'a, T>(first: *mut T, count: usize) -> &'a mut [T] {
 /// As for [`part`].
 #[no_mangle]
 pub unsafe extern "C" fn peer_read(word: *const u16, count: usize) -> u64 {
-    reading::read(unsafe { part(word, count) }).map_or(REFUSED, |reading| reading.syllables().len() as u64)
+    reading::read(unsafe { part(word, count) })
+        .map_or(REFUSED, |reading| reading.syllables().len() as u64)
 }
 
 /// # Safety
@@ -38,29 +39,48 @@ pub unsafe extern "C" fn peer_spell(word: *const u16, count: usize) -> u64 {
 /// # Safety
 /// As for [`part`] and [`output`].
 #[no_mangle]
-pub unsafe extern "C" fn peer_write(records: *const u8, bytes: usize, word: *mut u16, room: usize) -> u64 {
-    writing::write(unsafe { part(records, bytes) }, unsafe { output(word, room) }).map_or(REFUSED, |count| count as u64)
+pub unsafe extern "C" fn peer_write(
+    records: *const u8,
+    bytes: usize,
+    word: *mut u16,
+    room: usize,
+) -> u64 {
+    writing::write(unsafe { part(records, bytes) }, unsafe { output(word, room) })
+        .map_or(REFUSED, |count| count as u64)
 }
 
 /// # Safety
 /// As for [`part`] and [`output`].
 #[no_mangle]
-pub unsafe extern "C" fn peer_normalise(word: *const u16, count: usize, form: *mut u16, room: usize) -> u64 {
-    storage::normalise(unsafe { part(word, count) }, unsafe { output(form, room) }).map_or(REFUSED, |count| count as u64)
+pub unsafe extern "C" fn peer_normalise(
+    word: *const u16,
+    count: usize,
+    form: *mut u16,
+    room: usize,
+) -> u64 {
+    storage::normalise(unsafe { part(word, count) }, unsafe { output(form, room) })
+        .map_or(REFUSED, |count| count as u64)
 }
 
 /// # Safety
 /// As for [`part`] and [`output`].
 #[no_mangle]
-pub unsafe extern "C" fn peer_stored_form(word: *const u16, count: usize, form: *mut u16, room: usize) -> u64 {
-    storage::stored_form(unsafe { part(word, count) }, unsafe { output(form, room) }).map_or(REFUSED, |count| count as u64)
+pub unsafe extern "C" fn peer_stored_form(
+    word: *const u16,
+    count: usize,
+    form: *mut u16,
+    room: usize,
+) -> u64 {
+    storage::stored_form(unsafe { part(word, count) }, unsafe { output(form, room) })
+        .map_or(REFUSED, |count| count as u64)
 }
 
 /// # Safety
 /// As for [`part`].
 #[no_mangle]
 pub unsafe extern "C" fn peer_typed_place(word: *const u16, count: usize, place: usize) -> u64 {
-    storage::typed_place(unsafe { part(word, count) }, place).map_or(REFUSED, |typed| typed.map_or(REFUSED, |typed| typed as u64))
+    storage::typed_place(unsafe { part(word, count) }, place)
+        .map_or(REFUSED, |typed| typed.map_or(REFUSED, |typed| typed as u64))
 }
 
 /// # Safety
@@ -73,7 +93,12 @@ pub unsafe extern "C" fn peer_key(word: *const u16, count: usize, at: usize) -> 
 /// # Safety
 /// As for [`part`].
 #[no_mangle]
-pub unsafe extern "C" fn peer_compare(first: *const u16, count: usize, second: *const u16, second_count: usize) -> u64 {
+pub unsafe extern "C" fn peer_compare(
+    first: *const u16,
+    count: usize,
+    second: *const u16,
+    second_count: usize,
+) -> u64 {
     collation::compare(unsafe { part(first, count) }, unsafe { part(second, second_count) })
         .map_or(REFUSED, |order| (order as i8 + 1) as u64)
 }
@@ -88,8 +113,14 @@ pub unsafe extern "C" fn peer_book_check(buffer: *const u8, bytes: usize) -> u64
 /// # Safety
 /// As for [`part`].
 #[no_mangle]
-pub unsafe extern "C" fn peer_book_find(buffer: *const u8, bytes: usize, word: *const u16, count: usize) -> u64 {
-    book::find(unsafe { part(buffer, bytes) }, unsafe { part(word, count) }).map_or(REFUSED, |entry| entry.start as u64)
+pub unsafe extern "C" fn peer_book_find(
+    buffer: *const u8,
+    bytes: usize,
+    word: *const u16,
+    count: usize,
+) -> u64 {
+    book::find(unsafe { part(buffer, bytes) }, unsafe { part(word, count) })
+        .map_or(REFUSED, |entry| entry.start as u64)
 }
 
 /// # Safety
@@ -102,8 +133,14 @@ pub unsafe extern "C" fn peer_book_rank(buffer: *const u8, bytes: usize, rank: u
 /// # Safety
 /// As for [`part`] and [`output`].
 #[no_mangle]
-pub unsafe extern "C" fn peer_book_order(buffer: *const u8, bytes: usize, starts: *mut u16, room: usize) -> u64 {
-    book::order(unsafe { part(buffer, bytes) }, unsafe { output(starts, room) }).map_or(REFUSED, |live| live as u64)
+pub unsafe extern "C" fn peer_book_order(
+    buffer: *const u8,
+    bytes: usize,
+    starts: *mut u16,
+    room: usize,
+) -> u64 {
+    book::order(unsafe { part(buffer, bytes) }, unsafe { output(starts, room) })
+        .map_or(REFUSED, |live| live as u64)
 }
 
 /// # Safety
@@ -118,13 +155,20 @@ pub unsafe extern "C" fn peer_book_find_prefix(
     room: usize,
 ) -> u64 {
     let (buffer, query) = unsafe { (part(buffer, bytes), part(query, count)) };
-    book::find_prefix(buffer, query, unsafe { output(starts, room) }).map_or(REFUSED, |fitting| fitting as u64)
+    book::find_prefix(buffer, query, unsafe { output(starts, room) })
+        .map_or(REFUSED, |fitting| fitting as u64)
 }
 
 /// # Safety
 /// As for [`part`] and [`output`].
 #[no_mangle]
-pub unsafe extern "C" fn peer_book_word(buffer: *const u8, bytes: usize, start: usize, word: *mut u16, room: usize) -> u64 {
+pub unsafe extern "C" fn peer_book_word(
+    buffer: *const u8,
+    bytes: usize,
+    start: usize,
+    word: *mut u16,
+    room: usize,
+) -> u64 {
     book::word_at(unsafe { part(buffer, bytes) }, start, unsafe { output(word, room) })
         .map_or(REFUSED, |told| told.map_or(REFUSED, |told| u64::from(told.stock)))
 }
