@@ -4,6 +4,7 @@
 
 #include <unicode/ucol.h>
 #include <unicode/unorm2.h>
+#include <unicode/uspoof.h>
 
 #include <algorithm>
 #include <chrono>
@@ -26,6 +27,9 @@ uint64_t peer_stored_form(const uint16_t *, size_t, uint16_t *, size_t);
 uint64_t peer_typed_place(const uint16_t *, size_t, size_t);
 uint64_t peer_key(const uint16_t *, size_t, size_t);
 uint64_t peer_compare(const uint16_t *, size_t, const uint16_t *, size_t);
+uint64_t peer_label(const uint16_t *, size_t);
+uint64_t peer_skeleton(const uint16_t *, size_t, uint16_t *, size_t);
+uint64_t peer_look_alike(const uint16_t *, size_t, const uint16_t *, size_t);
 uint64_t peer_book_check(const uint8_t *, size_t);
 uint64_t peer_book_find(const uint8_t *, size_t, const uint16_t *, size_t);
 uint64_t peer_book_rank(const uint8_t *, size_t, size_t);
@@ -133,6 +137,15 @@ static std::vector<Word> words_of(const char *path, size_t &refused, size_t &apa
     return words;
 }
 
+// A line for each case: its time, and that as a multiple of the first one's.
+static void print_times(const char *what, const char *first, const std::vector<Case> &cases)
+{
+    std::printf("  %-34s %9s %10s\n", what, "ns", first);
+    for (const Case &each : cases)
+        std::printf("  %-34s %9.1f %10.2f\n", each.name, each.shortest, each.shortest / cases[0].shortest);
+    std::printf("\n");
+}
+
 static void aim(const char *name, double ratio, double most)
 {
     std::printf("  %-54s %6.3f  aim %.3f: %s\n", name, ratio, most, ratio <= most ? "met" : "missed");
@@ -214,15 +227,81 @@ static void time_words(const std::vector<Word> &words)
     ucol_close(collator);
 
     auto ns = [&](int which) { return cases[which].shortest; };
-    std::printf("  %-34s %9s %8s\n", "a word", "ns", "passes");
-    for (const Case &each : cases)
-        std::printf("  %-34s %9.1f %8.2f\n", each.name, each.shortest, each.shortest / ns(PASS));
-    std::printf("\n");
+    print_times("a word", "passes", cases);
     aim("key / ICU's sort key", ns(KEY) / ns(ICU_KEY), 1.0 / 6);
     aim("key / the other implementation's", ns(KEY) / ns(PEER_KEY), 1.2);
     aim("compare / ICU's, neighbours", ns(NEXT) / ns(ICU_NEXT), 1);
     aim("compare / ICU's, words far off", ns(FAR) / ns(ICU_FAR), 1);
     aim("normalise / ICU's NFC", ns(NORMALISE) / ns(NFC), 0.5);
+}
+
+// The words of which both implementations say that they are labels.
+static std::vector<Word> labels_of(const std::vector<Word> &words)
+{
+    std::vector<Word> labels;
+    for (const Word &word : words) {
+        uint64_t answer = jogcairn_label(word.data(), word.size()), other = peer_label(word.data(), word.size());
+        need(jogcairn_accepted(answer) ? other == answer : other == UINT64_MAX, "the other implementation takes other words for labels");
+        if (jogcairn_accepted(answer))
+            labels.push_back(word);
+    }
+    return labels;
+}
+
+// The calls on labels, beside normalise, on the same words, ICU's skeletons of confusable strings and the other implementation. Two labels are compared
+// that differ, far off in the file, and a label with itself, whose skeleton is the same to the end.
+static void time_labels(const std::vector<Word> &words)
+{
+    std::vector<Word> labels = labels_of(words);
+    size_t count = labels.size();
+    std::printf("\n  labels: %zu of the words\n", count);
+    if (count == 0)
+        return;
+    static uint16_t form[JOGCAIRN_WORD_LIMIT], skeleton[JOGCAIRN_SKELETON_LIMIT];
+    static UChar icu_skeleton[4 * JOGCAIRN_WORD_LIMIT];
+    UErrorCode status = U_ZERO_ERROR;
+    USpoofChecker *checker = uspoof_open(&status);
+    uspoof_setChecks(checker, USPOOF_CONFUSABLE, &status);
+    need(U_SUCCESS(status), "ICU has no test for confusable strings");
+    auto text = [&](size_t i) { return reinterpret_cast<const UChar *>(labels[i].data()); };
+    auto size = [&](size_t i) { return int32_t(labels[i].size()); };
+    auto alike = [&](size_t i, size_t k) { return jogcairn_look_alike(labels[i].data(), labels[i].size(), labels[k].data(), labels[k].size()); };
+    auto peer_alike = [&](size_t i, size_t k) { return peer_look_alike(labels[i].data(), labels[i].size(), labels[k].data(), labels[k].size()); };
+    auto icu_alike = [&](size_t i, size_t k) {
+        UErrorCode error = U_ZERO_ERROR;
+        return uint64_t(uspoof_areConfusable(checker, text(i), size(i), text(k), size(k), &error));
+    };
+    enum { NORMALISE, LABEL, SKELETON, FAR, SAME, PEER_LABEL, PEER_SKELETON, PEER_FAR, PEER_SAME, ICU_SKELETON, ICU_FAR, ICU_SAME };
+    std::vector<Case> cases = {
+        timed("normalise", count,
+              [&](size_t i) { return jogcairn_normalise(labels[i].data(), labels[i].size(), form, JOGCAIRN_WORD_LIMIT) + form[i % 8]; }),
+        timed("label", count, [&](size_t i) { return jogcairn_label(labels[i].data(), labels[i].size()); }),
+        timed("skeleton", count,
+              [&](size_t i) { return jogcairn_skeleton(labels[i].data(), labels[i].size(), skeleton, JOGCAIRN_SKELETON_LIMIT) + skeleton[i % 8]; }),
+        timed("look alike, labels far off", count, [&](size_t i) { return alike(i, far_from(i, count)); }),
+        timed("look alike, a label and itself", count, [&](size_t i) { return alike(i, i); }),
+        timed("other implementation: label", count, [&](size_t i) { return peer_label(labels[i].data(), labels[i].size()); }),
+        timed("other implementation: skeleton", count,
+              [&](size_t i) { return peer_skeleton(labels[i].data(), labels[i].size(), skeleton, JOGCAIRN_SKELETON_LIMIT) + skeleton[i % 8]; }),
+        timed("other implementation: far off", count, [&](size_t i) { return peer_alike(i, far_from(i, count)); }),
+        timed("other implementation: itself", count, [&](size_t i) { return peer_alike(i, i); }),
+        timed("ICU: skeleton", count,
+              [&](size_t i) {
+                  UErrorCode error = U_ZERO_ERROR;
+                  return uint64_t(uspoof_getSkeleton(checker, 0, text(i), size(i), icu_skeleton, std::size(icu_skeleton), &error)) + icu_skeleton[i % 8];
+              }),
+        timed("ICU: confusable, far off", count, [&](size_t i) { return icu_alike(i, far_from(i, count)); }),
+        timed("ICU: confusable, itself", count, [&](size_t i) { return icu_alike(i, i); }),
+    };
+    run(cases);
+    uspoof_close(checker);
+    print_times("a label", "normalise", cases);
+    auto ratio = [&](const char *name, int ours, int others) { std::printf("  %-54s %6.3f\n", name, cases[ours].shortest / cases[others].shortest); };
+    ratio("label / the other implementation's", LABEL, PEER_LABEL);
+    ratio("skeleton / the other implementation's", SKELETON, PEER_SKELETON);
+    ratio("skeleton / ICU's", SKELETON, ICU_SKELETON);
+    ratio("look alike / ICU's confusable, labels far off", FAR, ICU_FAR);
+    ratio("look alike / ICU's confusable, a label and itself", SAME, ICU_SAME);
 }
 
 // Different words of at most two values, a head or a head and a mark, until the book is full.
@@ -613,6 +692,7 @@ int main(int argc, char **argv)
     std::printf("%zu words of %.1f values (%zu lines refused and left out); the shortest of %d rounds\n", words.size(), mean_values(words), refused, rounds);
     std::printf("%zu words with two finals are left out too, so that a library that refuses them is timed on the same words\n\n", apart);
     time_words(words);
+    time_labels(words);
 
     std::vector<Word> names = short_names();
     std::printf("\n  a call on a book of %d bytes, in microseconds; words of one and two values\n", JOGCAIRN_BOOK_LIMIT);

@@ -1,7 +1,7 @@
 //! C names for the other implementation, so that the benchmark calls it beside the proved library in one program. Each answers with one
 //! number that depends on the whole answer, or with `REFUSED`.
 
-use oracle::{book, collation, reading, spelling, storage, writing};
+use oracle::{book, collation, labels, reading, spelling, storage, writing};
 use std::slice;
 
 /// The answer to what is refused.
@@ -101,6 +101,39 @@ pub unsafe extern "C" fn peer_compare(
 ) -> u64 {
     collation::compare(unsafe { part(first, count) }, unsafe { part(second, second_count) })
         .map_or(REFUSED, |order| (order as i8 + 1) as u64)
+}
+
+/// # Safety
+/// As for [`part`].
+#[no_mangle]
+pub unsafe extern "C" fn peer_label(word: *const u16, count: usize) -> u64 {
+    labels::label(unsafe { part(word, count) }).map_or(REFUSED, |syllables| syllables as u64)
+}
+
+/// # Safety
+/// As for [`part`] and [`output`].
+#[no_mangle]
+pub unsafe extern "C" fn peer_skeleton(
+    word: *const u16,
+    count: usize,
+    skeleton: *mut u16,
+    room: usize,
+) -> u64 {
+    labels::put_skeleton(unsafe { part(word, count) }, unsafe { output(skeleton, room) })
+        .map_or(REFUSED, |count| count as u64)
+}
+
+/// # Safety
+/// As for [`part`].
+#[no_mangle]
+pub unsafe extern "C" fn peer_look_alike(
+    first: *const u16,
+    count: usize,
+    second: *const u16,
+    second_count: usize,
+) -> u64 {
+    labels::look_alike(unsafe { part(first, count) }, unsafe { part(second, second_count) })
+        .map_or(REFUSED, u64::from)
 }
 
 /// # Safety
