@@ -4,21 +4,21 @@ use mathlib.Core.Path.{_≡_, refl, sym, ap, subst, _∙_}
 use mathlib.Core.List.{List, _++_}
 use Prim.Native.Nat.{ℕ, _≤_, _<_}
 use native.Mathlib.Omega.{arith}
-use lib.ListN.{length, take, drop}
+use lib.ListN.{length, take, drop, length-append}
+use lib.Seq.{take-at}
+use Rattle.formula.specs.Limits.{limit}
 use Rattle.refusals.specs.Refusal.{numberOf, placeOf}
 use Rattle.refusals.specs.Outcome.{Outcome, accepts, refuses, outcomeOf}
-use Rattle.refusals.specs.Output.{refused, Puts, whole, no-room}
+use Rattle.refusals.specs.Output.{refused, put, too-short, Puts, whole, no-room}
 use Rattle.memory.specs.Put.{Written}
 use Rattle.refusals.specs.declared.Refusal.{Refusal}
 use Rattle.refusals.specs.declared.Counted.{Counted}
 use Rattle.refusals.specs.declared.Counted.the-variants.{Count, Refused}
 use Rattle.refusals.proofs.Putting.{puts-writes}
-use Rattle.recogniser.specs.Answer.{Reads}
+use Rattle.recogniser.specs.Answer.{Reads, Readable}
 use Rattle.storage.specs.Stored.{storedForm}
 use Rattle.storage.proofs.Rows.{gives-stored}
-use Rattle.normaliser.specs.Normal.{Stores, StoreAnswers, NormalRight}
-use Rattle.normaliser.specs.declared.Normalised.{Normalised}
-use Rattle.normaliser.proofs.Storing.{stores, held-room, held-values}
+use Rattle.normaliser.specs.Normal.{StoreRefusedWith, Stores, NormaliseRight}
 use Rattle.label_rules.specs.Rules.{labelOf}
 use Rattle.label_rules.proofs.Laws.{Ruled, has-sign, has-digit, has-many, meets-all, ruled, accepted-meets}
 use Rattle.skeletons.specs.Skeleton.{skeletonOf, skeletonLimit}
@@ -75,27 +75,49 @@ module _ (form : List ℕ) (n : ℕ) where
 pub skeleton-short : (word : List ℕ) (n : ℕ) → IsLabel word n → length (skeleton word) ≤ skeletonLimit
 skeleton-short word n l = form-short (storedForm word) n (l .stores .reads) (l .meets)
 
--- a word that is normalised, with its stored form held by value
-pub record Formed (word : List ℕ) : Type 0 where
-  pub normal : Normalised
-  pub right : NormalRight word normal
+-- a word that is normalised into a list that has room for every word: its stored form stands at the front
+pub record Formed (word after : List ℕ) (count : ℕ) : Type 0 where
   pub syllables : ℕ
-  pub told : normal .answer ≡ Count syllables
+  pub stores : Stores word syllables
+  pub front : take count after ≡ storedForm word
+  pub fits : count ≤ length after
 
-module _ (word : List ℕ) (f : Formed word) where
-  pub formed-stores : Stores word (f .syllables)
-  formed-stores = stores word (f .normal) (f .right) (f .syllables) (f .told)
+module _ (word after : List ℕ) (count : ℕ) (f : Formed word after count) where
+  pub formed-readable : Readable (take count after)
+  formed-readable =
+      let r = f .stores .reads in
+      subst Readable (sym (f .front)) (record { admissible = r .admissible; row = r .row; gives = r .gives; only = r .only })
 
-  pub formed-room : f .normal .word .count ≤ length (f .normal .word .values)
-  formed-room = held-room word (f .normal) (f .right) (f .syllables) (f .told)
+  -- whatever number of syllables the form is read with
+  pub formed-stores : (n : ℕ) → Reads (take count after) n → Stores word n
+  formed-stores n r = record { admissible = f .stores .admissible; reads = subst (λ (l : List ℕ). Reads l n) (f .front) r }
 
-  pub formed-values : take (f .normal .word .count) (f .normal .word .values) ≡ storedForm word
-  formed-values = held-values word (f .normal) (f .right) (f .syllables) (f .told)
+module _ {word before after : List ℕ} (answer : Counted) (right : NormaliseRight word before after (outcomeOf answer)) where
+  pub formed : (n : ℕ) → answer ≡ Count n → Formed word after n
+  formed n e = go (accepts n) refl (subst (λ (w : Counted). NormaliseRight word before after (outcomeOf w)) e right)
+    where
+      go : (o : Outcome) → o ≡ accepts n → NormaliseRight word before after o → Formed word after n
+      go o f (refused r s) = let z : _≡_ {A = ℕ} 0 1 = cc in let y : ⊥ = omega arith in absurd y
+      go o f (too-short l h s) = let z : _≡_ {A = ℕ} 0 1 = cc in let y : ⊥ = omega arith in absurd y
+      go o f (put {thing = k} l h s) =
+          let long : n ≡ length (storedForm word) = cc in
+          record {
+            syllables = k;
+            stores = l;
+            front = ap (take n) s ∙ take-at (storedForm word) (drop (length (storedForm word)) before) n (sym long);
+            fits = omega (arith, ap length s, length-append (storedForm word) (drop (length (storedForm word)) before));
+          }
 
-  pub formed-reads : Reads (take (f .normal .word .count) (f .normal .word .values)) (f .syllables)
-  formed-reads = subst (λ (l : List ℕ). Reads l (f .syllables)) (sym formed-values) (formed-stores .reads)
-
--- and one that is refused
-pub not-formed : (word : List ℕ) (normal : Normalised) → NormalRight word normal → (refusal : Refusal) → normal .answer ≡ Refused refusal
-    → LabelRefusedWith word (numberOf refusal) (placeOf refusal)
-not-formed word normal right refusal e = no-word (subst (λ (a : Counted). StoreAnswers word (outcomeOf a)) e (right .answers))
+  -- and where it is refused, it is no word
+  pub not-formed : limit ≤ length before → (refusal : Refusal) → answer ≡ Refused refusal → LabelRefusedWith word (numberOf refusal) (placeOf refusal)
+  not-formed room refusal e =
+      go (refuses (numberOf refusal) (placeOf refusal)) refl (subst (λ (w : Counted). NormaliseRight word before after (outcomeOf w)) e right)
+    where
+      go : (o : Outcome) → o ≡ refuses (numberOf refusal) (placeOf refusal) → NormaliseRight word before after o
+          → LabelRefusedWith word (numberOf refusal) (placeOf refusal)
+      go o f (refused {number = m} {place = q} r s) =
+          let same : m ≡ numberOf refusal = cc in
+          let there : q ≡ placeOf refusal = cc in
+          no-word (subst (λ (k : ℕ). StoreRefusedWith word k (placeOf refusal)) same (subst (StoreRefusedWith word m) there r))
+      go o f (put l h s) = let z : _≡_ {A = ℕ} 0 1 = cc in let y : ⊥ = omega arith in absurd y
+      go o f (too-short l h s) = let short = l .reads .admissible .short in let z : ⊥ = omega arith in absurd z

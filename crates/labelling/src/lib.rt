@@ -1,7 +1,8 @@
 // Labels of a web shop: whether a word is one, its skeleton, and whether two labels look alike. Each word is normalised first; a row of syllables is its
 // own stored form.
+use formula::Word;
 use label_rules::answer_by_rules;
-use normaliser::normal_form;
+use normaliser::normalise;
 use recogniser::walk::answer_of;
 use refusals::Counted;
 use refusals::Paired;
@@ -15,10 +16,21 @@ ghost use lib.Dec.{leb};
 ghost use lib.ListN.{length};
 ghost use Rattle.refusals.specs.Outcome.{outcomeOf};
 ghost use Rattle.refusals.specs.Pair.{pairOutcomeOf};
-ghost use Rattle.recogniser.specs.Answer.{Reads};
+ghost use Rattle.recogniser.specs.Answer.{Reads, Readable};
 ghost use Rattle.skeletons.specs.Skeleton.{skeletonOf, skeletonLimit};
 ghost use Rattle.labelling.specs.Labelling.{LabelAnswers, SkeletonRight, LookAlikeAnswers, likenessOf};
 ghost use Rattle.labelling.specs.Putting.{FormPut};
+
+// How many syllables a row has.
+fn count_syllables(row: &[u16]) -> usize
+    requires { ⌜ Readable (now row) ⌝ }
+    ensures { λ r. ⌜ Reads (now (row .entry)) r ⌝ }
+{
+    match answer_of(row) {
+        Counted::Count(syllables) => syllables,
+        Counted::Refused(_) => 0,
+    }
+}
 
 // Whether a word is a label: how many syllables it has, or why it is refused.
 pub fn label(word: &[u16]) -> Counted
@@ -28,14 +40,12 @@ pub fn label(word: &[u16]) -> Counted
     if let Counted::Count(syllables) = read {
         return answer_by_rules(word, syllables);
     }
-    let normal = normal_form(word);
-    let answer = normal.answer;
-    match answer {
+    let mut values = [0; Word::LIMIT];
+    let stored = normalise(word, &mut values);
+    match stored {
         Counted::Refused(refusal) => Counted::Refused(refusal),
-        Counted::Count(syllables) => {
-            let form = normal.word;
-            let count = form.count;
-            let values = form.values;
+        Counted::Count(count) => {
+            let syllables = count_syllables(&values[..count]);
             answer_by_rules(&values[..count], syllables)
         }
     }
@@ -75,14 +85,12 @@ pub fn skeleton(word: &[u16], output: &mut [u16]) -> Counted
     if let Counted::Count(syllables) = read {
         return put_skeleton(word, syllables, output);
     }
-    let normal = normal_form(word);
-    let answer = normal.answer;
-    match answer {
+    let mut values = [0; Word::LIMIT];
+    let stored = normalise(word, &mut values);
+    match stored {
         Counted::Refused(refusal) => Counted::Refused(refusal),
-        Counted::Count(syllables) => {
-            let form = normal.word;
-            let count = form.count;
-            let values = form.values;
+        Counted::Count(count) => {
+            let syllables = count_syllables(&values[..count]);
             put_skeleton(&values[..count], syllables, output)
         }
     }

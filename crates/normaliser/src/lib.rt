@@ -13,9 +13,9 @@ pub mod form; // form.rt: the stored form of any word
 pub mod typed; // typed.rt: where a value of the stored form was typed
 
 // A stored word by value, and how it reads. With a refusal the word is empty.
-pub struct Normalised {
-    pub answer: Counted,
-    pub word: Word,
+struct Normalised {
+    answer: Counted,
+    word: Word,
 }
 
 fn refused(refusal: Refusal) -> Normalised
@@ -38,7 +38,7 @@ pub fn as_handed_in(word: &[u16], refusal: Refusal) -> Refusal
 }
 
 // The stored form of a word, and how it reads.
-pub fn normal_form(word: &[u16]) -> Normalised
+fn normal_form(word: &[u16]) -> Normalised
     ensures { λ r. ⌜ NormalRight (now (word .entry)) r ⌝ }
 {
     if Word::LIMIT < word.len() {
