@@ -16,7 +16,7 @@ ghost use Rattle.packing.specs.Answers.{outcomeNumbers, FindAnswers};
 pub extern "C" fn jogcairn_book_check(book: &[u8]) -> u64
     ensures { λ r. ⌜ r ≡ pack (outcomeNumbers (checkOf (entries (now (book .entry))))) ⌝ }
 {
-    packing::of_counted(wordbook::check(book))
+    packing::of_counted(book_calls::check(book))
 }
 
 // Puts a live record with the word just after the last record, and tells whether the book was tidied for it.
@@ -40,7 +40,7 @@ pub extern "C" fn jogcairn_book_remove(book: &mut [u8], word: &[u16]) -> u64
 pub extern "C" fn jogcairn_book_tidy(book: &mut [u8]) -> u64
     ensures { λ r. ⌜ Packed (TidyRight (now (book .entry)) (now (book .exit))) outcomeNumbers r ⌝ }
 {
-    packing::of_counted(wordbook::tidy(book))
+    packing::of_counted(book_calls::tidy(book))
 }
 
 // Stock number and start of the live record with the word.
@@ -64,7 +64,7 @@ pub extern "C" fn jogcairn_book_find_prefix(book: &[u8], query: &[u16], starts: 
 pub extern "C" fn jogcairn_book_rank(book: &[u8], rank: usize) -> u64
     ensures { λ r. ⌜ r ≡ pack (outcomeNumbers (rankOf (entries (now (book .entry))) rank)) ⌝ }
 {
-    packing::of_reply(wordbook::rank(book, rank))
+    packing::of_reply(book_calls::rank(book, rank))
 }
 
 // Writes the starts of all live records, in word order.
@@ -72,7 +72,7 @@ pub extern "C" fn jogcairn_book_rank(book: &[u8], rank: usize) -> u64
 pub extern "C" fn jogcairn_book_order(book: &[u8], starts: &mut [u16]) -> u64
     ensures { λ r. ⌜ Packed (OrderRight (now (book .entry)) (now (starts .entry)) (now (starts .exit))) outcomeNumbers r ⌝ }
 {
-    packing::of_counted(wordbook::order(book, starts))
+    packing::of_counted(book_calls::order(book, starts))
 }
 
 // Writes the word of the record that starts at `start`, and tells its stock number, its length and whether it is live.
@@ -80,5 +80,5 @@ pub extern "C" fn jogcairn_book_order(book: &[u8], starts: &mut [u16]) -> u64
 pub extern "C" fn jogcairn_book_word(book: &[u8], start: usize, word: &mut [u16]) -> u64
     ensures { λ r. ⌜ Packed (WordRight (now (book .entry)) start (now (word .entry)) (now (word .exit))) outcomeNumbers r ⌝ }
 {
-    packing::of_reply(wordbook::word_at(book, start, word))
+    packing::of_reply(book_calls::word_at(book, start, word))
 }

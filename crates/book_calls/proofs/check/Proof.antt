@@ -1,4 +1,4 @@
--- `wordbook::check` meets its contract: opening the buffer counts the live records of its entries, or gives the first wrong place.
+-- `book_calls::check` meets its contract: opening the buffer counts the live records of its entries, or gives the first wrong place.
 -- Assumes nothing.
 use borrow.Author.Needs.{needs}
 use mathlib.Core.Path.{_≡_, refl, sym, ap, _∙_}
@@ -9,8 +9,8 @@ use Rattle.entries.specs.Outcome.{checkOf}
 use Rattle.book_check.specs.Opening.{openingOf}
 use Rattle.book_check.specs.declared.open.Opening.{Opening}
 use Rattle.book_check.specs.declared.open.Opening.the-variants.{Book, Wrong}
-use Rattle.wordbook.proofs.check.Statement.{statement}
-use Rattle.wordbook.proofs.check.Tie as tie
+use Rattle.book_calls.proofs.check.Statement.{statement}
+use Rattle.book_calls.proofs.check.Tie as tie
 
 abbrev checkBy : Opening → Outcome
 checkBy (Book live free) = accepts live
