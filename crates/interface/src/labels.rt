@@ -1,5 +1,6 @@
 // The calls on labels.
-ghost use Rattle.labelling.specs.Labelling.{LabelAnswers, SkeletonRight, LookAlikeAnswers};
+ghost use Rattle.labelling.specs.Labelling.{LabelAnswers, SkeletonRight};
+ghost use Rattle.likeness.specs.Likeness.{LookAlikeAnswers};
 ghost use Rattle.packing.specs.Packing.{Packed};
 ghost use Rattle.packing.specs.Answers.{outcomeNumbers, pairNumbers};
 
@@ -24,5 +25,5 @@ pub extern "C" fn jogcairn_skeleton(word: &[u16], skeleton: &mut [u16]) -> u64
 pub extern "C" fn jogcairn_look_alike(first: &[u16], second: &[u16]) -> u64
     ensures { λ r. ⌜ Packed (LookAlikeAnswers (now (first .entry)) (now (second .entry))) pairNumbers r ⌝ }
 {
-    packing::of_pair(labelling::look_alike(first, second))
+    packing::of_pair(likeness::look_alike(first, second))
 }

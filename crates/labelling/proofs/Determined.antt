@@ -6,15 +6,11 @@ use Prim.Native.Nat.{ℕ}
 use native.Mathlib.Omega.{arith}
 use lib.ListN.{length}
 use Rattle.refusals.specs.Outcome.{Outcome, accepts, accepts-both, absent, refuses}
-use Rattle.refusals.specs.Pair.{PairOutcome, pairOutcomeOf}
-use Rattle.refusals.specs.declared.Paired.{Paired}
-use Rattle.refusals.proofs.Laws.{paired-once}
 use Rattle.refusals.proofs.Determined.{Same, writes-determined}
-use Rattle.refusals.proofs.Pairs.{BothPass, pair-once}
 use Rattle.storage.specs.Stored.{storedForm}
 use Rattle.normaliser.proofs.Determined.{store-refused-alike, stored-not-refused, stores-alike}
 use Rattle.label_rules.specs.Rules.{labelOf}
-use Rattle.labelling.specs.Labelling.{IsLabel, LabelRefusedWith, no-word, ruled-out, LabelAnswers, skeleton, SkeletonRight, Likened, LookAlikeAnswers}
+use Rattle.labelling.specs.Labelling.{IsLabel, LabelRefusedWith, no-word, ruled-out, LabelAnswers, skeleton, SkeletonRight}
 
 module _ (word : List ℕ) where
   pub label-refused-alike : (n p m q : ℕ) → LabelRefusedWith word n p → LabelRefusedWith word m q → refuses n p ≡ refuses m q
@@ -53,22 +49,3 @@ module _ (word : List ℕ) where
   skeleton-determined =
       writes-determined (LabelRefusedWith word) (IsLabel word) (λ (_ : ℕ). skeleton word) (λ (_ : ℕ). length (skeleton word)) label-refused-alike labels-alike
       label-not-refused
-
-module _ (first second : List ℕ) where
-  both-labels : (k : ℕ) → Likened first second k → BothPass IsLabel first second
-  both-labels k l =
-      record {
-        first-passes = record { count = l .first-count; passes = l .first-label };
-        second-passes = record { count = l .second-count; passes = l .second-label };
-      }
-
-  likened-once : (k l : ℕ) → Likened first second k → Likened first second l → k ≡ l
-  likened-once k l s t = s .told ∙ sym (t .told)
-
--- the outcome of looking at two words is determined, and so is the answer
-pub look-alike-once : (first second : List ℕ) (a b : PairOutcome) → LookAlikeAnswers first second a → LookAlikeAnswers first second b → a ≡ b
-look-alike-once = pair-once IsLabel LabelRefusedWith Likened label-refused-alike label-not-refused both-labels likened-once
-
-pub look-alike-determined : (first second : List ℕ) (a b : Paired) → LookAlikeAnswers first second (pairOutcomeOf a)
-    → LookAlikeAnswers first second (pairOutcomeOf b) → a ≡ b
-look-alike-determined first second a b r s = paired-once a b (look-alike-once first second (pairOutcomeOf a) (pairOutcomeOf b) r s)

@@ -1,6 +1,5 @@
 pub mod Stored
 pub mod Given
-pub mod Alike
 pub mod Laws
 pub mod Determined
 pub mod Words

@@ -1,13 +1,12 @@
--- Worked labels, and words that are none: each with what is answered and its skeleton, by computing them; and pairs of labels.
+-- Worked labels, and words that are none: each with what is answered and its skeleton, by computing them.
 -- Assumes nothing.
 use mathlib.Core.Path.{_≡_, refl, sym, subst}
-use mathlib.Core.Bool.{Bool, true, false, _&&_}
+use mathlib.Core.Bool.{Bool, _&&_}
 use mathlib.Core.List.{List, [], _∷_}
 use Prim.Native.Nat.{ℕ}
-use lib.Dec.{T, eqb, eqb→eq}
+use lib.Dec.{T}
 use lib.ListN.{length}
 use Rattle.letters.specs.Choice.{pick}
-use Rattle.letters.specs.Weights.{bitIf}
 use Rattle.formula.specs.Syllable.{carriesMarks, carriesFinal}
 use Rattle.formula.specs.Row.{Row, join}
 use Rattle.formula.proofs.Lists.{both-left, both-right, every, All, every-all, sameList, sameList-equal}
@@ -19,7 +18,7 @@ use Rattle.normaliser.proofs.Worked.{isStoredAs, stored-as}
 use Rattle.label_rules.specs.Rules.{isStopOrSign, looksLikeLetter, isOther, isConfusable, labelOf}
 use Rattle.skeletons.specs.Skeleton.{replaced}
 use Rattle.skeletons.proofs.Longest.{longestRow}
-use Rattle.labelling.specs.Labelling.{IsLabel, LabelAnswers, skeleton, Likened}
+use Rattle.labelling.specs.Labelling.{IsLabel, LabelAnswers, skeleton}
 use Rattle.labelling.proofs.Stored.{answers-by}
 
 -- a word as handed in, the row that gives its stored form, what is answered, and the values replaced
@@ -33,31 +32,31 @@ pub record Worked : Type 0 where
 abbrev worked : Example → Outcome → List ℕ → Worked
 worked e outcome skeleton = record { word = e .word; row = e .row; outcome = outcome; skeleton = skeleton }
 
-abbrev empty : Worked
+abbrev pub empty : Worked
 empty = record { word = []; row = []; outcome = accepts 0; skeleton = [] }
 
-abbrev zero : Worked
+abbrev pub zero : Worked
 zero = worked zero-alone (accepts 1) (0x101D ∷ [])
 
-abbrev digits : Worked
+abbrev pub digits : Worked
 digits = worked zero-seven (accepts 2) (0x101D ∷ 0x101B ∷ [])
 
-abbrev letters : Worked
+abbrev pub letters : Worked
 letters = worked wa-ra (accepts 2) (0x101D ∷ 0x101B ∷ [])
 
-abbrev o : Worked
+abbrev pub o : Worked
 o = worked o-alone (accepts 1) (0x101E ∷ 0x103C ∷ [])
 
-abbrev sa : Worked
+abbrev pub sa : Worked
 sa = worked sa-ra (accepts 1) (0x101E ∷ 0x103C ∷ [])
 
-abbrev u-closed : Worked
+abbrev pub u-closed : Worked
 u-closed = worked plain-i (accepts 1) (0x1009 ∷ 0x1000 ∷ 0x103A ∷ [])
 
-abbrev nya-closed : Worked
+abbrev pub nya-closed : Worked
 nya-closed = worked plain-nya (accepts 1) (0x1009 ∷ 0x1000 ∷ 0x103A ∷ [])
 
-abbrev ka : Worked
+abbrev pub ka : Worked
 ka = worked letter (accepts 1) (0x1000 ∷ [])
 
 pub table : List Worked
@@ -85,7 +84,7 @@ table =
     ∷ worked eleven-syllables (refuses 23 10) (eleven-syllables .word)
     ∷ []
 
-abbrev isRight : Worked → Bool
+abbrev pub isRight : Worked → Bool
 isRight w =
     isStoredAs (w .word) (w .row)
     && (sameOutcome (labelOf (storedForm (w .word)) (length (w .row))) (w .outcome) && sameList (skeleton (w .word)) (w .skeleton))
@@ -116,54 +115,14 @@ right w t =
 pub labels-right : All Right table
 labels-right = every-all isRight Right right table table-right
 
--- two labels, and whether they look alike
-pub record Pair : Type 0 where
-  pub first : Worked
-  pub second : Worked
-  pub alike : Bool
-
-pub pairs : List Pair
-pairs =
-    -- "1025 becomes 1009", and 1000 1039 as it was
-    record { first = u-closed; second = nya-closed; alike = true }
-    ∷ record { first = digits; second = letters; alike = true }
-    ∷ record { first = o; second = sa; alike = true }
-    ∷ record { first = zero; second = zero; alike = true }
-    ∷ record { first = empty; second = empty; alike = true }
-    ∷ record { first = zero; second = digits; alike = false }
-    ∷ record { first = ka; second = empty; alike = false }
-    ∷ []
-
-abbrev isAccepted : Worked → Bool
+-- a label of the table, by its row
+abbrev pub isAccepted : Worked → Bool
 isAccepted w = isRight w && sameOutcome (w .outcome) (accepts (length (w .row)))
 
-abbrev isPairRight : Pair → Bool
-isPairRight p =
-    isAccepted (p .first)
-    && (isAccepted (p .second) && eqb (bitIf (sameList (skeleton (p .first .word)) (skeleton (p .second .word))) 1) (bitIf (p .alike) 1))
-
-pairs-right : T (every isPairRight pairs)
-unfolding pairs labelOf isStopOrSign looksLikeLetter isOther isConfusable replaced pick carriesMarks carriesFinal storedForm isRunMark rank goesBehind makesLongVowel makesLetter
-pairs-right = tt
-
-accepted : (w : Worked) → T (isAccepted w) → IsLabel (w .word) (length (w .row))
+pub accepted : (w : Worked) → T (isAccepted w) → IsLabel (w .word) (length (w .row))
 accepted w t =
     let is = right w (both-left (isRight w) _ t) in
     subst (LabelAnswers (w .word)) (same-outcome (w .outcome) (accepts (length (w .row))) (both-right (isRight w) _ t)) (is .answers)
-
-pair-right : (p : Pair) → T (isPairRight p) → Likened (p .first .word) (p .second .word) (bitIf (p .alike) 1)
-pair-right p t =
-    let rest = both-right (isAccepted (p .first)) _ t in
-    record {
-      first-count = length (p .first .row);
-      first-label = accepted (p .first) (both-left (isAccepted (p .first)) _ t);
-      second-count = length (p .second .row);
-      second-label = accepted (p .second) (both-left (isAccepted (p .second)) _ rest);
-      told = sym (eqb→eq _ _ (both-right (isAccepted (p .second)) _ rest));
-    }
-
-pub pairs-told : All (λ (p : Pair). Likened (p .first .word) (p .second .word) (bitIf (p .alike) 1)) pairs
-pairs-told = every-all isPairRight (λ (p : Pair). Likened (p .first .word) (p .second .word) (bitIf (p .alike) 1)) pair-right pairs pairs-right
 
 -- the label whose skeleton is the longest
 longest-stored : T (isStoredAs (join longestRow) longestRow)

@@ -1,24 +1,19 @@
-// Labels of a web shop: whether a word is one, its skeleton, and whether two labels look alike. Each word is normalised first; a row of syllables is its
-// own stored form.
+// Labels of a web shop: whether a word is one, and its skeleton. Each word is normalised first; a row of syllables is its own stored form.
 use formula::Word;
 use label_rules::answer_by_rules;
 use normaliser::normalise;
 use recogniser::walk::answer_of;
 use refusals::Counted;
-use refusals::Paired;
 use refusals::Refusal;
 use skeletons::LIMIT;
-use weighing::order::Order;
-use weighing::order::order_values;
 ghost use mathlib.Core.Path.{_≡_};
 ghost use Prim.Native.Nat.{_≤_};
 ghost use lib.Dec.{leb};
 ghost use lib.ListN.{length};
 ghost use Rattle.refusals.specs.Outcome.{outcomeOf};
-ghost use Rattle.refusals.specs.Pair.{pairOutcomeOf};
 ghost use Rattle.recogniser.specs.Answer.{Reads, Readable};
 ghost use Rattle.skeletons.specs.Skeleton.{skeletonOf, skeletonLimit};
-ghost use Rattle.labelling.specs.Labelling.{LabelAnswers, SkeletonRight, LookAlikeAnswers, likenessOf};
+ghost use Rattle.labelling.specs.Labelling.{LabelAnswers, SkeletonRight};
 ghost use Rattle.labelling.specs.Putting.{FormPut};
 
 // How many syllables a row has.
@@ -94,34 +89,4 @@ pub fn skeleton(word: &[u16], output: &mut [u16]) -> Counted
             put_skeleton(&values[..count], syllables, output)
         }
     }
-}
-
-// What is told of two skeletons whose order by code values is this: 1 where they are the same.
-fn likeness(order: Order) -> Paired
-    ensures { λ r. ⌜ r ≡ likenessOf order ⌝ }
-{
-    match order {
-        Order::Less => Paired::Told(0),
-        Order::Equal => Paired::Told(1),
-        Order::Greater => Paired::Told(0),
-    }
-}
-
-// Whether two labels look alike, 1 or 0, or which of the words is no label and why.
-pub fn look_alike(first: &[u16], second: &[u16]) -> Paired
-    ensures { λ r. ⌜ LookAlikeAnswers (now (first .entry)) (now (second .entry)) (pairOutcomeOf r) ⌝ }
-{
-    let mut one = [0; LIMIT];
-    let one_answer = skeleton(first, &mut one);
-    let one_count = match one_answer {
-        Counted::Refused(refusal) => return Paired::FirstRefused(refusal),
-        Counted::Count(count) => count,
-    };
-    let mut other = [0; LIMIT];
-    let other_answer = skeleton(second, &mut other);
-    let other_count = match other_answer {
-        Counted::Refused(refusal) => return Paired::SecondRefused(refusal),
-        Counted::Count(count) => count,
-    };
-    likeness(order_values(&one[..one_count], &other[..other_count]))
 }

@@ -15,8 +15,9 @@ use Rattle.storage.specs.Stored.{storedForm}
 use Rattle.label_rules.specs.Rules.{labelOf}
 use Rattle.label_rules.proofs.Laws.{accepted-meets}
 use Rattle.label_rules.proofs.Meaning.{Breaks, sign, digit, many, refused-breaks}
-use Rattle.labelling.specs.Labelling.{IsLabel, LabelRefusedWith, no-word, ruled-out, LabelAnswers, skeleton, SkeletonRight, Likened, LookAlikeAnswers}
+use Rattle.labelling.specs.Labelling.{IsLabel, LabelRefusedWith, no-word, ruled-out, LabelAnswers, skeleton, SkeletonRight}
 use Rattle.labelling.proofs.Stored.{skeleton-short}
+use Rattle.likeness.specs.Likeness.{Likened, LookAlikeAnswers}
 use Rattle.packing.specs.Packing.{Fits}
 use Rattle.packing.specs.Answers.{outcomeNumbers, pairNumbers}
 use Rattle.packing.proofs.WordFits.{Small, small-fits, store-refused-small, writes-fits, pair-fits}

@@ -21,7 +21,8 @@ use Rattle.book_word.specs.WordAt.{WordRight}
 use Rattle.wordbook.specs.Calls.{AddPromise, RemovePromise}
 use Rattle.wordbook.specs.Prefix.{PrefixPromise}
 use Rattle.outputs.specs.Outputs.{RecordWritten, KeyWritten, DecodeWritten}
-use Rattle.labelling.specs.Labelling.{LabelAnswers, SkeletonRight, LookAlikeAnswers}
+use Rattle.labelling.specs.Labelling.{LabelAnswers, SkeletonRight}
+use Rattle.likeness.specs.Likeness.{LookAlikeAnswers}
 use Rattle.packing.specs.Packing.{pack, unpack, Packed}
 use Rattle.packing.specs.Answers.{outcomeNumbers, pairNumbers, FindAnswers}
 use Rattle.packing.proofs.Laws.{unpack-pack, packed-unpacked}

@@ -1,13 +1,13 @@
--- `labelling::look_alike` meets its contract: each word's tests come before the comparison, and both outputs have room for every skeleton.
+-- `likeness::look_alike` meets its contract: each word's tests come before the comparison, and both outputs have room for every skeleton.
 -- Assumes nothing.
 use mathlib.Core.Path.{sym}
 use native.Mathlib.Omega.{arith}
 use lib.Seq.{length-take-le}
 use borrow.Author.Needs.{needs}
 use Rattle.labelling.proofs.Given.{unwritten, Given, told-given, told-refused}
-use Rattle.labelling.proofs.Alike.{likeness-right}
-use Rattle.labelling.proofs.look_alike.Statement.{statement}
-use Rattle.labelling.proofs.look_alike.Tie as tie
+use Rattle.likeness.proofs.Alike.{likeness-right}
+use Rattle.likeness.proofs.look_alike.Statement.{statement}
+use Rattle.likeness.proofs.look_alike.Tie as tie
 
 -- the first word, once its skeleton is made, and the second
 one : (c : tie.After-one-answer2)

@@ -16,8 +16,9 @@ use Rattle.weighing.specs.declared.order.Order.{Order}
 use Rattle.weighing.specs.declared.order.Order.the-variants.{Less, Equal, Greater}
 use Rattle.weighing.proofs.Lexicographic.{less-not-equal, greater-not-equal}
 use Rattle.weighing.proofs.Laws.{values-are-ordered}
-use Rattle.labelling.specs.Labelling.{skeleton, Likened, LookAlikeAnswers, likenessOf}
+use Rattle.labelling.specs.Labelling.{skeleton}
 use Rattle.labelling.proofs.Given.{Given}
+use Rattle.likeness.specs.Likeness.{Likened, LookAlikeAnswers, likenessOf}
 
 -- the same exactly where the order says that they are equal
 same-apart : (a b : List ℕ) (o : Order) → orderValues a b ≡ o → (o ≡ Equal → ⊥) → sameList a b ≡ false

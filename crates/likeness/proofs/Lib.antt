@@ -1,0 +1,4 @@
+pub mod Alike
+pub mod Laws
+pub mod Determined
+pub mod Words
