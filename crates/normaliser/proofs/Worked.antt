@@ -1,6 +1,6 @@
 -- A worked word as it is handed in, with the row that gives its stored form: one test, computed, says that it is stored as that row.
 -- Assumes nothing.
-use mathlib.Core.Path.{_≡_, refl}
+use mathlib.Core.Path.{refl}
 use mathlib.Core.Bool.{Bool, _&&_}
 use mathlib.Core.List.{List}
 use Prim.Native.Nat.{ℕ}

@@ -1,9 +1,7 @@
 -- `skeletons::put` meets its contract. The loop's invariant is `Filled`: what the values so far become stands at the front. The measure is the number of
 -- values that are left.
 -- Assumes nothing.
-use mathlib.Core.Path.{_∙_}
 use Prim.Native.Nat.{_-_}
-use native.Mathlib.Omega.{arith}
 use borrow.Author.Needs.{needs}
 use lib.ListN.{length}
 use Rattle.memory.proofs.Putting.{put-length}
