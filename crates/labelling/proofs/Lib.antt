@@ -1,3 +1,4 @@
+mod Fronts
 pub mod Stored
 pub mod Given
 pub mod Laws

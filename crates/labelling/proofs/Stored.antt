@@ -4,12 +4,11 @@ use mathlib.Core.Path.{_≡_, refl, sym, ap, subst, _∙_}
 use mathlib.Core.List.{List, _++_}
 use Prim.Native.Nat.{ℕ, _≤_, _<_}
 use native.Mathlib.Omega.{arith}
-use lib.ListN.{length, take, drop, length-append}
-use lib.Seq.{take-at}
+use lib.ListN.{length, take, drop}
 use Rattle.formula.specs.Limits.{limit}
 use Rattle.refusals.specs.Refusal.{numberOf, placeOf}
 use Rattle.refusals.specs.Outcome.{Outcome, accepts, refuses, outcomeOf}
-use Rattle.refusals.specs.Output.{refused, put, too-short, Puts, whole, no-room}
+use Rattle.refusals.specs.Output.{refused, Puts, whole, no-room}
 use Rattle.memory.specs.Put.{Written}
 use Rattle.refusals.specs.declared.Refusal.{Refusal}
 use Rattle.refusals.specs.declared.Counted.{Counted}
@@ -25,6 +24,7 @@ use Rattle.skeletons.specs.Skeleton.{skeletonOf, skeletonLimit}
 use Rattle.skeletons.proofs.Longest.{skeleton-within}
 use Rattle.labelling.specs.Labelling.{IsLabel, LabelRefusedWith, no-word, ruled-out, LabelAnswers, skeleton, SkeletonRight}
 use Rattle.labelling.specs.Putting.{FormPut, breaks, meets}
+use Rattle.labelling.proofs.Fronts.{fronted, only-refused}
 
 pub own-form : (word : List ℕ) (n : ℕ) → Reads word n → word ≡ storedForm word
 own-form word n r = sym (gives-stored (r .row) word (r .gives))
@@ -94,30 +94,13 @@ module _ (word after : List ℕ) (count : ℕ) (f : Formed word after count) whe
 
 module _ {word before after : List ℕ} (answer : Counted) (right : NormaliseRight word before after (outcomeOf answer)) where
   pub formed : (n : ℕ) → answer ≡ Count n → Formed word after n
-  formed n e = go (accepts n) refl (subst (λ (w : Counted). NormaliseRight word before after (outcomeOf w)) e right)
-    where
-      go : (o : Outcome) → o ≡ accepts n → NormaliseRight word before after o → Formed word after n
-      go o f (refused r s) = let z : _≡_ {A = ℕ} 0 1 = cc in let y : ⊥ = omega arith in absurd y
-      go o f (too-short l h s) = let z : _≡_ {A = ℕ} 0 1 = cc in let y : ⊥ = omega arith in absurd y
-      go o f (put {thing = k} l h s) =
-          let long : n ≡ length (storedForm word) = cc in
-          record {
-            syllables = k;
-            stores = l;
-            front = ap (take n) s ∙ take-at (storedForm word) (drop (length (storedForm word)) before) n (sym long);
-            fits = omega (arith, ap length s, length-append (storedForm word) (drop (length (storedForm word)) before));
-          }
+  formed n e =
+      let f = fronted (StoreRefusedWith word) (Stores word) (storedForm word) before after n (subst (λ (w : Counted). NormaliseRight word before after (outcomeOf w)) e right) in
+      record { syllables = f .thing; stores = f .stands; front = f .front; fits = f .fits }
 
   -- and where it is refused, it is no word
   pub not-formed : limit ≤ length before → (refusal : Refusal) → answer ≡ Refused refusal → LabelRefusedWith word (numberOf refusal) (placeOf refusal)
   not-formed room refusal e =
-      go (refuses (numberOf refusal) (placeOf refusal)) refl (subst (λ (w : Counted). NormaliseRight word before after (outcomeOf w)) e right)
-    where
-      go : (o : Outcome) → o ≡ refuses (numberOf refusal) (placeOf refusal) → NormaliseRight word before after o
-          → LabelRefusedWith word (numberOf refusal) (placeOf refusal)
-      go o f (refused {number = m} {place = q} r s) =
-          let same : m ≡ numberOf refusal = cc in
-          let there : q ≡ placeOf refusal = cc in
-          no-word (subst (λ (k : ℕ). StoreRefusedWith word k (placeOf refusal)) same (subst (StoreRefusedWith word m) there r))
-      go o f (put l h s) = let z : _≡_ {A = ℕ} 0 1 = cc in let y : ⊥ = omega arith in absurd y
-      go o f (too-short l h s) = let short = l .reads .admissible .short in let z : ⊥ = omega arith in absurd z
+      no-word
+      (only-refused (StoreRefusedWith word) (Stores word) (storedForm word) before after (λ n s. let short = s .reads .admissible .short in omega arith)
+      (numberOf refusal) (placeOf refusal) (subst (λ (w : Counted). NormaliseRight word before after (outcomeOf w)) e right))
