@@ -13,6 +13,7 @@ ghost use Rattle.entries.specs.Book.{Opened};
 ghost use Rattle.entries.specs.Change.{Storable};
 ghost use Rattle.entries.specs.Outcome.{findOf, removeOf};
 ghost use Rattle.planning.specs.Plan.{planOutcome, RoomRight, PlanRight, PlacedRight};
+ghost use Rattle.planning.specs.Preview.{previewOf, previewOutcome};
 
 // Stock number and start of the live record with the word.
 pub fn find(book: &[u8], word: &[u16]) -> Reply
@@ -33,6 +34,13 @@ pub enum Plan {
     Tidied { start: usize, free: usize },
 }
 
+// What a preview tells: the answer of add, the byte where its record would start, and whether it would tidy.
+pub struct Preview {
+    pub answer: Reply,
+    pub start: usize,
+    pub tidies: bool,
+}
+
 impl Plan {
     // What add replies: the start of the record, and 1 where the book is tidied for it.
     pub fn reply(self) -> Reply
@@ -42,6 +50,18 @@ impl Plan {
             Plan::Refused(refusal) => Reply::Refused(refusal),
             Plan::Behind { start } => Reply::Two(start, 0),
             Plan::Tidied { start, free: _ } => Reply::Two(start, 1),
+        }
+    }
+
+    // What its preview tells: where add refuses, the start is 0 and it would not tidy.
+    pub fn preview(self) -> Preview
+        ensures { λ r. ⌜ previewOutcome r ≡ previewOf (planOutcome self) ⌝ }
+    {
+        let answer = self.reply();
+        match self {
+            Plan::Refused(_) => Preview { answer, start: 0, tidies: false },
+            Plan::Behind { start } => Preview { answer, start, tidies: false },
+            Plan::Tidied { start, free: _ } => Preview { answer, start, tidies: true },
         }
     }
 }

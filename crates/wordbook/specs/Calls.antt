@@ -1,5 +1,5 @@
--- Document 01, "The word book" and the two tables of refusals: what each call on a book answers to the word as it is handed in, and what each
--- byte of the buffer is afterwards. Assumes nothing.
+-- Document 01, "The word book" and the two tables of refusals, and document 02, "See an add before doing it": what each call on a book answers to the
+-- word as it is handed in, and what each byte of the buffer is afterwards. Assumes nothing.
 use mathlib.Core.Path.{_≡_}
 use mathlib.Core.List.{List, _++_}
 use Prim.Native.Nat.{ℕ, _≤_}
@@ -9,6 +9,7 @@ use Rattle.storage.specs.Stored.{storedForm}
 use Rattle.normaliser.specs.Normal.{StoreRefusedWith, Stores}
 use Rattle.entries.specs.Entries.{entries}
 use Rattle.entries.specs.Outcome.{addOf, removeOf}
+use Rattle.planning.specs.Preview.{PreviewOutcome, previewOf}
 use Rattle.book_change.specs.Written.{bytesAdded, bytesRemoved}
 
 -- "Tests run in the order 1, 7, 8, 2, 3 or 4": the refusals of a word that is handed in with a book
@@ -29,10 +30,21 @@ pub data CallAnswers (word : List ℕ) (answer : Outcome) : Outcome → Type 0 w
   word-refused : {number place : ℕ} → WordRefused word number place → CallAnswers word answer (refuses number place)
   word-stored : WordStored word → CallAnswers word answer answer
 
+-- what add answers, by the word and the buffer as they are handed in
+abbrev pub AddAnswers : List ℕ → List ℕ → Outcome → Type 0
+AddAnswers word bytes = CallAnswers word (addOf (entries bytes) (length bytes) (storedForm word))
+
 -- the promise of add, with the buffer as it was and as it is
 pub record AddPromise (word : List ℕ) (stock : ℕ) (before after : List ℕ) (outcome : Outcome) : Type 0 where
-  pub answers : CallAnswers word (addOf (entries before) (length before) (storedForm word)) outcome
+  pub answers : AddAnswers word before outcome
   pub bytes : after ≡ bytesAdded outcome before (storedForm word) stock
+
+-- the promise of preview, with the buffer as it was and as it is: "the answer that add gives on a copy of the book", and what is told beside it by that
+-- answer; "The book is untouched"
+pub record PreviewPromise (word before after : List ℕ) (outcome : PreviewOutcome) : Type 0 where
+  pub answers : AddAnswers word before (outcome .answer)
+  pub tells : outcome ≡ previewOf (outcome .answer)
+  pub bytes : after ≡ before
 
 -- the promise of remove, with the buffer as it was and as it is
 pub record RemovePromise (word before after : List ℕ) (outcome : Outcome) : Type 0 where

@@ -1,12 +1,16 @@
 // The word book: the calls on a book in a lent buffer that take a word, for every buffer and every word.
 use formula::Word;
+use planning::Plan;
+use planning::Preview;
+use planning::plan_add;
 use refusals::Counted;
 use refusals::Reply;
 ghost use Rattle.refusals.specs.Outcome.{outcomeOf, replyOutcome};
 ghost use Rattle.storage.specs.Stored.{storedForm};
 ghost use Rattle.entries.specs.Entries.{entries};
 ghost use Rattle.entries.specs.Outcome.{findOf};
-ghost use Rattle.wordbook.specs.Calls.{CallAnswers, AddPromise, RemovePromise};
+ghost use Rattle.planning.specs.Preview.{previewOutcome};
+ghost use Rattle.wordbook.specs.Calls.{CallAnswers, AddPromise, PreviewPromise, RemovePromise};
 ghost use Rattle.wordbook.specs.Prefix.{PrefixPromise};
 
 mod enter; // enter.rt: the word that is handed in with a book
@@ -33,6 +37,17 @@ pub fn add(book: &mut [u8], word: &[u16], stock: u32) -> Reply
     match enter(word, &mut values) {
         Counted::Refused(refusal) => Reply::Refused(refusal),
         Counted::Count(count) => book_change::change::add(book, &values[..count], stock),
+    }
+}
+
+// What add would answer on a copy of the book, where its record would start, and whether it would tidy. The stock number decides nothing of it.
+pub fn preview(book: &[u8], word: &[u16], _stock: u32) -> Preview
+    ensures { λ r. ⌜ PreviewPromise (now (word .entry)) (now (book .entry)) (now (book .exit)) (previewOutcome r) ⌝ }
+{
+    let mut values = [0; Word::LIMIT];
+    match enter(word, &mut values) {
+        Counted::Refused(refusal) => Plan::Refused(refusal).preview(),
+        Counted::Count(count) => plan_add(book, &values[..count]).preview(),
     }
 }
 
