@@ -6,10 +6,10 @@ ghost use Rattle.tidying.specs.Tidy.{TidyRight};
 ghost use Rattle.ranking.specs.Rank.{rankOf};
 ghost use Rattle.ranking.specs.Whole.{OrderRight};
 ghost use Rattle.book_word.specs.WordAt.{WordRight};
-ghost use Rattle.wordbook.specs.Calls.{AddPromise, RemovePromise};
+ghost use Rattle.wordbook.specs.Calls.{AddPromise, PreviewPromise, RemovePromise};
 ghost use Rattle.wordbook.specs.Prefix.{PrefixPromise};
 ghost use Rattle.packing.specs.Packing.{pack, Packed};
-ghost use Rattle.packing.specs.Answers.{outcomeNumbers, FindAnswers};
+ghost use Rattle.packing.specs.Answers.{outcomeNumbers, previewNumbers, FindAnswers};
 
 // Whether the buffer is a book.
 #[no_mangle]
@@ -25,6 +25,14 @@ pub extern "C" fn jogcairn_book_add(book: &mut [u8], word: &[u16], stock: u32) -
     ensures { λ r. ⌜ Packed (AddPromise (now (word .entry)) stock (now (book .entry)) (now (book .exit))) outcomeNumbers r ⌝ }
 {
     packing::of_reply(wordbook::add(book, word, stock))
+}
+
+// What add would answer on a copy of the book, with where its record would start and whether it would tidy: the number of the add.
+#[no_mangle]
+pub extern "C" fn jogcairn_book_preview(book: &[u8], word: &[u16], stock: u32) -> u64
+    ensures { λ r. ⌜ Packed (PreviewPromise (now (word .entry)) (now (book .entry)) (now (book .exit))) previewNumbers r ⌝ }
+{
+    packing::of_preview(wordbook::preview(book, word, stock))
 }
 
 // Marks the live record with the word as removed.

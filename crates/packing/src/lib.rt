@@ -1,4 +1,5 @@
 // Answers as one number of 64 bits each, for callers in other languages.
+use planning::Preview;
 use refusals::Counted;
 use refusals::Paired;
 use refusals::Refusal;
@@ -7,8 +8,9 @@ ghost use mathlib.Core.Path.{_≡_};
 ghost use Rattle.refusals.specs.Refusal.{numberOf, placeOf};
 ghost use Rattle.refusals.specs.Outcome.{outcomeOf, replyOutcome};
 ghost use Rattle.refusals.specs.Pair.{pairOutcomeOf};
+ghost use Rattle.planning.specs.Preview.{previewOutcome};
 ghost use Rattle.packing.specs.Packing.{answer, pack};
-ghost use Rattle.packing.specs.Answers.{outcomeNumbers, pairNumbers};
+ghost use Rattle.packing.specs.Answers.{outcomeNumbers, previewNumbers, pairNumbers};
 
 // The number of a tag, a second number and a first; each is cut to its 8, 24 or 32 bits.
 fn packed(tag: u64, second: u64, first: u64) -> u64
@@ -44,6 +46,14 @@ pub fn of_reply(answer: Reply) -> u64
         Reply::Nothing => packed(128, 0, 0),
         Reply::Refused(refusal) => refused(refusal, 0),
     }
+}
+
+// A preview: the number of the add.
+pub fn of_preview(preview: Preview) -> u64
+    ensures { λ r. ⌜ r ≡ pack (previewNumbers (previewOutcome preview)) ⌝ }
+{
+    let answer = preview.answer;
+    of_reply(answer)
 }
 
 // What is told of two words, or the refusal, with the word that it is of.
