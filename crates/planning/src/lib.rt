@@ -59,9 +59,21 @@ impl Plan {
     {
         let answer = self.reply();
         match self {
-            Plan::Refused(_) => Preview { answer, start: 0, tidies: false },
-            Plan::Behind { start } => Preview { answer, start, tidies: false },
-            Plan::Tidied { start, free: _ } => Preview { answer, start, tidies: true },
+            Plan::Refused(_) => Preview {
+                answer,
+                start: 0,
+                tidies: false,
+            },
+            Plan::Behind { start } => Preview {
+                answer,
+                start,
+                tidies: false,
+            },
+            Plan::Tidied { start, free: _ } => Preview {
+                answer,
+                start,
+                tidies: true,
+            },
         }
     }
 }

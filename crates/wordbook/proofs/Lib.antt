@@ -9,3 +9,5 @@ pub mod Tidied
 pub mod Shown
 pub mod Shelf
 pub mod Room
+pub mod Previewed
+pub mod ShelfPreviewed

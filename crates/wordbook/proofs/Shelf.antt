@@ -20,7 +20,7 @@ use Rattle.recogniser.specs.Answer.{Reads}
 use Rattle.recogniser.proofs.Answered.{row-reads, reads-readable}
 use Rattle.storage.specs.Stored.{storedForm}
 use Rattle.storage.proofs.Rows.{gives-stored}
-use Rattle.entries.specs.Entries.{Entry, holds, isFresh, Entries, book, entries}
+use Rattle.entries.specs.Entries.{Entry, holds, isFresh, Entries, book, wrong, zeroTail, entriesFrom, entries}
 use Rattle.entries.specs.Limits.{bookLimit}
 use Rattle.entries.specs.Book.{zeros, recordBytes, records, endOf, GoodEntry, GoodAfter}
 use Rattle.entries.specs.Map.{lookup}
@@ -148,28 +148,36 @@ pub shelf-tidied : (after : List ℕ) (outcome : Outcome) → TidyRight emptied 
 unfolding filtered pick recordBytes
 shelf-tidied after outcome t = (t .answer ∙ ap tidyOf entries-emptied, t .bytes ∙ ap (λ (x : Entries). entriesTidied x emptied) entries-emptied)
 
+-- an add of a worked word answers and writes what the definition does for the entries of the book
+module _ (example : Example) (h : Held example) (bytes : List ℕ) (held : Entries) (is : entries bytes ≡ held) (stock : ℕ) where
+  worked : (after : List ℕ) (outcome : Outcome) → AddPromise (example .word) stock bytes after outcome → let answer = addOf held (length bytes) (example .word) in
+      (outcome ≡ answer) × (after ≡ bytesAdded answer bytes (example .word) stock)
+  worked after outcome p =
+      let answer : outcome ≡ addOf held (length bytes) (example .word) =
+      stored-answer (example .word) _ outcome (h .stored) (p .answers) ∙ (λ i. addOf (is i) (length bytes) (h .own-form i)) in
+      (answer, p .bytes ∙ (λ i. bytesAdded (answer i) bytes (h .own-form i) stock))
+
 -- "add after remove in a full book": the record does not fit behind the last one, and fits once the book is tidied
 pub shelf-added : (after : List ℕ) (outcome : Outcome) → AddPromise (ukka .word) 5 emptied after outcome → (outcome ≡ accepts-both 17 1) × (after ≡ filled)
 unfolding lookup filtered pick recordBytes
 shelf-added after outcome p =
-    let h = held-words .1 .1 .1 .0 in
-    let answer : outcome ≡ accepts-both 17 1 =
-    stored-answer (ukka .word) _ outcome (h .stored) (p .answers)
-    ∙ (λ i. addOf (entries-emptied i) 28 (h .own-form i)) in (
-      answer,
-      p .bytes ∙ (λ i. bytesAdded (answer i) emptied (h .own-form i) 5)
-          ∙ ap (λ (x : Entries). withRecord (entriesTidied x emptied) 17 (ukka .word) 5) entries-emptied,
-    )
+    let w = worked ukka (held-words .1 .1 .1 .0) emptied _ entries-emptied 5 after outcome p in
+    (w .0, w .1 ∙ ap (λ (x : Entries). withRecord (entriesTidied x emptied) 17 (ukka .word) 5) entries-emptied)
 
 -- and then the book is full: 14 with the live length, and no byte moved
 pub shelf-full : (after : List ℕ) (outcome : Outcome) → AddPromise (aforementioned .word) 6 filled after outcome → (outcome ≡ refuses 14 28) × (after ≡ filled)
 unfolding lookup filtered pick recordBytes
-shelf-full after outcome p =
-    let h = held-words .1 .1 .1 .1 .0 in
-    let answer : outcome ≡ refuses 14 28 =
-    stored-answer (aforementioned .word) _ outcome (h .stored) (p .answers)
-    ∙ (λ i. addOf (entries-filled i) 28 (h .own-form i)) in
-    (answer, p .bytes ∙ ap (λ (o : Outcome). bytesAdded o filled (storedForm (aforementioned .word)) 6) answer)
+shelf-full = worked aforementioned (held-words .1 .1 .1 .1 .0) filled _ entries-filled 6
+
+-- the part that was added is there: 12 with its start
+pub shelf-live : (after : List ℕ) (outcome : Outcome) → AddPromise (ukka .word) 6 filled after outcome → (outcome ≡ refuses 12 17) × (after ≡ filled)
+unfolding lookup pick
+shelf-live = worked ukka (held-words .1 .1 .1 .0) filled _ entries-filled 6
+
+-- a zero and then a seven are no book: 11 with the place of the seven
+pub shelf-no-book : (after : List ℕ) (outcome : Outcome) → AddPromise (letter .word) 6 (0 ∷ 7 ∷ []) after outcome → (outcome ≡ refuses 11 1) × (after ≡ 0 ∷ 7 ∷ [])
+unfolding entries entriesFrom zeroTail pick
+shelf-no-book = worked letter (held-words .0) (0 ∷ 7 ∷ []) (wrong 1) refl 6
 
 -- a removed record of 8 bytes, and 11 that are free
 abbrev pub fitting : List ℕ
@@ -185,9 +193,4 @@ pub shelf-exact : (after : List ℕ) (outcome : Outcome) → AddPromise (ukka .w
     → (outcome ≡ accepts-both 8 0)
     × (after ≡ 0x4D ∷ 0x2D ∷ 1 ∷ 7 ∷ 0 ∷ 0 ∷ 0 ∷ 0x00 ∷ 0x4D ∷ 0x57 ∷ 4 ∷ 5 ∷ 0 ∷ 0 ∷ 0 ∷ 0x25 ∷ 0x00 ∷ 0x39 ∷ 0x00 ∷ [])
 unfolding lookup filtered pick recordBytes
-shelf-exact after outcome p =
-    let h = held-words .1 .1 .1 .0 in
-    let answer : outcome ≡ accepts-both 8 0 =
-    stored-answer (ukka .word) _ outcome (h .stored) (p .answers)
-    ∙ (λ i. addOf (entries-fitting i) 19 (h .own-form i)) in
-    (answer, p .bytes ∙ (λ i. bytesAdded (answer i) fitting (h .own-form i) 5))
+shelf-exact = worked ukka (held-words .1 .1 .1 .0) fitting _ entries-fitting 5
