@@ -36,7 +36,7 @@ use Rattle.ranking.specs.Whole.{NotABook, not-a-book, BookOf, OrderRight}
 use Rattle.ranking.proofs.InOrder.{starts-count}
 use Rattle.ranking.proofs.Laws.{rank-below, rank-too-high, rank-of-no-book}
 use Rattle.book_word.specs.WordAt.{entryStarting, markedCount, wordOfEntry, wordOfRecord, WordRight}
-use Rattle.wordbook.specs.Calls.{WordRefused, empty, refused, CallAnswers, word-refused, word-stored, AddPromise, RemovePromise}
+use Rattle.wordbook.specs.Calls.{WordRefused, empty, refused, CallAnswers, word-refused, word-stored, AddAnswers, RemovePromise}
 use Rattle.wordbook.specs.Prefix.{QueryRefused, query-refused, no-book, Queries, startsFound, PrefixPromise}
 use Rattle.packing.specs.Packing.{Fits}
 use Rattle.packing.specs.Answers.{outcomeNumbers, FindAnswers}
@@ -288,9 +288,9 @@ module _ (bytes : List ℕ) (small : Bytes bytes) where
   pub find-fits : (word : List ℕ) (o : Outcome) → FindAnswers bytes word o → Fits (outcomeNumbers o)
   find-fits word o c = call-fits word _ o (find-by bytes (storedForm word) (entries bytes) (bounded bytes) (sound bytes small)) c
 
-  pub add-fits : (word : List ℕ) (stock : ℕ) (after : List ℕ) (o : Outcome) → AddPromise word stock bytes after o → Fits (outcomeNumbers o)
-  add-fits word stock after o p =
-      call-fits word _ o (add-by bytes (storedForm word) (length bytes) (entries bytes) (bounded bytes) (sound bytes small)) (p .answers)
+  -- the answer of add, to itself and to its preview
+  pub add-fits : (word : List ℕ) (o : Outcome) → AddAnswers word bytes o → Fits (outcomeNumbers o)
+  add-fits word o c = call-fits word _ o (add-by bytes (storedForm word) (length bytes) (entries bytes) (bounded bytes) (sound bytes small)) c
 
   pub tidy-fits : (after : List ℕ) (o : Outcome) → TidyRight bytes after o → Fits (outcomeNumbers o)
   tidy-fits after o t =

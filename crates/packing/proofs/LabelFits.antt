@@ -26,9 +26,9 @@ ruled-small : (form : List ℕ) (n number place : ℕ) → length form ≤ limit
 ruled-small form n number place short e = go number place (refused-breaks form n number place e)
   where
     go : (m q : ℕ) → Breaks form n m q → Small m q
-    go m q (sign f) = let w = f .within in record { few = omega arith; near = omega arith }
-    go m q (digit s f) = let w = f .within in record { few = omega arith; near = omega arith }
-    go m q (many s d h) = record { few = omega arith; near = omega arith }
+    go m q (sign f) = let w = f .within in record { some = omega arith; few = omega arith; near = omega arith }
+    go m q (digit s f) = let w = f .within in record { some = omega arith; few = omega arith; near = omega arith }
+    go m q (many s d h) = record { some = omega arith; few = omega arith; near = omega arith }
 
 pub label-refused-small : (word : List ℕ) (number place : ℕ) → LabelRefusedWith word number place → Small number place
 label-refused-small word number place (no-word r) = store-refused-small word number place r

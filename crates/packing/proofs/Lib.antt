@@ -4,3 +4,4 @@ pub mod LabelFits
 pub mod BookFits
 pub mod OutputFits
 pub mod Unpacked
+pub mod Previewed

@@ -18,13 +18,13 @@ use Rattle.entries.proofs.Bytes.{Bytes}
 use Rattle.ranking.specs.Rank.{rankOf}
 use Rattle.ranking.specs.Whole.{OrderRight}
 use Rattle.book_word.specs.WordAt.{WordRight}
-use Rattle.wordbook.specs.Calls.{AddPromise, RemovePromise}
+use Rattle.wordbook.specs.Calls.{AddPromise, PreviewPromise, RemovePromise}
 use Rattle.wordbook.specs.Prefix.{PrefixPromise}
 use Rattle.outputs.specs.Outputs.{RecordWritten, KeyWritten, DecodeWritten}
 use Rattle.labelling.specs.Labelling.{LabelAnswers, SkeletonRight}
 use Rattle.likeness.specs.Likeness.{LookAlikeAnswers}
 use Rattle.packing.specs.Packing.{pack, unpack, Packed}
-use Rattle.packing.specs.Answers.{outcomeNumbers, pairNumbers, FindAnswers}
+use Rattle.packing.specs.Answers.{outcomeNumbers, previewNumbers, pairNumbers, FindAnswers}
 use Rattle.packing.proofs.Laws.{unpack-pack, packed-unpacked}
 use Rattle.packing.proofs.WordFits.{read-fits, part-fits, normalise-fits, form-fits, typed-fits, write-fits, spell-fits, compare-fits}
 use Rattle.packing.proofs.LabelFits.{label-fits, skeleton-fits, look-alike-fits}
@@ -101,7 +101,11 @@ module _ (book : List ℕ) (small : Bytes book) (n : ℕ) where
 
   pub add-unpacked : (word : List ℕ) (stock : ℕ) (after : List ℕ) (p : Packed (AddPromise word stock book after) outcomeNumbers n)
       → unpack n ≡ outcomeNumbers (p .outcome)
-  add-unpacked word stock after p = packed-unpacked (AddPromise word stock book after) outcomeNumbers (add-fits book small word stock after) n p
+  add-unpacked word stock after p = packed-unpacked (AddPromise word stock book after) outcomeNumbers (λ o right. add-fits book small word o (right .answers)) n p
+
+  pub preview-unpacked : (word after : List ℕ) (p : Packed (PreviewPromise word book after) previewNumbers n) → unpack n ≡ previewNumbers (p .outcome)
+  preview-unpacked word after p =
+      packed-unpacked (PreviewPromise word book after) previewNumbers (λ o right. add-fits book small word (o .answer) (right .answers)) n p
 
   pub tidy-unpacked : (after : List ℕ) (p : Packed (TidyRight book after) outcomeNumbers n) → unpack n ≡ outcomeNumbers (p .outcome)
   tidy-unpacked after p = packed-unpacked (TidyRight book after) outcomeNumbers (tidy-fits book small after) n p

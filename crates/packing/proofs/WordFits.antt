@@ -31,21 +31,22 @@ use Rattle.collation.specs.Comparison.{orderNumber, Compares, CompareAnswers}
 use Rattle.packing.specs.Packing.{answer, Fits}
 use Rattle.packing.specs.Answers.{outcomeNumbers, pairNumbers}
 
--- a refusal of a word: its number is one of the documents', and its place at most the limit
+-- a refusal of a word: its number is one of the documents', so not 0, and its place at most the limit
 pub record Small (number place : ℕ) : Type 0 where
+  pub some : 1 ≤ number
   pub few : number ≤ 23
   pub near : place ≤ limit
 
 pub refused-small : (word : List ℕ) (number place : ℕ) → reading.RefusedWith word number place → Small number place
-refused-small word number place (reading.too-long h) = record { few = omega arith; near = omega arith }
-refused-small word number place (reading.foreign f) = record { few = omega arith; near = let s = f .short in let w = f .within in omega arith }
+refused-small word number place (reading.too-long h) = record { some = omega arith; few = omega arith; near = omega arith }
+refused-small word number place (reading.foreign f) = record { some = omega arith; few = omega arith; near = let s = f .short in let w = f .within in omega arith }
 refused-small word number place (reading.no-continuation a v l) =
-    record { few = omega arith; near = let s = a .short in let w = l .within in omega arith }
-refused-small word number place (reading.unfinished a r v) = record { few = omega arith; near = a .short }
+    record { some = omega arith; few = omega arith; near = let s = a .short in let w = l .within in omega arith }
+refused-small word number place (reading.unfinished a r v) = record { some = omega arith; few = omega arith; near = a .short }
 
 pub unadmitted-small : (word : List ℕ) (number place : ℕ) → Unadmitted word number place → Small number place
-unadmitted-small word number place (too-long h) = record { few = omega arith; near = omega arith }
-unadmitted-small word number place (foreign f) = record { few = omega arith; near = let s = f .short in let w = f .within in omega arith }
+unadmitted-small word number place (too-long h) = record { some = omega arith; few = omega arith; near = omega arith }
+unadmitted-small word number place (foreign f) = record { some = omega arith; few = omega arith; near = let s = f .short in let w = f .within in omega arith }
 
 pub store-refused-small : (word : List ℕ) (number place : ℕ) → normal.StoreRefusedWith word number place → Small number place
 store-refused-small word number place (normal.unadmitted u) = unadmitted-small word number place u
