@@ -16,3 +16,4 @@ pub mod Moved
 pub mod Freed
 pub mod Full
 pub mod AnswersTidied
+pub mod Passed

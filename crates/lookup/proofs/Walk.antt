@@ -12,6 +12,7 @@ use Rattle.formula.proofs.Lists.{sameList}
 use Rattle.entries.specs.Entries.{Entry, entryAt, Entries, book, entries}
 use Rattle.entries.specs.Book.{IsBook, Opened}
 use Rattle.entries.specs.Map.{lookup}
+use Rattle.entries.specs.Tidy.{liveLength}
 use Rattle.entries.proofs.Agree.{only, opened-is}
 use Rattle.entries.proofs.Walk.{Walk, walk-start, Turn, turn, walk-end}
 use Rattle.lookup.specs.Look.{lookOfEntry, lookOf}
@@ -67,7 +68,7 @@ lookup-searches w = record { nothing = refl; first = λ entry list. refl }
 
 -- what looking a word up tells, by what it looks up in the book's entries
 pub looked : (b : List ℕ) (free : ℕ) (w : List ℕ) (o : Opened b free) (list : List Entry) → IsBook b list → (x : Option Entry) → lookup list w ≡ x
-    → lookOf (entries b) w ≡ lookOfEntry x free
+    → lookOf (entries b) w ≡ lookOfEntry x free (liveLength list)
 looked b free w o list k x e =
     ap (λ (y : Entries). lookOf y w) (opened-is b free o) ∙ ap (λ (l : List Entry). lookOf (book l free) w) (only b (o .list) list (o .is-book) k)
-    ∙ ap (λ (y : Option Entry). lookOfEntry y free) e
+    ∙ ap (λ (y : Option Entry). lookOfEntry y free (liveLength list)) e

@@ -17,11 +17,11 @@ ghost use Rattle.entries.specs.Entries.{valueOf, wordAt, entryAt, isFramed};
 ghost use Rattle.entries.specs.Book.{Opened};
 ghost use Rattle.lookup.specs.Look.{LookRight};
 
-// What a buffer says of a word: it is no book, the word's live record, or that there is none, with the first free byte.
+// What a buffer says of a word: it is no book, the word's live record, or that there is none, with the first free byte and the live length.
 pub enum Look {
     Wrong(usize),
     Live { start: usize, stock: u32 },
-    Missing { free: usize },
+    Missing { free: usize, length: usize },
 }
 
 // Whether bytes are those of a word.
@@ -39,14 +39,11 @@ fn is_word(book: &[u8], from: usize, word: &[u16]) -> bool
     true
 }
 
-// Whether the record at a place is live and has the word.
+// Whether the record at a place has the word.
 fn has_word(book: &[u8], at: usize, word: &[u16]) -> bool
     requires { ⌜ (length (now book) ≤ bookLimit) × T (isFramed (now book) at) ⌝ }
-    ensures { λ r. ⌜ r ≡ (eqb (getD (now (book .entry)) (at + 1) 0) 0x57 && sameList (wordAt (now (book .entry)) at) (now (word .entry))) ⌝ }
+    ensures { λ r. ⌜ r ≡ sameList (wordAt (now (book .entry)) at) (now (word .entry)) ⌝ }
 {
-    if !has_mark(book, at, b"MW") {
-        return false;
-    }
     if wide(book[at + 2]) != word.len() {
         return false;
     }
@@ -72,20 +69,25 @@ pub fn stock_at(book: &[u8], at: usize) -> u32
     low + 256 * (second + 256 * (third + 256 * high))
 }
 
-// Looks for the word among the records of a book.
+// Looks for the word among the live records of a book, and adds up the bytes of those that it passes.
 fn locate(book: &[u8], free: usize, word: &[u16]) -> Look
     requires { ⌜ Opened (now book) free ⌝ }
     ensures { λ r. ⌜ LookRight (now (book .entry)) (now (word .entry)) r ⌝ }
 {
     let mut at = 0;
+    let mut length = 0;
     while at < free {
-        if has_word(book, at, word) {
-            let stock = stock_at(book, at);
-            return Look::Live { start: at, stock };
+        let size = HEAD + wide(book[at + 2]);
+        if has_mark(book, at, b"MW") {
+            if has_word(book, at, word) {
+                let stock = stock_at(book, at);
+                return Look::Live { start: at, stock };
+            }
+            length += size;
         }
-        at += HEAD + wide(book[at + 2]);
+        at += size;
     }
-    Look::Missing { free }
+    Look::Missing { free, length }
 }
 
 // Opens the buffer and looks for the word.

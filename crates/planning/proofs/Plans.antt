@@ -1,6 +1,6 @@
 -- The answers, from what looking the word up gave: each is the definition's at the same entries.
 -- Assumes nothing.
-use mathlib.Core.Path.{_≡_, refl, sym, ap}
+use mathlib.Core.Path.{_≡_, refl, sym, ap, _∙_}
 use mathlib.Core.Bool.{Bool}
 use mathlib.Core.List.{List}
 use mathlib.Core.Option.{Option, none, some}
@@ -11,10 +11,12 @@ use lib.Dec.{leb}
 use lib.ListN.{length}
 use Rattle.letters.specs.Choice.{pick}
 use Rattle.refusals.specs.Outcome.{Outcome, accepts, refuses}
-use Rattle.entries.specs.Entries.{Entry, Entries, book, wrong}
+use Rattle.entries.specs.Entries.{Entry, Entries, book, wrong, entries}
+use Rattle.entries.specs.Book.{endOf, IsBook}
 use Rattle.entries.specs.Map.{lookup}
 use Rattle.entries.specs.Tidy.{liveLength}
 use Rattle.entries.specs.Outcome.{finds, findOfEntry, findOf, removeOfEntry, removeOf, puts, tidiesAndPuts, placing, addOfEntry, addOf}
+use Rattle.entries.proofs.Agree.{complete}
 use Rattle.lookup.specs.Look.{lookOfEntry, lookOf}
 use Rattle.lookup.specs.declared.Look.{Look}
 use Rattle.lookup.specs.declared.Look.the-variants.{Wrong, Live, Missing}
@@ -22,17 +24,17 @@ use Rattle.lookup.specs.declared.Look.the-variants.{Wrong, Live, Missing}
 abbrev pub findBy : Look → Outcome
 findBy (Wrong p) = refuses 11 p
 findBy (Live s t) = finds s t
-findBy (Missing f) = refuses 13 0
+findBy (Missing f l) = refuses 13 0
 
 abbrev pub removeBy : Look → Outcome
 removeBy (Wrong p) = refuses 11 p
 removeBy (Live s t) = accepts s
-removeBy (Missing f) = refuses 13 0
+removeBy (Missing f l) = refuses 13 0
 
 abbrev pub addBy : Look → Outcome → Outcome
 addBy (Wrong p) placed = refuses 11 p
 addBy (Live s t) placed = refuses 12 s
-addBy (Missing f) placed = placed
+addBy (Missing f l) placed = placed
 
 -- where the record of a word that is not live goes
 abbrev pub placedIn : Entries → ℕ → ℕ → Outcome
@@ -43,7 +45,7 @@ pub find-by : (e : Entries) (w : List ℕ) → findBy (lookOf e w) ≡ findOf e 
 find-by (wrong p) w = refl
 find-by (book es f) w = go (lookup es w)
   where
-    go : (o : Option Entry) → findBy (lookOfEntry o f) ≡ findOfEntry o
+    go : (o : Option Entry) → findBy (lookOfEntry o f (liveLength es)) ≡ findOfEntry o
     go none = refl
     go (some x) = refl
 
@@ -51,7 +53,7 @@ pub remove-by : (e : Entries) (w : List ℕ) → removeBy (lookOf e w) ≡ remov
 remove-by (wrong p) w = refl
 remove-by (book es f) w = go (lookup es w)
   where
-    go : (o : Option Entry) → removeBy (lookOfEntry o f) ≡ removeOfEntry o
+    go : (o : Option Entry) → removeBy (lookOfEntry o f (liveLength es)) ≡ removeOfEntry o
     go none = refl
     go (some x) = refl
 
@@ -59,9 +61,17 @@ pub add-by : (e : Entries) (room : ℕ) (w : List ℕ) → addBy (lookOf e w) (p
 add-by (wrong p) room w = refl
 add-by (book es f) room w = go (lookup es w)
   where
-    go : (o : Option Entry) → addBy (lookOfEntry o f) (placing es f room (7 + length w)) ≡ addOfEntry o (placing es f room (7 + length w))
+    go : (o : Option Entry) → addBy (lookOfEntry o f (liveLength es)) (placing es f room (7 + length w)) ≡ addOfEntry o (placing es f room (7 + length w))
     go none = refl
     go (some x) = refl
+
+-- the length that is told with a missing word is the live length
+pub length-told : (b w : List ℕ) (list : List Entry) → IsBook b list → (free told : ℕ) → Missing free told ≡ lookOf (entries b) w → told ≡ liveLength list
+length-told b w list is free told e = go (lookup list w) (e ∙ ap (λ (x : Entries). lookOf x w) (complete b list is))
+  where
+    go : (o : Option Entry) → Missing free told ≡ lookOfEntry o (endOf 0 list) (liveLength list) → told ≡ liveLength list
+    go none f = cc
+    go (some x) f = let z : _≡_ {A = ℕ} 0 1 = cc in let y : ⊥ = omega arith in absurd y
 
 -- the record fits behind the last one, or only behind the live ones, or nowhere
 module _ (es : List Entry) (f room size : ℕ) (less : liveLength es ≤ f) where

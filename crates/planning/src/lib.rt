@@ -5,12 +5,13 @@ use lookup::look_up;
 use refusals::Counted;
 use refusals::Refusal;
 use refusals::Reply;
-use tidying::length::live_length;
 ghost use mathlib.Core.Path.{_≡_};
+ghost use mathlib.Core.List.{List};
 ghost use Rattle.refusals.specs.Outcome.{outcomeOf, replyOutcome};
-ghost use Rattle.entries.specs.Entries.{entries};
-ghost use Rattle.entries.specs.Book.{Opened};
+ghost use Rattle.entries.specs.Entries.{Entry, entries};
+ghost use Rattle.entries.specs.Book.{IsBook, Opened};
 ghost use Rattle.entries.specs.Change.{Storable};
+ghost use Rattle.entries.specs.Tidy.{liveLength};
 ghost use Rattle.entries.specs.Outcome.{findOf, removeOf};
 ghost use Rattle.planning.specs.Plan.{planOutcome, RoomRight, PlanRight, PlacedRight};
 ghost use Rattle.planning.specs.Preview.{previewOf, previewOutcome};
@@ -22,7 +23,7 @@ pub fn find(book: &[u8], word: &[u16]) -> Reply
     match look_up(book, word) {
         Look::Wrong(place) => Reply::Refused(Refusal::NotABook(place)),
         Look::Live { start, stock } => Reply::Two(stock as usize, start),
-        Look::Missing { free: _ } => Reply::Refused(Refusal::NotLive),
+        Look::Missing { free: _, length: _ } => Reply::Refused(Refusal::NotLive),
     }
 }
 
@@ -78,19 +79,21 @@ impl Plan {
     }
 }
 
-// Where a record of `size` bytes goes in a book.
-fn plan_record(book: &[u8], free: usize, size: usize) -> Plan
-    requires { ⌜ Opened (now book) free ⌝ }
+// Where a record of `size` bytes goes in a book whose live records have `length` bytes.
+fn plan_record(book: &[u8], free: usize, length: usize, size: usize) -> Plan
+    requires { ⌜ Opened (now book) free × ((list : List Entry) → IsBook (now book) list → length ≡ liveLength list) ⌝ }
     ensures { λ r. ⌜ RoomRight (now (book .entry)) free size r ⌝ }
 {
     if size <= book.len() - free {
         return Plan::Behind { start: free };
     }
-    let start = live_length(book, free);
-    if book.len() - start < size {
-        return Plan::Refused(Refusal::BookFull(start));
+    if book.len() - length < size {
+        return Plan::Refused(Refusal::BookFull(length));
     }
-    Plan::Tidied { start, free }
+    Plan::Tidied {
+        start: length,
+        free,
+    }
 }
 
 // Where a record with the word would be added.
@@ -101,7 +104,7 @@ pub fn plan_add(book: &[u8], word: &[u16]) -> Plan
     match look_up(book, word) {
         Look::Wrong(place) => Plan::Refused(Refusal::NotABook(place)),
         Look::Live { start, stock: _ } => Plan::Refused(Refusal::AlreadyLive(start)),
-        Look::Missing { free } => plan_record(book, free, HEAD + word.len()),
+        Look::Missing { free, length } => plan_record(book, free, length, HEAD + word.len()),
     }
 }
 
@@ -112,6 +115,6 @@ pub fn plan_remove(book: &[u8], word: &[u16]) -> Counted
     match look_up(book, word) {
         Look::Wrong(place) => Counted::Refused(Refusal::NotABook(place)),
         Look::Live { start, stock: _ } => Counted::Count(start),
-        Look::Missing { free: _ } => Counted::Refused(Refusal::NotLive),
+        Look::Missing { free: _, length: _ } => Counted::Refused(Refusal::NotLive),
     }
 }

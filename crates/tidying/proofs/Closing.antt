@@ -19,7 +19,7 @@ use Rattle.entries.specs.Tidy.{liveLength}
 use Rattle.entries.proofs.Records.{length-record, records-append}
 use Rattle.entries.proofs.Walk.{Turn}
 use Rattle.tidying.specs.Tidy.{Closed}
-use Rattle.tidying.proofs.Passed.{Passed, passed-start, passed-turn, passed-less, passed-all, turn-size, ones-next, passed-next}
+use Rattle.entries.proofs.Passed.{Passed, passed-start, passed-turn, passed-less, passed-all, turn-size, ones-next, passed-next}
 
 pub record Closing (b : List ℕ) (free : ℕ) (a : List ℕ) (at kept : ℕ) : Type 0 where
   pub seen : List Entry

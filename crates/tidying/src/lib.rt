@@ -12,8 +12,6 @@ ghost use Rattle.refusals.specs.Outcome.{accepts, outcomeOf};
 ghost use Rattle.entries.specs.Book.{Opened};
 ghost use Rattle.tidying.specs.Tidy.{Closed, TidyRight};
 
-pub mod length; // length.rt: the live length, without a byte moved
-
 // Moves the live records of a book down to its front, in the order of their starts, and gives the place behind them.
 fn close_gaps(book: &mut [u8], free: usize) -> usize
     requires { ⌜ Opened (now book) free ⌝ }

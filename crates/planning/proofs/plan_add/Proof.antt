@@ -12,7 +12,7 @@ use Rattle.entries.specs.Outcome.{addOf}
 use Rattle.entries.proofs.Agree.{opened-is}
 use Rattle.lookup.specs.Look.{LookWithin}
 use Rattle.lookup.specs.declared.Look.{Look}
-use Rattle.planning.proofs.Plans.{addBy, placedIn, add-by}
+use Rattle.planning.proofs.Plans.{addBy, placedIn, add-by, length-told}
 use Rattle.planning.proofs.plan_add.Statement.{statement}
 use Rattle.planning.proofs.plan_add.Tie as tie
 
@@ -46,7 +46,10 @@ add-plan-record c =
     omega (arith, s .pre .readable .admissible .short)
 
 plan-record-requires : tie.Need-plan-record-requires
-plan-record-requires c κs = opened c
+plan-record-requires c κs =
+    let k = c .before .before .before in
+    let s = k .before .before .before .args in
+    (opened c, λ list is. length-told (now (s .book)) (now (s .word)) list is _ _ (sym (c .before .free .given .1) ∙ k .look-up .ensures .answer))
 
 returns : tie.Need-returns
 returns c = record { answer = answered (c .before .before .before) _ (c .before .place .given .1); within = tt }

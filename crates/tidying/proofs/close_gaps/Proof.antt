@@ -14,7 +14,7 @@ use lib.Seq.{sets}
 use denote.Ref.{now}
 use Rattle.entries.proofs.Records.{end-length}
 use Rattle.entries.proofs.Walk.{Turn}
-use Rattle.tidying.proofs.Passed.{mark-live}
+use Rattle.entries.proofs.Passed.{mark-live}
 use Rattle.tidying.proofs.Closing.{Closing, closing-start, closing-read, closing-first, closing-turn, closing-less, closing-removed, closing-live, closing-end}
 use Rattle.tidying.proofs.close_gaps.Statement.{statement}
 use Rattle.tidying.proofs.close_gaps.Tie as tie
