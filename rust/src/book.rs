@@ -5,8 +5,10 @@
 //! where it refuses. A buffer of zeros, and one of no bytes, is a book without records.
 //!
 //! A record keeps its start until the book is tidied, by [`Book::tidy`] or by a [`Book::add`] that
-//! says so. Starts that were taken before are then to be asked for again.
+//! says so. Starts that were taken before are then to be asked for again. What an add would answer
+//! is seen before it is done: [`preview`], and [`Book::preview`], only read the book.
 
+use crate::answer::Answer;
 use crate::collecting::collected;
 use crate::entries::{Entries, Entry, Listing};
 use crate::ffi;
@@ -29,6 +31,35 @@ pub struct Added {
     pub start: usize,
     /// Whether the book was tidied, so that starts taken before have moved.
     pub tidied: bool,
+}
+
+/// What an add would come to, seen before it is done.
+///
+/// ```
+/// use jogcairn::{book, Book};
+///
+/// // ပ and က, of which the first is removed, and no room behind them.
+/// let bytes = *b"M-\x01\x07\0\0\0\x15MW\x01\x08\0\0\0\0";
+/// // အ fits after tidying alone, ပါ does not fit, and က is live.
+/// let previews: [(&[u16], usize, bool); 3] =
+///     [(&[0x1021], 8, true), (&[0x1015, 0x102B], 0, false), (&[0x1000], 0, false)];
+/// for (word, start, tidies) in previews {
+///     let preview = book::preview(&bytes, word, 9);
+///     assert_eq!((preview.start, preview.tidies), (start, tidies));
+///     // An add on a copy of the book gives the same answer.
+///     let mut copy = bytes;
+///     assert_eq!(Book::new(&mut copy).add(word, 9), preview.answer);
+/// }
+/// ```
+#[derive(Clone, Copy, Debug, PartialEq, Eq, Hash)]
+pub struct Preview {
+    /// The answer that [`Book::add`] gives on a copy of the book, refusal and place included.
+    pub answer: Result<Added, Refusal>,
+    /// The byte where the record would start, after tidying where the add would tidy; 0 where the
+    /// add is refused.
+    pub start: usize,
+    /// Whether the add would tidy the book; it would not where it is refused.
+    pub tidies: bool,
 }
 
 /// What is told of a record that is asked for by its start.
@@ -54,6 +85,32 @@ const MOST_LIVE: usize = BOOK_LIMIT / 8;
 /// ```
 pub fn check(book: &[u8]) -> Result<usize, Refusal> {
     ffi::book_check(book).one()
+}
+
+/// What an add answers, be it done or seen before.
+fn added(answer: Answer) -> Result<Added, Refusal> {
+    let (start, tidied) = answer.one_and_whether()?;
+    Ok(Added { start, tidied })
+}
+
+/// What [`Book::add`] would answer on a copy of the book, with the byte where the record would start
+/// and whether the book would be tidied for it. The book is only read.
+///
+/// ```
+/// use jogcairn::{book, Reason};
+///
+/// let bytes = *b"MW\x01\x07\0\0\0\x15\0\0\0\0\0\0\0\0";
+/// // The record of one value has eight bytes and fits, that of two does not.
+/// assert_eq!(book::preview(&bytes, &[0x1000], 8).start, 8);
+/// let full = book::preview(&bytes, &[0x1015, 0x102B], 8);
+/// assert_eq!((full.start, full.tidies), (0, false));
+/// let refusal = full.answer.unwrap_err();
+/// assert_eq!((refusal.reason, refusal.place), (Reason::BookFull, 8));
+/// ```
+pub fn preview(book: &[u8], word: &[u16], stock: u32) -> Preview {
+    let answer = added(ffi::book_preview(book, word, stock));
+    let (start, tidies) = answer.map_or((0, false), |added| (added.start, added.tidied));
+    Preview { answer, start, tidies }
 }
 
 /// The live record with the word, which is normalised first.
@@ -296,8 +353,41 @@ impl<'b> Book<'b> {
     /// # Ok::<(), jogcairn::Refusal>(())
     /// ```
     pub fn add(&mut self, word: &[u16], stock: u32) -> Result<Added, Refusal> {
-        let (start, tidied) = ffi::book_add(self.bytes, word, stock).one_and_whether()?;
-        Ok(Added { start, tidied })
+        added(ffi::book_add(self.bytes, word, stock))
+    }
+
+    /// What [`Book::add`] would answer, with the byte where the record would start and whether the
+    /// book would be tidied for it. The book is only read, so that a clerk sees an add before doing
+    /// it.
+    ///
+    /// ```
+    /// use jogcairn::{Book, Reason};
+    ///
+    /// let mut bytes = [0; 24];
+    /// let mut book = Book::new(&mut bytes);
+    /// book.add(&[0x1000], 1)?;
+    /// book.add(&[0x1001], 2)?;
+    /// book.remove(&[0x1000])?;
+    /// // A record of eight bytes fits behind the last one.
+    /// let fits = book.preview(&[0x1002], 3);
+    /// assert_eq!((fits.start, fits.tidies), (16, false));
+    /// // One of nine fits after tidying alone, behind the eight bytes of the live one.
+    /// let moves = book.preview(&[0x1015, 0x102B], 3);
+    /// assert_eq!((moves.start, moves.tidies), (8, true));
+    /// // One of 17 does not fit.
+    /// let full = book.preview(&[0x1000; 10], 3);
+    /// assert_eq!((full.start, full.tidies), (0, false));
+    /// assert_eq!(full.answer.unwrap_err().reason, Reason::BookFull);
+    /// // A word that is live is refused, with the start of its record as the place.
+    /// let live = book.preview(&[0x1001], 3);
+    /// assert_eq!((live.start, live.answer.unwrap_err().place), (0, 8));
+    /// // Nothing was changed, and the add answers what was seen.
+    /// assert_eq!(book.add(&[0x1015, 0x102B], 3), moves.answer);
+    /// assert_eq!(book.find(&[0x1015, 0x102B])?.start, moves.start);
+    /// # Ok::<(), jogcairn::Refusal>(())
+    /// ```
+    pub fn preview(&self, word: &[u16], stock: u32) -> Preview {
+        preview(self.bytes, word, stock)
     }
 
     /// Marks the live record with the word as removed, and gives its start. Its room is used again

@@ -43,6 +43,13 @@ unsafe extern "C" {
         count: usize,
         stock: u32,
     ) -> u64;
+    fn jogcairn_book_preview(
+        book: *const u8,
+        bytes: usize,
+        word: *const u16,
+        count: usize,
+        stock: u32,
+    ) -> u64;
     fn jogcairn_book_remove(book: *mut u8, bytes: usize, word: *const u16, count: usize) -> u64;
     fn jogcairn_book_tidy(book: *mut u8, bytes: usize) -> u64;
     fn jogcairn_book_find(book: *const u8, bytes: usize, word: *const u16, count: usize) -> u64;
@@ -170,6 +177,13 @@ pub(crate) fn book_add(book: &mut [u8], word: &[u16], stock: u32) -> Answer {
     // SAFETY: the pointers and counts are those of slices, of which the book is borrowed mutably
     // and so does not overlap the word; every stock number is allowed.
     Answer::new(unsafe { jogcairn_book_add(book_at, bytes, word.as_ptr(), word.len(), stock) })
+}
+
+pub(crate) fn book_preview(book: &[u8], word: &[u16], stock: u32) -> Answer {
+    let (book_at, bytes) = (book.as_ptr(), book.len());
+    // SAFETY: the pointers and counts are those of slices, both only read; every stock number is
+    // allowed.
+    Answer::new(unsafe { jogcairn_book_preview(book_at, bytes, word.as_ptr(), word.len(), stock) })
 }
 
 pub(crate) fn book_remove(book: &mut [u8], word: &[u16]) -> Answer {

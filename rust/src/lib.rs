@@ -62,6 +62,7 @@
 //! | tell labels that look alike | [`label`], [`skeleton`], [`skeleton_into`], [`look_alike`] |
 //! | take the values of a line of UTF-8 | [`decode`], [`decode_into`] |
 //! | keep a word book | [`Book`], and the functions of [`book`] for shared bytes |
+//! | see an add before doing it | [`Book::preview`], [`book::preview`] |
 //! | use the room of removed records again | [`Book::add`] by itself, [`Book::tidy`] |
 //! | list the words of a book that continue some syllables | [`Book::entries_with_prefix`] |
 //!
@@ -91,7 +92,7 @@ mod text;
 mod word;
 mod writing;
 
-pub use book::{Added, Book, Found, Told};
+pub use book::{Added, Book, Found, Preview, Told};
 pub use comparison::{compare, ComparisonRefusal, Which};
 pub use entries::{Entries, Entry, Listing};
 pub use key::{key_into, Key};
