@@ -65,9 +65,9 @@ enum jogcairn_refusal {
     JOGCAIRN_FAULTY_LINE = 7,       /* bytes that are no Myanmar value in UTF-8; place: the first such byte */
     JOGCAIRN_EMPTY_WORD = 8,        /* the empty word, in calls on a book; place 0 */
     JOGCAIRN_NOT_A_BOOK = 11,       /* place: the first byte where the buffer stops being a book; 16384 where it is too long */
-    JOGCAIRN_ALREADY_LIVE = 12,     /* add: the word is there already; place: the start of its record */
+    JOGCAIRN_ALREADY_LIVE = 12,     /* add, preview: the word is there already; place: the start of its record */
     JOGCAIRN_NOT_LIVE = 13,         /* find, remove: the word is not there; place 0 */
-    JOGCAIRN_BOOK_FULL = 14,        /* add: the live records and the new one together pass the buffer's end; place: the live length */
+    JOGCAIRN_BOOK_FULL = 14,        /* add, preview: the live records and the new one together pass the buffer's end; place: the live length */
     JOGCAIRN_RANK_TOO_HIGH = 15,    /* rank: so many live records there are not; place: how many there are */
     JOGCAIRN_STOP_OR_SIGN = 21,     /* no label, by a stop or a sign; place: the first, in the stored spelling */
     JOGCAIRN_CONFUSABLE_DIGIT = 22, /* no label, by a 1040 or 1047 next to a value that is no digit; place: the first such, in the stored spelling */
@@ -103,6 +103,18 @@ static inline unsigned jogcairn_word_count(uint64_t answer)
 static inline int jogcairn_word_live(uint64_t answer)
 {
     return jogcairn_second(answer) >> 8 != 0;
+}
+
+/* Of what jogcairn_book_add and jogcairn_book_preview answer: where the new record starts, after tidying where there is any, and whether the book is
+   tidied for it. Both are 0 where the add is refused. */
+static inline uint32_t jogcairn_add_start(uint64_t answer)
+{
+    return jogcairn_accepted(answer) ? jogcairn_first(answer) : 0;
+}
+
+static inline int jogcairn_add_tidies(uint64_t answer)
+{
+    return jogcairn_second(answer) == 1;
 }
 
 /* Words. The refusals that a call can give stand in brackets. */
@@ -191,6 +203,11 @@ uint64_t jogcairn_book_check(const uint8_t *book, size_t bytes);
    jogcairn_book_tidy, no start that the caller keeps holds any more: it is to be asked for again. With 14 nothing is moved, and its place is the live
    length. [1 to 4, 8, 11, 12, 14] */
 uint64_t jogcairn_book_add(uint8_t *book, size_t bytes, const uint16_t *word, size_t count, uint32_t stock);
+
+/* Shows an add before it is done: answers the very number that jogcairn_book_add would give on a copy of the book, refusal and place included. The book
+   is only read. First: where the new record would start, after tidying where add would tidy; second: 1 where the book would be tidied, else 0.
+   jogcairn_add_start and jogcairn_add_tidies take both from the answer, and give 0 where the add would be refused. [1 to 4, 8, 11, 12, 14] */
+uint64_t jogcairn_book_preview(const uint8_t *book, size_t bytes, const uint16_t *word, size_t count, uint32_t stock);
 
 /* Marks the record of a word as removed; its room is used again through tidying alone. First: its start. [1 to 4, 8, 11, 13] */
 uint64_t jogcairn_book_remove(uint8_t *book, size_t bytes, const uint16_t *word, size_t count);
