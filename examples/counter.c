@@ -1,6 +1,6 @@
 /* A day at the counter of a parts shop: names are filed, one is found, those that begin with what the clerk typed are listed, then all, in dictionary
-   order, and in a misspelt one the letter that breaks it is pointed at. Parts are renamed in the full book, which makes room by tidying. Then labels
-   of the web shop are registered, no two of which look alike. */
+   order, and in a misspelt one the letter that breaks it is pointed at. Parts are renamed in the full book, which makes room by tidying, and adds are
+   shown to the clerk before they are done. Then labels of the web shop are registered, no two of which look alike. */
 #include "jogcairn.h"
 
 #include <inttypes.h>
@@ -107,16 +107,26 @@ static int decode(const char *text, struct name *name)
     return 1;
 }
 
-/* Adds a record and says where it starts, or why it is refused. */
-static int add_name(const struct name *name, uint32_t stock)
+/* Adds a record and says where it starts, or why it is refused. Gives the answer. */
+static uint64_t add_name(const struct name *name, uint32_t stock)
 {
     uint64_t answer = jogcairn_book_add(book, sizeof book, name->values, name->count, stock);
-    if (!jogcairn_accepted(answer)) {
+    if (jogcairn_accepted(answer))
+        printf("at byte %" PRIu32 "%s\n", jogcairn_add_start(answer), jogcairn_add_tidies(answer) ? ", tidied, so starts have moved" : "");
+    else
         print_refusal(answer, name);
-        return 0;
-    }
-    printf("at byte %" PRIu32 "%s\n", jogcairn_first(answer), jogcairn_second(answer) ? ", tidied, so starts have moved" : "");
-    return 1;
+    return answer;
+}
+
+/* Says where a record would start, or why it would be refused, and leaves the book as it is. Gives the answer. */
+static uint64_t preview_name(const struct name *name, uint32_t stock)
+{
+    uint64_t answer = jogcairn_book_preview(book, sizeof book, name->values, name->count, stock);
+    if (jogcairn_accepted(answer))
+        printf("would start at byte %" PRIu32 "%s\n", jogcairn_add_start(answer), jogcairn_add_tidies(answer) ? " after tidying" : "");
+    else
+        print_refusal(answer, name);
+    return answer;
 }
 
 static void file_part(struct part part)
@@ -125,6 +135,19 @@ static void file_part(struct part part)
     printf("file %s: ", part.name);
     if (decode(part.name, &name))
         add_name(&name, part.stock);
+}
+
+/* Shows the clerk what filing a part would come to, and then files it: both answers are one number. */
+static void file_previewed(struct part part)
+{
+    struct name name;
+    printf("preview %s: ", part.name);
+    if (!decode(part.name, &name))
+        return;
+    uint64_t previewed = preview_name(&name, part.stock);
+    printf("file %s: ", part.name);
+    uint64_t added = add_name(&name, part.stock);
+    printf(added == previewed ? "  as previewed\n" : "  not as previewed\n");
 }
 
 static void find_part(const char *text)
@@ -166,7 +189,7 @@ static void rename_part(const char *text, const char *other)
         return;
     }
     jogcairn_book_remove(book, sizeof book, name.values, name.count);
-    if (!add_name(&renamed, jogcairn_first(found))) {
+    if (!jogcairn_accepted(add_name(&renamed, jogcairn_first(found)))) {
         printf("  kept as %s: ", text);
         add_name(&name, jogcairn_first(found));
     }
@@ -431,6 +454,10 @@ int main(void)
     tidy_book();
     find_part("ပတ္တာ");
     list_parts();
+    file_previewed((struct part){"ဆီ", 21});
+    file_previewed((struct part){"ဘီး", 22});
+    remove_part("မီး");
+    file_previewed((struct part){"ဘီး", 22});
     print_syllables("တက္ကသိုလ်");
     print_syllables("ဥက္က");
     print_syllables("၎င်း");
