@@ -63,6 +63,9 @@ static void on_books(void)
     expect("check", jogcairn_book_check(NULL, 0), 0, 0, 0);
     expect("add", jogcairn_book_add(NULL, 0, ka, 1, 7), JOGCAIRN_BOOK_FULL, 0, 0);
     expect("add, no word", jogcairn_book_add(book, sizeof book, NULL, 0, 7), JOGCAIRN_EMPTY_WORD, 0, 0);
+    expect("preview", jogcairn_book_preview(NULL, 0, ka, 1, 7), JOGCAIRN_BOOK_FULL, 0, 0);
+    expect("preview, no word", jogcairn_book_preview(book, sizeof book, NULL, 0, 7), JOGCAIRN_EMPTY_WORD, 0, 0);
+    expect("preview, no book and no word", jogcairn_book_preview(NULL, 0, NULL, 0, 7), JOGCAIRN_EMPTY_WORD, 0, 0);
     expect("remove", jogcairn_book_remove(NULL, 0, ka, 1), JOGCAIRN_NOT_LIVE, 0, 0);
     expect("remove, no word", jogcairn_book_remove(book, sizeof book, NULL, 0), JOGCAIRN_EMPTY_WORD, 0, 0);
     expect("tidy", jogcairn_book_tidy(NULL, 0), 0, 0, 0);

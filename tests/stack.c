@@ -41,6 +41,7 @@ static void run_skeleton(void) { jogcairn_skeleton(word, 64, values, JOGCAIRN_SK
 static void run_decode(void) { jogcairn_decode((const uint8_t *)"\xE1\x80\x80\xE1\x80\x81", 6, values, JOGCAIRN_WORD_LIMIT); }
 static void run_check(void) { jogcairn_book_check(book, sizeof book); }
 static void run_add(void) { jogcairn_book_add(book, sizeof book, word, 64, 1); }
+static void run_preview(void) { jogcairn_book_preview(book, sizeof book, word, 64, 1); }
 static void run_remove(void) { jogcairn_book_remove(book, sizeof book, word, 1); }
 static void run_tidy(void) { jogcairn_book_tidy(book, sizeof book); }
 static void run_find(void) { jogcairn_book_find(book, sizeof book, word, 64); }
@@ -90,6 +91,7 @@ static const struct {
     {"jogcairn_decode", run_decode, JOGCAIRN_STACK_WORD},
     {"jogcairn_book_check", run_check, JOGCAIRN_STACK_BOOK},
     {"jogcairn_book_add", run_add, JOGCAIRN_STACK_BOOK},
+    {"jogcairn_book_preview", run_preview, JOGCAIRN_STACK_BOOK},
     {"jogcairn_book_remove", run_remove, JOGCAIRN_STACK_BOOK},
     {"jogcairn_book_tidy", run_tidy, JOGCAIRN_STACK_BOOK},
     {"jogcairn_book_find", run_find, JOGCAIRN_STACK_BOOK},
@@ -174,8 +176,7 @@ static int make_gaps(void)
         if (number % 2 == 1)
             gaps[start + 1] = 0x2D;
     memcpy(book, gaps, sizeof book);
-    uint64_t answer = jogcairn_book_add(book, sizeof book, words[0], JOGCAIRN_WORD_LIMIT, 1);
-    return jogcairn_accepted(answer) && jogcairn_second(answer) == 1;
+    return jogcairn_add_tidies(jogcairn_book_add(book, sizeof book, words[0], JOGCAIRN_WORD_LIMIT, 1));
 }
 
 int main(void)
