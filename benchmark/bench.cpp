@@ -498,16 +498,18 @@ static std::vector<uint8_t> with_room(std::vector<uint8_t> book, size_t room)
     return book;
 }
 
+// A name that is in no book of short names, which have at most two values.
+static const Word longer_name(3, 0x1000);
+
 // Tidying a full book, beside check; and an add to it, which tidies where records are removed, beside one to the same book with room for the record.
 // Each call that changes the book has a copy of it made anew, and the time of the copy alone is taken off.
 static void time_tidying(const char *removed, const std::vector<uint8_t> &full)
 {
-    const Word absent(3, 0x1000); // the names have at most two values
-    const std::vector<uint8_t> roomy = with_room(full, 7 + absent.size());
+    const std::vector<uint8_t> roomy = with_room(full, 7 + longer_name.size());
     std::vector<uint8_t> book(full.size());
     size_t length = book.size(), turns = 20, lives = jogcairn_first(jogcairn_book_check(full.data(), length));
     auto copy_of = [&](const std::vector<uint8_t> &from) { return static_cast<uint8_t *>(std::memcpy(book.data(), from.data(), length)); };
-    auto add_to = [&](const std::vector<uint8_t> &from) { return jogcairn_book_add(copy_of(from), length, absent.data(), absent.size(), 7); };
+    auto add_to = [&](const std::vector<uint8_t> &from) { return jogcairn_book_add(copy_of(from), length, longer_name.data(), longer_name.size(), 7); };
     enum { COPY, CHECK, TIDY, ADD_FITTING, ADD_TIDYING };
     std::vector<Case> cases = {
         timed("copy", turns, [&](size_t i) { return uint64_t(copy_of(full)[i]); }),
@@ -536,6 +538,73 @@ static void time_tidyings(const std::vector<Word> &names)
     time_tidying("none", with_removed(book, 0));
     time_tidying("every second", with_removed(book, 2));
     time_tidying("all", with_removed(book, 1));
+}
+
+// The live word in the middle of a book's order.
+static Word middle_word(const std::vector<uint8_t> &book)
+{
+    uint16_t values[JOGCAIRN_WORD_LIMIT];
+    size_t lives = jogcairn_first(jogcairn_book_check(book.data(), book.size()));
+    uint64_t ranked = jogcairn_book_rank(book.data(), book.size(), lives / 2);
+    need(jogcairn_accepted(ranked), "a book has no live word");
+    uint64_t told = jogcairn_book_word(book.data(), book.size(), jogcairn_second(ranked), values, JOGCAIRN_WORD_LIMIT);
+    return Word(values, values + jogcairn_word_count(told));
+}
+
+// What an add comes to, in words.
+static std::string outcome(uint64_t answer)
+{
+    if (!jogcairn_accepted(answer))
+        return "refused with " + std::to_string(jogcairn_tag(answer));
+    return jogcairn_add_tidies(answer) ? "tidies" : "fits";
+}
+
+// The preview of an add, beside finds in the same book, of a live word and of the one to be added, and beside the add itself, which has a copy of the book
+// made anew: the time of the copy alone is taken off.
+static void time_preview(const char *what, const std::vector<uint8_t> &book)
+{
+    const Word name = middle_word(book);
+    std::vector<uint8_t> changed(book.size());
+    const uint8_t *bytes = book.data();
+    size_t length = book.size(), turns = 20, lives = jogcairn_first(jogcairn_book_check(bytes, length));
+    auto find = [&](const Word &word) { return jogcairn_book_find(bytes, length, word.data(), word.size()); };
+    auto preview = [&] { return jogcairn_book_preview(bytes, length, longer_name.data(), longer_name.size(), 7); };
+    auto copy = [&] { return static_cast<uint8_t *>(std::memcpy(changed.data(), bytes, length)); };
+    auto add = [&] { return jogcairn_book_add(copy(), length, longer_name.data(), longer_name.size(), 7); };
+    need(preview() == add(), "a preview answers another number than its add");
+    enum { FIND, FIND_ABSENT, PREVIEW, COPY, ADD };
+    std::vector<Case> cases = {
+        timed("find", turns, [&](size_t) { return find(name); }),
+        timed("find, absent", turns, [&](size_t) { return find(longer_name); }),
+        timed("preview", turns, [&](size_t) { return preview(); }),
+        timed("copy", turns, [&](size_t i) { return uint64_t(copy()[i]); }),
+        timed("add", turns, [&](size_t) { return add(); }),
+    };
+    run(cases);
+    double seen = cases[PREVIEW].shortest, added = cases[ADD].shortest - cases[COPY].shortest;
+    std::printf("  %-22s %6zu", what, lives);
+    for (double took : {cases[FIND].shortest, cases[FIND_ABSENT].shortest, seen, added})
+        std::printf(" %8.1f", took / 1000);
+    for (double beside : {cases[FIND].shortest, cases[FIND_ABSENT].shortest, added})
+        std::printf(" %8.3f", seen / beside);
+    std::printf("  %s\n", outcome(preview()).c_str());
+}
+
+// Books with room, with few records and with many, and full ones without and with removed records.
+static void time_previews(const std::vector<Word> &names)
+{
+    std::printf("\n  the preview of an add on a book of %d bytes, in microseconds; the add is on a new copy, whose time is taken off\n", JOGCAIRN_BOOK_LIMIT);
+    std::printf("  %-22s %6s", "book", "live");
+    for (const char *name : {"find", "absent", "preview", "add", "/ find", "/ absent", "/ add"})
+        std::printf(" %8s", name);
+    std::printf("  the add\n");
+    std::vector<uint8_t> book(JOGCAIRN_BOOK_LIMIT);
+    fill_book(book, names, 10, 10);
+    time_preview("ten records", book);
+    fill_book(book, names, names.size(), names.size());
+    time_preview("with room for one more", with_room(book, 7 + longer_name.size()));
+    time_preview("full", book);
+    time_preview("every second removed", with_removed(book, 2));
 }
 
 // The word with 1005 103A put behind its last plain final; empty where it has none, or would be too long.
@@ -708,6 +777,7 @@ int main(int argc, char **argv)
     time_book(names, 300, 2000);
     time_prefixes(names);
     time_tidyings(names);
+    time_previews(names);
     time_second_finals(words);
     time_second_final_books();
 }
