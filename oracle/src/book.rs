@@ -1,7 +1,8 @@
-//! Document 01, "The word book", and document 02, "Tidying a book".
+//! Document 01, "The word book", and document 02, "Tidying a book" and "See an add
+//! before doing it".
 //!
 //! Every call takes the whole buffer apart into records, and answers from their
-//! list. A tidied book is built anew from the live ones.
+//! list. A tidied book is built anew from the live ones. A preview adds to a copy.
 
 use crate::collation::{begins_with, compare};
 use crate::reading::read;
@@ -36,6 +37,20 @@ pub struct Added {
     pub start: usize,
     /// Whether the book was tidied for it, so that live records may start elsewhere.
     pub tidied: bool,
+}
+
+/// Document 02: "The preview gives the answer that add gives on a copy of the book,
+/// refusal and place included, and the byte where the record would start. It tells
+/// also whether the add would tidy. Where add refuses, the start is 0 and the preview
+/// says that it wouldn't tidy."
+#[derive(Clone, Copy, Debug, PartialEq, Eq)]
+pub struct Preview {
+    /// What add answers.
+    pub answer: Result<Added, Refusal>,
+    /// Where the record would start; 0 where add refuses.
+    pub start: usize,
+    /// Whether add would tidy; not where it refuses.
+    pub tidies: bool,
 }
 
 /// What is told of the record that starts at a place.
@@ -140,6 +155,16 @@ pub fn add(buffer: &mut [u8], word: &[u16], stock: u32) -> Result<Added, Refusal
     }
     write_anew(buffer, &[&live[..], &record].concat());
     Ok(Added { start: live.len(), tidied: true })
+}
+
+/// Document 02: "whether a part can be added, and where its record would begin". "The
+/// book is untouched."
+pub fn preview(buffer: &[u8], word: &[u16], stock: u32) -> Preview {
+    let mut copy = buffer.to_vec();
+    match add(&mut copy, word, stock) {
+        Ok(added) => Preview { answer: Ok(added), start: added.start, tidies: added.tidied },
+        Err(refusal) => Preview { answer: Err(refusal), start: 0, tidies: false },
+    }
 }
 
 /// "Remove changes the record's 57 to 2D, no other byte, and gives its start."

@@ -1,10 +1,13 @@
 //! The word book: sentences of the documents 01 and 02, with bytes and places worked out
 //! by hand.
 
+mod records;
+
 use oracle::book::{
     add, check, find, find_prefix, order, rank, remove, tidy, word_at, Added, Entry, Told,
 };
 use oracle::Refusal;
+use records::{KA, KAA, KHA, REMOVED_KA, REMOVED_KAA, REMOVED_KHA};
 
 fn refusal<T>(number: u8, place: usize) -> Result<T, Refusal> {
     Err(Refusal { number, place })
@@ -23,24 +26,6 @@ fn added(start: usize) -> Result<Added, Refusal> {
 fn added_tidied(start: usize) -> Result<Added, Refusal> {
     Ok(Added { start, tidied: true })
 }
-
-/// A live record of the word 1000 with the stock number 1.
-const KA: [u8; 8] = [0x4D, 0x57, 1, 1, 0, 0, 0, 0x00];
-
-/// The same record, removed.
-const REMOVED_KA: [u8; 8] = [0x4D, 0x2D, 1, 1, 0, 0, 0, 0x00];
-
-/// A live record of the word 1001 with the stock number 2.
-const KHA: [u8; 8] = [0x4D, 0x57, 1, 2, 0, 0, 0, 0x01];
-
-/// The same record, removed.
-const REMOVED_KHA: [u8; 8] = [0x4D, 0x2D, 1, 2, 0, 0, 0, 0x01];
-
-/// A live record of the word 1000 102C with the stock number 4030201 (hexadecimal).
-const KAA: [u8; 9] = [0x4D, 0x57, 2, 1, 2, 3, 4, 0x00, 0x2C];
-
-/// The same record, removed.
-const REMOVED_KAA: [u8; 9] = [0x4D, 0x2D, 2, 1, 2, 3, 4, 0x00, 0x2C];
 
 /// "a buffer of no bytes is a book without records"
 #[test]
