@@ -2,142 +2,14 @@
 //! must be the stored one, byte for byte, and so must a checksum of the whole array, of which the
 //! book is only the front, and of what the call left in its output: a byte changed behind the book
 //! shows too.
-//!
-//! A call is a line: hexadecimal numbers, each but the last with a space behind it, and a letter.
-//! `1000 103A 7a` adds the word 1000 103A with the stock number 7.
 
-use jogcairn::book::{find_prefix_into, order_into, word_into};
-use jogcairn::{Added, Book, Found, Refusal, Told, BOOK_LIMIT};
+mod playing;
+
 use oracle::calls::{Call, Play, BLANK};
+use playing::{play, proved, Answer, Array, ANSWERS, CALLS};
 
-const CALLS: &str = include_str!("../calls/calls");
-const ANSWERS: &str = include_str!("../calls/answers");
-
-/// An array with room behind the longest book, how many bytes at its front are the book, and the
-/// output of the last call.
-struct Array {
-    bytes: [u8; BOOK_LIMIT + 16],
-    lent: usize,
-    output: Vec<u16>,
-}
-
-impl Array {
-    /// Zeros, of which the first so many are lent.
-    fn new(lent: usize) -> Array {
-        Array { bytes: [0; BOOK_LIMIT + 16], lent, output: Vec::new() }
-    }
-
-    /// The bytes as digits of a number to the base 16,777,619, of which the last 32 bits are kept.
-    /// The code that made the stored checksums is not asked.
-    fn checksum(&self) -> u64 {
-        let output = self.output.iter().flat_map(|value| value.to_le_bytes());
-        let digits = self.bytes.iter().copied().chain(output).map(u64::from);
-        digits.fold(0, |sum, digit| (sum * 16_777_619 + digit) % (1 << 32))
-    }
-}
-
-/// Two numbers, the second 0 where a call gives only one; or a refusal.
-type Answer = Result<(usize, u32), Refusal>;
-
-/// Makes a call; a change of the array has no answer.
+/// A player of one call; a change of the array has no answer.
 type Library = fn(&Call, &mut Array) -> Option<Answer>;
-
-fn proved(call: &Call, array: &mut Array) -> Option<Answer> {
-    let room = match call {
-        Call::FindPrefix(_, room) | Call::Order(room) | Call::Word(_, room) => *room,
-        _ => 0,
-    };
-    array.output = vec![BLANK; room];
-    let mut book = Book::new(&mut array.bytes[..array.lent]);
-    let alone = |number| (number, 0);
-    let both = |found: Found| (found.start, found.stock);
-    let added = |added: Added| (added.start, u32::from(added.tidied));
-    match call {
-        Call::New(length) => *array = Array::new(*length),
-        Call::Poke(place, byte) => array.bytes[*place] = *byte,
-        Call::Check => return Some(book.check().map(alone)),
-        Call::Add(word, stock) => return Some(book.add(word, *stock).map(added)),
-        Call::Remove(word) => return Some(book.remove(word).map(alone)),
-        Call::Tidy => return Some(book.tidy().map(alone)),
-        Call::Find(word) => return Some(book.find(word).map(both)),
-        Call::FindPrefix(query, _) => {
-            return Some(find_prefix_into(book.as_bytes(), query, &mut array.output).map(alone));
-        }
-        Call::Rank(rank) => return Some(book.rank(*rank as usize).map(both)),
-        Call::Order(_) => {
-            return Some(order_into(book.as_bytes(), &mut array.output).map(alone));
-        }
-        Call::Word(start, _) => {
-            let told = word_into(book.as_bytes(), *start, &mut array.output);
-            return Some(told.map(|told| told.map_or((0, 0), marked)));
-        }
-    }
-    None
-}
-
-/// How many values a word has, with 256 more where its record is live, and the stock number.
-fn marked(told: Told) -> (usize, u32) {
-    (told.count + 256 * usize::from(told.live), told.stock)
-}
-
-/// The call that a line asks for.
-fn call_of(line: &str) -> Option<Call> {
-    let (numbers, letter) = line.split_at_checked(line.len().checked_sub(1)?)?;
-    let mut numbers: Vec<&str> = numbers.split(' ').collect();
-    let last = match numbers.pop()? {
-        "" => None,
-        digits => Some(u32::from_str_radix(digits, 16).ok()?),
-    };
-    let values = numbers.into_iter().map(|digits| u16::from_str_radix(digits, 16));
-    let values: Vec<u16> = values.collect::<Result<_, _>>().ok()?;
-    match (letter, &values[..], last) {
-        ("n", [], Some(length)) => Some(Call::New(length as usize)),
-        ("p", [place], Some(byte)) => Some(Call::Poke(usize::from(*place), byte.try_into().ok()?)),
-        ("c", [], None) => Some(Call::Check),
-        ("a", _, Some(stock)) => Some(Call::Add(values, stock)),
-        ("r", _, None) => Some(Call::Remove(values)),
-        ("f", _, None) => Some(Call::Find(values)),
-        ("b", _, Some(room)) => Some(Call::FindPrefix(values, room as usize)),
-        ("k", [], Some(rank)) => Some(Call::Rank(rank)),
-        ("o", [], Some(room)) => Some(Call::Order(room as usize)),
-        ("w", [start], Some(room)) => Some(Call::Word(usize::from(*start), room as usize)),
-        ("t", [], None) => Some(Call::Tidy),
-        _ => None,
-    }
-}
-
-/// The line that is printed for an answer.
-fn printed(answer: Answer, checksum: u64) -> String {
-    match answer {
-        Ok((first, second)) => format!("OK {first} {second} {checksum}\n"),
-        Err(refusal) => format!("NO {} {} {checksum}\n", refusal.number(), refusal.place),
-    }
-}
-
-/// Plays all calls: how many answers there were, or the first that is not as stored.
-fn play(calls: &str, answers: &str, library: Library) -> Result<usize, String> {
-    let mut array = Array::new(0);
-    let mut stored = answers.split_inclusive('\n');
-    let mut count = 0;
-    for (line, number) in calls.lines().zip(1..) {
-        let Some(call) = call_of(line) else {
-            return Err(format!("calls, line {number}: {line:?} is no call"));
-        };
-        let Some(answer) = library(&call, &mut array) else { continue };
-        count += 1;
-        let (printed, stored) = (printed(answer, array.checksum()), stored.next().unwrap_or(""));
-        if printed != stored {
-            return Err(format!(
-                "answers, line {count}: {stored:?} is stored, and {printed:?} is printed for \
-                 {line:?}, line {number} of the calls"
-            ));
-        }
-    }
-    match stored.next() {
-        Some(rest) => Err(format!("answers, line {}: no call prints {rest:?}", count + 1)),
-        None => Ok(count),
-    }
-}
 
 #[test]
 fn every_stored_call_is_answered_as_stored() {
