@@ -5,6 +5,7 @@
 
 mod playing;
 
+use jogcairn::Book;
 use oracle::calls::{Call, Play, BLANK};
 use playing::{play, proved, Answer, Array, ANSWERS, CALLS};
 
@@ -151,11 +152,41 @@ fn tidying_untold_and_bytes_left_behind_are_reported() {
     assert!(difference.contains("t\", line "), "{difference}");
 }
 
+/// Tidying that is not told, the place of a refusal for a start, and a preview that adds.
+#[test]
+fn what_a_preview_tells_or_changes_otherwise_is_reported() {
+    let untold: Library = |call, array| {
+        let answer = proved(call, array);
+        if let Call::Preview(..) = call {
+            array.output[1] = 0;
+        }
+        answer
+    };
+    let place_for_start: Library = |call, array| {
+        let answer = proved(call, array);
+        if let (Call::Preview(..), Some(Err(refusal))) = (call, &answer) {
+            array.output[0] = refusal.place as u16;
+        }
+        answer
+    };
+    let added: Library = |call, array| {
+        let answer = proved(call, array);
+        if let Call::Preview(word, stock) = call {
+            let _ = Book::new(&mut array.bytes[..array.lent]).add(word, *stock);
+        }
+        answer
+    };
+    for wrong in [untold, place_for_start, added] {
+        let difference = play(CALLS, ANSWERS, wrong).unwrap_err();
+        assert!(difference.contains("v\", line "), "{difference}");
+    }
+}
+
 #[test]
 fn a_line_that_is_no_call_is_reported() {
     for line in [
         "", "x", "7c", "1000 7f", "1000 a", "1000  7a", "G 7a", "10000 7a", "100p", "0 100p", "o",
-        "0 0o", "0w", "b", "1000 b", "0t", "1000 t",
+        "0 0o", "0w", "b", "1000 b", "0t", "1000 t", "v", "1000 v",
     ] {
         let difference = play(&format!("c\n{line}\n"), "OK 0 0 0\n", proved).unwrap_err();
         assert_eq!(difference, format!("calls, line 2: {line:?} is no call"));

@@ -5,13 +5,15 @@
 //! and a letter: `1000 103A 7a` adds the word 1000 103A with the stock number 7.
 //! For each call on a book one line is printed: `OK` and two numbers, or `NO`,
 //! refusal number and place; then a checksum of the whole array and what the call
-//! left in its output.
+//! left in its output. A preview is asked for as an add is, by the letter `v`; its
+//! output is what it tells beside the answer of add.
 
 mod beginnings;
 mod damages;
 mod fillings;
 mod listings;
 mod play;
+mod previews;
 mod ranks;
 mod refusals;
 mod tidyings;
@@ -49,5 +51,11 @@ pub fn all() -> Play {
     play.scene("tidied", tidyings::tidied);
     play.scene("renamings", tidyings::renamings);
     play.scene("by one byte", tidyings::by_one_byte);
+    play.scene("previewed fillings", previews::fillings);
+    play.scene("previewed fits", previews::fits);
+    play.scene("previewed turns", previews::turns);
+    play.scene("previewed limits", previews::limits);
+    play.scene("previewed refusals", previews::refusals);
+    play.scene("previewed damage", previews::damage);
     play
 }

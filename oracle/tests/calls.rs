@@ -27,6 +27,7 @@ fn every_answer_occurs() {
     };
     numbers("check", &[11]);
     numbers("add", &[1, 8, 2, 3, 4, 11, 12, 14]);
+    numbers("preview", &[1, 8, 2, 3, 4, 11, 12, 14]);
     numbers("remove", &[1, 8, 2, 3, 4, 11, 13]);
     numbers("find", &[1, 8, 2, 3, 4, 11, 13]);
     numbers("find prefix", &[1, 8, 2, 3, 4, 11, 5]);
@@ -53,10 +54,75 @@ fn the_scenes_tidy_as_they_say() {
         ("by one byte", &["add OK", "add OK, tidied", "add NO 14"]),
     ];
     for (scene, kinds) in scenes {
-        for kind in kinds {
-            assert!(CALLS.counts.contains_key(&(scene, kind.to_string())), "{scene}: {kind}");
+        demand(scene, kinds);
+    }
+}
+
+/// Demands answers of these kinds in the scene.
+fn demand(scene: &'static str, kinds: &[&str]) {
+    for kind in kinds {
+        assert!(CALLS.counts.contains_key(&(scene, kind.to_string())), "{scene}: {kind}");
+    }
+}
+
+#[test]
+fn the_scenes_preview_as_they_say() {
+    let fitting = ["preview OK", "preview OK, tidies", "preview NO 14"];
+    for scene in ["previewed fillings", "previewed fits", "previewed turns", "previewed limits"] {
+        demand(scene, &fitting);
+    }
+    for scene in ["previewed fillings", "previewed turns", "previewed limits"] {
+        demand(scene, &["preview NO 12"]);
+    }
+    demand("previewed refusals", &["preview NO 11", "add NO 11"]);
+    demand("previewed damage", &["preview NO 11", "add NO 11", "preview OK, tidies"]);
+}
+
+/// The calls on books, each with the line that is printed for it.
+fn answered() -> impl Iterator<Item = (&'static str, &'static str)> {
+    let on_books = CALLS.input.lines().filter(|line| !line.ends_with(['n', 'p']));
+    on_books.zip(CALLS.expected.lines())
+}
+
+/// "The preview gives the answer that add gives on a copy of the book": where the add stands
+/// straight behind its preview, their answers are the same, and each kind of them occurs. The
+/// checksums are of other bytes.
+#[test]
+fn an_add_behind_its_preview_has_the_same_answer() {
+    let answer = |line: &'static str| line.rsplit_once(' ').unwrap().0;
+    let mut seen = BTreeSet::new();
+    for ((preview, previewed), (add, added)) in answered().zip(answered().skip(1)) {
+        let pair = (preview.strip_suffix('v'), add.strip_suffix('a'));
+        if pair.0.is_some() && pair.0 == pair.1 {
+            assert_eq!(answer(previewed), answer(added), "{preview}");
+            let kind = |(verdict, rest): (&str, &str)| match (verdict, rest.split_once(' ')) {
+                ("OK", Some((_, tidied))) => format!("OK, {tidied}"),
+                (_, Some((number, _))) => format!("NO {number}"),
+                _ => panic!("{previewed}"),
+            };
+            seen.insert(kind(answer(added).split_once(' ').unwrap()));
         }
     }
+    let kinds =
+        ["NO 1", "NO 11", "NO 12", "NO 14", "NO 2", "NO 3", "NO 4", "NO 8", "OK, 0", "OK, 1"];
+    assert_eq!(seen, kinds.map(String::from).into());
+}
+
+/// Behind the array stand the start, 8, and 1 for an add that would tidy; for a refused one
+/// both are 0.
+#[test]
+fn the_checksum_of_a_preview_has_its_start_and_whether_it_tidies() {
+    let mut play = Play::new();
+    play.new_book(17);
+    let ka = [0x4D, 0x57, 1, 5, 0, 0, 0, 0x00];
+    let removed_kha = [0x4D, 0x2D, 1, 6, 0, 0, 0, 0x01];
+    let array = [&ka[..], &removed_kha, &[0, 0x4D, 0x57], &[0; 16_380], &[0xA5]].concat();
+    play.poke_all(0, &array[..16]);
+    play.preview(&[0x1002, 0x102C], 7).unwrap();
+    play.preview(&[0x1000], 7).unwrap_err();
+    let sum = |output: [u8; 4]| checksum(&[&array[..], &output].concat());
+    let lines = [format!("OK 8 1 {}", sum([8, 0, 1, 0])), format!("NO 12 0 {}", sum([0; 4]))];
+    assert_eq!(play.expected.lines().collect::<Vec<_>>(), lines);
 }
 
 /// The words of the calls with this letter, which have a number behind the word.

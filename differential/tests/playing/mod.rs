@@ -4,7 +4,7 @@
 //! `1000 103A 7a` adds the word 1000 103A with the stock number 7.
 
 use jogcairn::book::{find_prefix_into, order_into, word_into};
-use jogcairn::{Added, Book, Found, Refusal, Told, BOOK_LIMIT};
+use jogcairn::{Added, Book, Found, Preview, Refusal, Told, BOOK_LIMIT};
 use oracle::calls::{Call, BLANK};
 
 pub const CALLS: &str = include_str!("../../calls/calls");
@@ -52,6 +52,11 @@ pub fn proved(call: &Call, array: &mut Array) -> Option<Answer> {
         Call::Poke(place, byte) => array.bytes[*place] = *byte,
         Call::Check => return Some(book.check().map(alone)),
         Call::Add(word, stock) => return Some(book.add(word, *stock).map(added)),
+        Call::Preview(word, stock) => {
+            let preview = book.preview(word, *stock);
+            array.output = told(&preview).to_vec();
+            return Some(preview.answer.map(added));
+        }
         Call::Remove(word) => return Some(book.remove(word).map(alone)),
         Call::Tidy => return Some(book.tidy().map(alone)),
         Call::Find(word) => return Some(book.find(word).map(both)),
@@ -68,6 +73,12 @@ pub fn proved(call: &Call, array: &mut Array) -> Option<Answer> {
         }
     }
     None
+}
+
+/// What a preview tells beside the answer of add: the start, and 1 where it would tidy, else 0.
+fn told(preview: &Preview) -> [u16; 2] {
+    let start = u16::try_from(preview.start).expect("a start in a book");
+    [start, u16::from(preview.tidies)]
 }
 
 /// How many values a word has, with 256 more where its record is live, and the stock number.
@@ -90,6 +101,7 @@ fn call_of(line: &str) -> Option<Call> {
         ("p", [place], Some(byte)) => Some(Call::Poke(usize::from(*place), byte.try_into().ok()?)),
         ("c", [], None) => Some(Call::Check),
         ("a", _, Some(stock)) => Some(Call::Add(values, stock)),
+        ("v", _, Some(stock)) => Some(Call::Preview(values, stock)),
         ("r", _, None) => Some(Call::Remove(values)),
         ("f", _, None) => Some(Call::Find(values)),
         ("b", _, Some(room)) => Some(Call::FindPrefix(values, room as usize)),

@@ -1,6 +1,6 @@
 //! Buffers of lengths near the limits, and books that fill up to the last byte.
 
-use super::play::Play;
+use super::play::{Adding, Play};
 use super::words::{of_length, short, stock};
 use crate::book::BOOK_LIMIT;
 use crate::random::Random;
@@ -135,11 +135,12 @@ pub fn add_until_full(
     play: &mut Play,
     random: &mut Random,
     make: fn(&mut Random) -> Vec<u16>,
+    add: Adding,
 ) -> (Vec<Vec<u16>>, usize) {
     let mut words: Vec<Vec<u16>> = Vec::new();
     loop {
         let word = make(random);
-        match play.add(&word, stock(random)) {
+        match add(play, &word, stock(random)) {
             Ok(_) => words.push(word),
             Err(refusal) if refusal.number == 14 => return (words, refusal.place),
             Err(_) => {}
@@ -149,7 +150,7 @@ pub fn add_until_full(
 
 /// Adds words until one has no room, and then a word that ends at the last byte.
 fn fill(play: &mut Play, random: &mut Random, size: usize, make: fn(&mut Random) -> Vec<u16>) {
-    let (words, live_length) = add_until_full(play, random, make);
+    let (words, live_length) = add_until_full(play, random, make, Play::add);
     let room = size - live_length;
     if room < 8 {
         let _ = play.add(&[0x1020], 1);

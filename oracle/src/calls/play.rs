@@ -1,6 +1,6 @@
 //! Calls played one after the other, each noted with what must be printed for it.
 
-use crate::book::{self, Entry};
+use crate::book::{self, Added, Entry};
 use crate::random::Random;
 use crate::refusal::Refusal;
 use std::collections::BTreeMap;
@@ -20,6 +20,8 @@ pub enum Call {
     Check,
     /// A word and its stock number.
     Add(Vec<u16>, u32),
+    /// A word and its stock number, to be told what add would do.
+    Preview(Vec<u16>, u32),
     /// A word.
     Remove(Vec<u16>),
     /// A word.
@@ -40,10 +42,13 @@ pub enum Call {
 pub const BLANK: u16 = 0xA5A5;
 
 /// Two numbers, the second 0 where a call gives only one; or a refusal. Add gives the
-/// start and 1 where it tidied, else 0. The word of a record has the number of its
-/// values, with 256 more where the record is live and 0 where there is none, and the
-/// stock number.
+/// start and 1 where it tidied, else 0, and a preview what add would give. The word of
+/// a record has the number of its values, with 256 more where the record is live and 0
+/// where there is none, and the stock number.
 pub type Answer = Result<(usize, u32), Refusal>;
+
+/// Adds a word with a stock number, perhaps after other calls.
+pub type Adding = fn(&mut Play, &[u16], u32) -> Answer;
 
 /// The calls so far, what must be printed for them, and the array as they left it.
 pub struct Play {
@@ -127,8 +132,16 @@ impl Play {
     /// Plays a call on the book.
     pub fn add(&mut self, word: &[u16], stock: u32) -> Answer {
         let added = book::add(&mut self.array[..self.length], word, stock);
-        let answer = added.map(|added| (added.start, u32::from(added.tidied)));
-        self.told(Call::Add(word.to_vec(), stock), answer)
+        self.told(Call::Add(word.to_vec(), stock), added.map(start_and_whether))
+    }
+
+    /// Plays a call on the book. What it tells beside the answer of add stands in its
+    /// output: the start, and 1 where add would tidy, else 0.
+    pub fn preview(&mut self, word: &[u16], stock: u32) -> Answer {
+        let preview = book::preview(&self.array[..self.length], word, stock);
+        let output = [preview.start as u16, u16::from(preview.tidies)];
+        let call = Call::Preview(word.to_vec(), stock);
+        self.told_with(call, preview.answer.map(start_and_whether), &output)
     }
 
     /// Plays a call on the book.
@@ -197,6 +210,7 @@ impl Play {
         writeln!(self.expected, "{verdict} {first} {second} {sum}").expect("memory");
         let kind = match (&call, answer) {
             (Call::Add(..), Ok((_, 1))) => String::from("add OK, tidied"),
+            (Call::Preview(..), Ok((_, 1))) => String::from("preview OK, tidies"),
             (_, Ok(_)) => format!("{} OK", name(&call)),
             (_, Err(refusal)) => format!("{} NO {}", name(&call), refusal.number),
         };
@@ -210,6 +224,7 @@ impl Play {
             Call::Poke(place, byte) => format!("{place:X} {byte:X}p"),
             Call::Check => String::from("c"),
             Call::Add(word, stock) => format!("{}{stock:X}a", values(word)),
+            Call::Preview(word, stock) => format!("{}{stock:X}v", values(word)),
             Call::Remove(word) => format!("{}r", values(word)),
             Call::Find(word) => format!("{}f", values(word)),
             Call::FindPrefix(query, room) => format!("{}{room:X}b", values(query)),
@@ -229,6 +244,10 @@ impl Default for Play {
     }
 }
 
+fn start_and_whether(added: Added) -> (usize, u32) {
+    (added.start, u32::from(added.tidied))
+}
+
 fn pair(entry: Entry) -> (usize, u32) {
     (entry.start, entry.stock)
 }
@@ -239,6 +258,7 @@ fn name(call: &Call) -> &'static str {
         Call::Poke(..) => "poke",
         Call::Check => "check",
         Call::Add(..) => "add",
+        Call::Preview(..) => "preview",
         Call::Remove(_) => "remove",
         Call::Find(_) => "find",
         Call::FindPrefix(..) => "find prefix",

@@ -1,7 +1,7 @@
 //! Books whose removed records go: by tidying, and by adds that have no other room.
 
 use super::fillings::add_until_full;
-use super::play::Play;
+use super::play::{Adding, Play};
 use super::words::{of_length, respelled, short, stock};
 use crate::random::Random;
 use crate::word::WORD_LIMIT;
@@ -36,7 +36,7 @@ pub fn tidied(play: &mut Play, random: &mut Random) {
 pub fn renamings(play: &mut Play, random: &mut Random) {
     for size in [30, 60, 100, 180, 300] {
         play.new_book(size);
-        let (mut words, _) = add_until_full(play, random, short);
+        let (mut words, _) = add_until_full(play, random, short, Play::add);
         for _ in 0..10 {
             rename(play, random, &mut words);
         }
@@ -44,7 +44,7 @@ pub fn renamings(play: &mut Play, random: &mut Random) {
         if random.chance(50) {
             let _ = play.tidy();
         }
-        let (more, _) = add_until_full(play, random, short);
+        let (more, _) = add_until_full(play, random, short, Play::add);
         let _ = play.order(words.len() + more.len());
         for word in words.iter().take(3) {
             let _ = play.find(word);
@@ -69,22 +69,33 @@ fn rename(play: &mut Play, random: &mut Random, words: &mut Vec<Vec<u16>>) {
     let _ = play.find(&name);
 }
 
-/// Words that end at the last byte, behind the last record and after tidying, and such
-/// as have one value more: the first goes behind, two tidy, and the last has no room.
+/// Books in which a byte decides, with removed records of several lengths.
 pub fn by_one_byte(play: &mut Play, random: &mut Random) {
     for (removed, free) in [(8, 8), (8, 9), (10, 0), (15, 7), (16, 20), (37, 12), (71, 0)] {
-        let sizes = [free, free + 1, free + removed, free + removed + 1];
-        for (size, outcome) in sizes.into_iter().zip([Ok(0), Ok(1), Ok(1), Err(14)]) {
-            if !(8..=7 + WORD_LIMIT).contains(&size) {
-                continue;
-            }
-            for removed_first in [true, false] {
-                half_removed(play, random, removed, free, removed_first);
-                let answer = play.add(&of_length(random, size - 7), stock(random));
-                let answer = answer.map(|(_, tidied)| tidied).map_err(|refusal| refusal.number);
-                assert_eq!(answer, outcome);
-                let _ = play.order(2);
-            }
+        add_to_the_last_byte(play, random, removed, free, Play::add);
+    }
+}
+
+/// Words that end at the last byte, behind the last record and after tidying, and such
+/// as have one value more: the first goes behind, two tidy, and the last has no room.
+pub fn add_to_the_last_byte(
+    play: &mut Play,
+    random: &mut Random,
+    removed: usize,
+    free: usize,
+    add: Adding,
+) {
+    let sizes = [free, free + 1, free + removed, free + removed + 1];
+    for (size, outcome) in sizes.into_iter().zip([Ok(0), Ok(1), Ok(1), Err(14)]) {
+        if !(8..=7 + WORD_LIMIT).contains(&size) {
+            continue;
+        }
+        for removed_first in [true, false] {
+            half_removed(play, random, removed, free, removed_first);
+            let answer = add(play, &of_length(random, size - 7), stock(random));
+            let answer = answer.map(|(_, tidied)| tidied).map_err(|refusal| refusal.number);
+            assert_eq!(answer, outcome);
+            let _ = play.order(2);
         }
     }
 }
