@@ -23,6 +23,7 @@ pub enum Call {
     Decode,
     BookCheck,
     BookAdd,
+    BookPreview,
     BookRemove,
     BookTidy,
     BookFind,
@@ -36,7 +37,7 @@ pub enum Call {
 
 impl Call {
     /// All calls.
-    pub const ALL: [Call; 28] = [
+    pub const ALL: [Call; 29] = [
         Call::Read,
         Call::Record,
         Call::RecordBytes,
@@ -56,6 +57,7 @@ impl Call {
         Call::Decode,
         Call::BookCheck,
         Call::BookAdd,
+        Call::BookPreview,
         Call::BookRemove,
         Call::BookTidy,
         Call::BookFind,
@@ -89,6 +91,7 @@ impl Call {
             Call::Decode => "decode",
             Call::BookCheck => "book check",
             Call::BookAdd => "book add",
+            Call::BookPreview => "book preview",
             Call::BookRemove => "book remove",
             Call::BookTidy => "book tidy",
             Call::BookFind => "book find",
@@ -116,7 +119,7 @@ impl Call {
             Call::Write => &[0, 5, 6],
             Call::Decode => &[0, 1, 5, 7],
             Call::BookCheck | Call::BookTidy | Call::BookEntries => &[0, 11],
-            Call::BookAdd => &[0, 1, 2, 3, 4, 8, 11, 12, 14],
+            Call::BookAdd | Call::BookPreview => &[0, 1, 2, 3, 4, 8, 11, 12, 14],
             Call::BookRemove | Call::BookFind => &[0, 1, 2, 3, 4, 8, 11, 13],
             Call::BookFindPrefix => &[0, 1, 2, 3, 4, 5, 8, 11],
             Call::BookPrefixEntries => &[0, 1, 2, 3, 4, 8, 11],
@@ -138,6 +141,7 @@ impl Call {
             Call::Decode => Some("line"),
             Call::BookCheck
             | Call::BookAdd
+            | Call::BookPreview
             | Call::BookRemove
             | Call::BookTidy
             | Call::BookFind
@@ -167,7 +171,7 @@ impl Call {
             | Call::BookFindPrefix
             | Call::BookOrder => &["room"],
             Call::BookWord => &["room", "start"],
-            Call::BookAdd => &["stock"],
+            Call::BookAdd | Call::BookPreview => &["stock"],
             Call::BookRank => &["rank"],
             _ => &[],
         }
@@ -186,6 +190,11 @@ impl Call {
                 | Call::BookWord
                 | Call::BookEntries
         )
+    }
+
+    /// Whether a record is added to a book, or would be.
+    pub const fn is_add_or_preview(self) -> bool {
+        matches!(self, Call::BookAdd | Call::BookPreview)
     }
 
     /// Whether the call may change a book.

@@ -29,6 +29,7 @@ impl Counts {
         let row = match answer {
             Answer::Refused { which, .. } => *which,
             Answer::Accepted(numbers) if call == Call::BookAdd => numbers[1] as u8,
+            Answer::Previewed { tidies, .. } => u8::from(*tidies),
             Answer::Accepted(numbers) if call == Call::LookAlike => ALIKE * numbers[0] as u8,
             _ => 0,
         };
@@ -61,12 +62,13 @@ impl Counts {
 }
 
 /// The rows of a call: of two words, refusals of each have a row of their own, and so have the labels
-/// that look alike and the adds that tidied.
+/// that look alike, the adds that tidied and the previews that tell of tidying.
 fn rows(call: Call) -> Vec<(Call, u8, String)> {
     let further: &[&str] = match call {
         Call::Compare | Call::WordOrder => &["first", "second"],
         Call::LookAlike => &["first", "second", "alike"],
         Call::BookAdd => &["tidied"],
+        Call::BookPreview => &["tidies"],
         _ => &[],
     };
     let name = call.name();
@@ -77,7 +79,7 @@ fn rows(call: Call) -> Vec<(Call, u8, String)> {
 /// The tags that a row can have.
 fn tags(call: Call, row: u8) -> impl Iterator<Item = u8> {
     let fits = move |tag: &&u8| match (call, row) {
-        (Call::BookAdd, 1) | (Call::LookAlike, ALIKE) => **tag == 0,
+        (Call::BookAdd | Call::BookPreview, 1) | (Call::LookAlike, ALIKE) => **tag == 0,
         _ => !call.takes_two_words() || (row == 0) == (**tag == 0),
     };
     call.tags().iter().filter(fits).copied()

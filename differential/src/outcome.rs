@@ -19,17 +19,35 @@ pub enum Answer {
         /// The refused word where there are two, 1 or 2; else 0.
         which: u8,
     },
+    /// A preview.
+    Previewed {
+        /// The answer that an add would have.
+        add: Box<Answer>,
+        /// Where the record would start; 0 where the add would be refused.
+        start: usize,
+        /// Whether the book would be tidied.
+        tidies: bool,
+    },
     /// No answer: the call ended in a panic.
     Panicked(String),
 }
 
 impl Answer {
+    /// The answer itself; of a preview, the answer of the add.
+    pub fn of_add(&self) -> &Answer {
+        match self {
+            Answer::Previewed { add, .. } => add,
+            answer => answer,
+        }
+    }
+
     /// The tag: 0 for accepted, a refusal number, 128 for nothing.
     pub fn tag(&self) -> Option<u8> {
         match self {
             Answer::Accepted(_) => Some(0),
             Answer::Refused { number, .. } => Some(*number),
             Answer::Nothing => Some(128),
+            Answer::Previewed { add, .. } => add.tag(),
             Answer::Panicked(_) => None,
         }
     }
@@ -46,6 +64,9 @@ impl fmt::Display for Answer {
             Answer::Refused { number, place, which: 0 } => write!(f, "refused {number} at {place}"),
             Answer::Refused { number, place, which } => {
                 write!(f, "word {which} refused {number} at {place}")
+            }
+            Answer::Previewed { add, start, tidies } => {
+                write!(f, "{add}; start {start}, {}", if *tidies { "tidies" } else { "no tidying" })
             }
             Answer::Panicked(message) => write!(f, "panicked: {message}"),
         }

@@ -23,6 +23,7 @@ impl Library for Proved {
             Call::BookCheck | Call::BookTidy | Call::BookRank | Call::BookEntries => of_book(case),
             Call::BookOrder | Call::BookWord => from_book(case),
             Call::BookAdd | Call::BookRemove | Call::BookFind => of_book_and_word(case),
+            Call::BookPreview => preview(case),
             Call::BookFindPrefix | Call::BookPrefixEntries => of_book_and_query(case),
             Call::Read
             | Call::Record
@@ -242,4 +243,14 @@ fn of_book_and_word(case: &Case) -> Outcome {
     };
     let lent: Vec<Memory> = vec![bytes.after(), word.after()];
     Outcome { answer, lent }
+}
+
+/// A book that is only looked at, and a word.
+fn preview(case: &Case) -> Outcome {
+    let bytes = Lent::input(&case.bytes);
+    let word = Lent::input(&case.word);
+    let preview = jogcairn::book::preview(bytes.inside(), word.inside(), case.numbers[0] as u32);
+    let add = Box::new(many(preview.answer.map(added)));
+    let answer = Answer::Previewed { add, start: preview.start, tidies: preview.tidies };
+    Outcome { answer, lent: vec![bytes.after(), word.after()] }
 }

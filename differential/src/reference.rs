@@ -24,6 +24,7 @@ impl Library for Reference {
             Call::BookCheck | Call::BookTidy | Call::BookRank | Call::BookEntries => of_book(case),
             Call::BookOrder | Call::BookWord => from_book(case),
             Call::BookAdd | Call::BookRemove | Call::BookFind => of_book_and_word(case),
+            Call::BookPreview => preview(case),
             Call::BookFindPrefix | Call::BookPrefixEntries => of_book_and_query(case),
             Call::Read
             | Call::Record
@@ -254,5 +255,15 @@ fn of_book_and_word(case: &Case) -> Outcome {
         Call::BookRemove => book::remove(bytes.inside_mut(), word.inside()).map(one),
         _ => book::find(bytes.inside(), word.inside()).map(found),
     });
+    Outcome { answer, lent: vec![bytes.after(), word.after()] }
+}
+
+/// A book that is only looked at, and a word.
+fn preview(case: &Case) -> Outcome {
+    let bytes = Lent::input(&case.bytes);
+    let word = Lent::input(&case.word);
+    let preview = book::preview(bytes.inside(), word.inside(), case.numbers[0] as u32);
+    let add = Box::new(accepted(preview.answer.map(added)));
+    let answer = Answer::Previewed { add, start: preview.start, tidies: preview.tidies };
     Outcome { answer, lent: vec![bytes.after(), word.after()] }
 }

@@ -56,10 +56,10 @@ fn fewer_syllables(row: &[u8]) -> impl Iterator<Item = Vec<u8>> + '_ {
         .map(|taken| without(row, taken.start * RECORD_SIZE..taken.end * RECORD_SIZE))
 }
 
-/// Cases of an add with as many values less as bytes of the book, so that a record that would end at
-/// the last byte still does.
+/// Cases of an add or its preview with as many values less as bytes of the book, so that a record that
+/// would end at the last byte still does.
 fn shorter_adds(case: &Case) -> impl Iterator<Item = Case> + '_ {
-    let adds = (case.call == Call::BookAdd).then(|| shorter_bytes(case));
+    let adds = case.call.is_add_or_preview().then(|| shorter_bytes(case));
     adds.into_iter().flatten().filter_map(|bytes| {
         let length = case.word.len().checked_sub(case.bytes.len() - bytes.len())?;
         Some(Case { bytes, word: case.word[..length].to_vec(), ..case.clone() })

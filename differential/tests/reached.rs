@@ -6,7 +6,7 @@ mod recorded;
 use differential::cases::Cases;
 use differential::{Answer, Call, Case, Library, Outcome, Reference};
 use jogcairn::{BOOK_LIMIT, KEY_SIZE, RECORD_SIZE, WORD_LIMIT};
-use kinds::{demand, place_of, INPUTS};
+use kinds::{demand, demand_among, place_of, Kind, INPUTS};
 use recorded::{record, word};
 use std::collections::BTreeSet;
 
@@ -105,7 +105,7 @@ fn tidied(case: &Case, outcome: &Outcome) -> Option<Lengths> {
 
 #[test]
 fn records_are_added_in_every_way() {
-    demand(&[
+    demand_of_adds_and_previews(&[
         ("behind the last record", |case, outcome| {
             added(case, outcome, BEHIND).is_some_and(|(it, _)| it.removed == 0)
         }),
@@ -146,7 +146,7 @@ fn records_are_added_in_every_way() {
 
 #[test]
 fn records_have_no_room_in_every_way() {
-    demand(&[
+    demand_of_adds_and_previews(&[
         ("none removed", |case, outcome| {
             added(case, outcome, FULL).is_some_and(|(it, _)| it.live > 0 && it.removed == 0)
         }),
@@ -175,6 +175,12 @@ fn records_have_no_room_in_every_way() {
     ]);
 }
 
+/// Shows that adds of each kind are made, and previews of each.
+fn demand_of_adds_and_previews(kinds: &[(&str, Kind)]) {
+    demand_among(|case| case.call == Call::BookAdd, kinds);
+    demand_among(|case| case.call == Call::BookPreview, kinds);
+}
+
 /// What follows the start in the answer of an add, or the refusal's number.
 type Ending = Result<u64, u8>;
 
@@ -183,15 +189,48 @@ const TIDIED: Ending = Ok(1);
 const FULL: Ending = Err(14);
 const LIVE: Ending = Err(12);
 
-/// The lengths of a book before an add that ends so, and the bytes of the word's record.
+/// The lengths of a book before an add or a preview that ends so, and the bytes of the word's record.
 fn added(case: &Case, outcome: &Outcome, wanted: Ending) -> Option<(Lengths, usize)> {
-    let ending = match &outcome.answer {
-        _ if case.call != Call::BookAdd => return None,
+    let ending = match outcome.answer.of_add() {
+        _ if !case.call.is_add_or_preview() => return None,
         Answer::Accepted(numbers) => Ok(numbers[1]),
         answer => Err(answer.tag()?),
     };
     let count = oracle::normalise(&case.word, &mut [0; WORD_LIMIT]).ok()?;
     (ending == wanted).then(|| (lengths(&case.bytes), 7 + count))
+}
+
+#[test]
+fn adds_are_previewed_in_every_state() {
+    demand_among(
+        |case| case.call == Call::BookPreview,
+        &[
+            ("no bytes", |case, _| case.bytes.is_empty()),
+            ("no records", |case, _| case.bytes.first() == Some(&0)),
+            ("the longest book, full", |case, outcome| {
+                case.bytes.len() == BOOK_LIMIT && added(case, outcome, FULL).is_some()
+            }),
+            ("a live word behind a removed record", |case, outcome| {
+                let place = place_of(outcome, 12);
+                place.is_some_and(|place| lengths(&case.bytes[..place]).removed > 0)
+            }),
+            ("an overlong buffer", |_, outcome| place_of(outcome, 11) == Some(BOOK_LIMIT)),
+            ("no book behind a removed record and a live one", |case, outcome| {
+                let place = place_of(outcome, 11);
+                let before = place.and_then(|place| case.bytes.get(..place)).map(lengths);
+                before.is_some_and(|it| it.live > 0 && it.removed > 0)
+            }),
+            ("a bad word and a bad book", |case, outcome| {
+                place_of(outcome, 3).is_some() && oracle::book::check(&case.bytes).is_err()
+            }),
+            ("no word and a bad book", |case, outcome| {
+                place_of(outcome, 8).is_some() && oracle::book::check(&case.bytes).is_err()
+            }),
+            ("the stock number 0", |case, outcome| {
+                case.numbers[0] == 0 && outcome.answer.tag() == Some(0)
+            }),
+        ],
+    );
 }
 
 #[test]

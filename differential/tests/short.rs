@@ -259,6 +259,19 @@ fn every_query_of_up_to_two_values_and_of_three_representatives() {
     }
 }
 
+/// In a book that has only the room of its removed records, and in a buffer that is no book.
+#[test]
+fn every_preview_of_up_to_two_values_and_of_three_representatives() {
+    let no_book = [&booked()[..], b"M"].concat();
+    for book in [booked(), no_book] {
+        let case = Case { numbers: [1, 0], ..Case::of_bytes(Call::BookPreview, book) };
+        for length in 0..=2 {
+            try_all_in(&values(), length, &case);
+        }
+        try_all_in(&REPRESENTATIVES, 3, &case);
+    }
+}
+
 #[test]
 fn every_room_for_what_a_word_of_the_book_finds() {
     for word in BOOKED {
@@ -290,16 +303,18 @@ fn few_records() -> Vec<Vec<u8>> {
 }
 
 /// Words of every length that fits, behind the last record or after tidying, and of one value more;
-/// and a word that is live or removed.
+/// and a word that is live or removed. Each add is previewed too.
 #[test]
 fn every_small_book_is_tidied_and_added_to() {
     for records in few_records() {
         for free in 0..=9 {
             let book = [&records[..], &vec![0; free]].concat();
             demand_agreement(&Case::of_bytes(Call::BookTidy, book.clone()));
-            let add = |word| {
+            let add = |word: Vec<u16>| {
                 let add = Case::of_bytes(Call::BookAdd, book.clone());
-                demand_agreement(&Case { word, numbers: [0x0403_0201, 0], ..add });
+                let add = Case { word, numbers: [0x0403_0201, 0], ..add };
+                demand_agreement(&add);
+                demand_agreement(&Case { call: Call::BookPreview, ..add });
             };
             let longest = book.len().saturating_sub(7) + 1;
             (1..=longest).for_each(|length| add(vec![0x1010; length]));

@@ -55,6 +55,11 @@ pub fn case(random: &mut Random, shelf: &mut Shelf) -> Case {
         call if shelf.starts.len() > MANY_RECORDS => without_sorting(random, call),
         call => call,
     };
+    of_call(random, shelf, call)
+}
+
+/// A call on the book as it stands, or on a damaged copy.
+pub fn of_call(random: &mut Random, shelf: &Shelf, call: Call) -> Case {
     let mut case = Case::of_bytes(call, shelf.bytes.clone());
     if random.chance(20) {
         for _ in 0..random.pick(&[1, 1, 1, 2]) {
@@ -67,7 +72,7 @@ pub fn case(random: &mut Random, shelf: &mut Shelf) -> Case {
         _ => Vec::new(),
     };
     case.numbers = match call {
-        Call::BookAdd => [stock(random), 0],
+        Call::BookAdd | Call::BookPreview => [stock(random), 0],
         Call::BookFindPrefix => [near(random, fitting(&case)), 0],
         Call::BookRank => [rank(random, shelf), 0],
         Call::BookOrder => [near(random, oracle::book::check(&case.bytes).unwrap_or(0)), 0],
@@ -111,7 +116,7 @@ fn start(random: &mut Random, shelf: &Shelf) -> usize {
 
 /// A word that is in the book, perhaps typed otherwise, or another.
 fn word(random: &mut Random, shelf: &Shelf, call: Call) -> Vec<u16> {
-    let known = if call == Call::BookAdd { 6 } else { 14 };
+    let known = if call.is_add_or_preview() { 6 } else { 14 };
     match random.below(20) {
         0 => Vec::new(),
         1 | 2 => words::word(random),
@@ -124,7 +129,7 @@ fn word(random: &mut Random, shelf: &Shelf, call: Call) -> Vec<u16> {
             }
             word
         }
-        9..13 if call == Call::BookAdd => ending_near_the_end(random, shelf),
+        9..13 if call.is_add_or_preview() => ending_near_the_end(random, shelf),
         18 => vec![random.pick(&[0x1000, 0x1015, 0x1021, 0x1025, 0x1040, 0x104F])],
         19 => words::beginning(random),
         _ => shelf.another(random),

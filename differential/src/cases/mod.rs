@@ -18,16 +18,22 @@ use oracle::random::Random;
 use shelf::Shelf;
 use std::mem::swap;
 
-/// A maker of inputs. Those on labels are made by a generator of their own, so that the others are
-/// what they are without them.
+/// A maker of inputs. Those on labels, and previews, are made by generators of their own, so that the
+/// others are what they are without them.
 pub struct Cases {
     random: Random,
     label_random: Random,
+    preview_random: Random,
     shelf: Shelf,
 }
 
 /// So many of a hundred inputs are on labels.
 const ON_LABELS: usize = 12;
+
+/// So many of a hundred inputs are previews; more of them while there is a long book, which is rare
+/// and has few calls.
+const PREVIEWS: usize = 9;
+const PREVIEWS_OF_LONG_BOOKS: usize = 25;
 
 /// The calls on words and lines, each as often as it stands here.
 const WORD_CALLS: [Call; 24] = [
@@ -63,12 +69,17 @@ impl Cases {
         Cases {
             random: Random::of(&format!("differential {seed}")),
             label_random: Random::of(&format!("labels {seed}")),
+            preview_random: Random::of(&format!("previews {seed}")),
             shelf: Shelf::new(),
         }
     }
 
     /// The next input.
     pub fn next_case(&mut self) -> Case {
+        let previews = if self.shelf.is_long() { PREVIEWS_OF_LONG_BOOKS } else { PREVIEWS };
+        if self.preview_random.chance(previews) {
+            return books::of_call(&mut self.preview_random, &self.shelf, Call::BookPreview);
+        }
         if self.label_random.chance(ON_LABELS) {
             return labels::case(&mut self.label_random);
         }

@@ -30,6 +30,9 @@ pub struct Shelf {
 /// One of so many books is of the longest kind, and full or nearly so.
 const LONGEST_ONE_OF: usize = 75;
 
+/// Books of more bytes are long.
+const LONG: usize = 1_500;
+
 impl Shelf {
     /// A book without bytes.
     pub fn new() -> Shelf {
@@ -60,20 +63,20 @@ impl Shelf {
             }
             0..8 => random.below(20),
             8..80 => random.between(20, 300),
-            80..99 => random.between(300, 1_500),
-            _ => random.between(1_500, 6_000),
+            80..99 => random.between(300, LONG),
+            _ => random.between(LONG, 6_000),
         };
         let alike = random.pick(&[10, 60, 95]);
         let mut shelf = Shelf { bytes: vec![0; size], alike, number, ..Shelf::new() };
-        shelf.calls_left = if size < 1_500 { random.between(10, 60) } else { 16 };
+        shelf.calls_left = if size < LONG { random.between(10, 60) } else { 16 };
         let filled = match random.below(4) {
-            _ if size > 1_500 => size - random.below(30),
+            _ if size > LONG => size - random.below(30),
             0 => random.below(size + 1),
             1 | 2 => size,
             _ => 0,
         };
         // In a long book few removed records are room enough for any word.
-        let removed = random.pick(if size > 1_500 { &[0, 0, 20] } else { &[0, 20, 20, 60, 95] });
+        let removed = random.pick(if size > LONG { &[0, 0, 20] } else { &[0, 20, 20, 60, 95] });
         shelf.fill(random, filled, removed);
         shelf
     }
@@ -109,6 +112,11 @@ impl Shelf {
         } else {
             valid(random)
         }
+    }
+
+    /// Whether the book is long.
+    pub fn is_long(&self) -> bool {
+        self.bytes.len() > LONG
     }
 
     /// Goes on from what an accepted call left, if it was on this very book.

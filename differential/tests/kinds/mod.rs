@@ -24,14 +24,20 @@ static ANSWERED: LazyLock<Vec<(Case, Outcome)>> = LazyLock::new(|| {
 
 /// Shows that inputs of each kind are made.
 pub fn demand(kinds: &[(&str, Kind)]) {
-    let made = |kind: &Kind| ANSWERED.iter().any(|(case, outcome)| kind(case, outcome));
+    demand_among(|_| true, kinds);
+}
+
+/// Shows that inputs of each kind are made among those that are asked for.
+pub fn demand_among(asked_for: impl Fn(&Case) -> bool, kinds: &[(&str, Kind)]) {
+    let among = || ANSWERED.iter().filter(|(case, _)| asked_for(case));
+    let made = |kind: &Kind| among().any(|(case, outcome)| kind(case, outcome));
     let missing = kinds.iter().filter(|(_, kind)| !made(kind)).map(|(name, _)| *name);
     let missing: Vec<&str> = missing.collect();
     assert!(missing.is_empty(), "{missing:?}");
 }
 
 pub fn place_of(outcome: &Outcome, wanted: u8) -> Option<usize> {
-    match outcome.answer {
+    match *outcome.answer.of_add() {
         Answer::Refused { number, place, .. } if number == wanted => Some(place),
         _ => None,
     }
