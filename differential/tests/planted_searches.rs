@@ -2,12 +2,14 @@
 
 mod faults;
 mod giving;
+mod right;
 mod searching;
 
-use differential::{run, Answer, Call, Case, Finding, Library, Memory, Outcome, Reference, MARGIN};
+use differential::{Answer, Call, Case, Finding, Memory, Outcome, MARGIN};
 use faults::finding;
 use giving::give;
 use jogcairn::Key;
+use right::demand_no_finding;
 use searching::{is_search, records, search_by};
 
 /// Whether the weights of a word begin with those of the query.
@@ -48,19 +50,12 @@ fn nothing() -> Answer {
     Answer::Accepted(vec![0])
 }
 
-/// The rule itself shows no difference, so what the others show is their own fault.
+/// The rule itself shows no difference.
 #[test]
 fn the_right_rule_is_not_found() {
-    struct Right;
-    impl Library for Right {
-        fn outcome(&self, case: &Case) -> Outcome {
-            let mut outcome = differential::Proved.outcome(case);
-            search_by(case, &mut outcome, |record, query| record.live && fits(&record.word, query));
-            outcome
-        }
-    }
-    let (_, finding) = run(&Right, &Reference, 1, 100_000);
-    assert!(finding.is_none());
+    demand_no_finding(|case, outcome| {
+        search_by(case, outcome, |record, query| record.live && fits(&record.word, query));
+    });
 }
 
 #[test]

@@ -1,56 +1,21 @@
 //! Tidyings, and adds that tidy, that are planted wrong must be found, and made as small as they can be.
 
 mod faults;
+mod right;
+mod small_books;
 
-use differential::{
-    run, Answer, Call, Case, Finding, Library, Memory, Outcome, Proved, Reference, MARGIN,
-};
+use differential::{Answer, Call, Case, Memory, Outcome, MARGIN};
 use faults::finding;
 use jogcairn::Book;
-
-/// The bytes of each record of a book, in the order of their starts.
-fn records(book: &[u8]) -> Vec<Vec<u8>> {
-    let mut records = Vec::new();
-    let mut rest = book;
-    while let [b'M', _, count, ..] = *rest {
-        let (record, behind) = rest.split_at(7 + usize::from(count));
-        records.push(record.to_vec());
-        rest = behind;
-    }
-    records
-}
-
-fn is_live(record: &[u8]) -> bool {
-    record[1] == b'W'
-}
-
-fn live(mut records: Vec<Vec<u8>>) -> Vec<Vec<u8>> {
-    records.retain(|record| is_live(record));
-    records
-}
+use right::demand_no_finding;
+use small_books::{
+    accepted, first_free, is_live, left, live, live_length, records, refused, shown, smallest,
+    tidy, LIVE, REMOVED,
+};
 
 /// The four bytes of each stock number.
 fn stocks(records: &[Vec<u8>]) -> Vec<Vec<u8>> {
     records.iter().map(|record| record[3..7].to_vec()).collect()
-}
-
-fn first_free(book: &[u8]) -> usize {
-    records(book).concat().len()
-}
-
-fn live_length(book: &[u8]) -> usize {
-    live(records(book)).concat().len()
-}
-
-/// The book as it is left.
-fn left(outcome: &mut Outcome) -> &mut [u8] {
-    match &mut outcome.lent[0] {
-        Memory::Bytes(cells) => {
-            let end = cells.len() - MARGIN;
-            &mut cells[MARGIN..end]
-        }
-        Memory::Values(_) => panic!("a book is bytes"),
-    }
 }
 
 /// Leaves these records, and zeros behind them.
@@ -71,11 +36,6 @@ fn tidy_by(case: &Case, outcome: &mut Outcome, rule: fn(Vec<Vec<u8>>) -> Vec<Vec
 fn leave_behind(case: &Case, outcome: &mut Outcome) {
     let end = first_free(left(outcome));
     left(outcome)[end..].copy_from_slice(&case.bytes[end..]);
-}
-
-/// Tidies what a call left.
-fn tidy(outcome: &mut Outcome) {
-    Book::new(left(outcome)).tidy().unwrap();
 }
 
 /// Refuses the book as full at the place, and leaves it as it was.
@@ -105,43 +65,10 @@ fn full<'o>(case: &Case, outcome: &'o mut Outcome) -> Option<&'o mut usize> {
     }
 }
 
-fn accepted(numbers: &[u64]) -> Answer {
-    Answer::Accepted(numbers.to_vec())
-}
-
-fn refused(number: u8, place: usize) -> Answer {
-    Answer::Refused { number, place, which: 0 }
-}
-
-/// A removed record of the word 1000, and a live one.
-const REMOVED: &[u8] = b"M-\x01\0\0\0\0\0";
-const LIVE: &[u8] = b"MW\x01\0\0\0\0\0";
-
-/// Demands that the smallest case is this call on this book, with this word.
-fn smallest(found: &Finding, call: Call, book: &[u8], word: &[u16]) {
-    let case = Case { word: word.to_vec(), ..Case::of_bytes(call, book.to_vec()) };
-    assert_eq!(found.case, case, "{}", found.case);
-}
-
-/// Demands that these are the two answers.
-fn shown(found: &Finding, tried: Answer, reference: Answer) {
-    assert_eq!(found.difference.tried.answer, tried);
-    assert_eq!(found.difference.reference.answer, reference);
-}
-
-/// The rule itself shows no difference, so what the others show is their own fault.
+/// The rule itself shows no difference.
 #[test]
 fn the_right_rule_is_not_found() {
-    struct Right;
-    impl Library for Right {
-        fn outcome(&self, case: &Case) -> Outcome {
-            let mut outcome = Proved.outcome(case);
-            tidy_by(case, &mut outcome, live);
-            outcome
-        }
-    }
-    let (_, finding) = run(&Right, &Reference, 1, 100_000);
-    assert!(finding.is_none());
+    demand_no_finding(|case, outcome| tidy_by(case, outcome, live));
 }
 
 #[test]

@@ -3,12 +3,13 @@
 
 mod doubles;
 mod faults;
+mod right;
 
-use differential::{run, Answer, Call, Case, Cell, Finding, Library, Memory, Outcome, Proved};
-use differential::{Reference, MARGIN};
+use differential::{Answer, Call, Case, Cell, Finding, Memory, Outcome, MARGIN};
 use doubles::two_finals_alone;
 use faults::finding;
 use jogcairn::Key;
+use right::demand_no_finding;
 use std::cmp::Ordering;
 
 /// Puts a fault into the six weights of each syllable of a key that was given.
@@ -103,19 +104,10 @@ fn compared_by(case: &Case, outcome: &mut Outcome, weigh: fn([u8; 6]) -> [u8; 6]
     order[0] = (ordering as i8 + 1) as u64;
 }
 
-/// The weights themselves show no difference, so what others show is their own fault.
+/// The weights themselves show no difference.
 #[test]
 fn the_right_weights_are_not_found() {
-    struct Right;
-    impl Library for Right {
-        fn outcome(&self, case: &Case) -> Outcome {
-            let mut outcome = Proved.outcome(case);
-            compared_by(case, &mut outcome, |weights| weights);
-            outcome
-        }
-    }
-    let (_, finding) = run(&Right, &Reference, 1, 100_000);
-    assert!(finding.is_none());
+    demand_no_finding(|case, outcome| compared_by(case, outcome, |weights| weights));
 }
 
 /// Demands that one final with a vowel and two finals without are compared, or the like.

@@ -3,8 +3,8 @@
 use differential::{run, Case, Finding, Library, Outcome, Proved, Reference};
 
 /// The proved library with a fault put into its outcomes.
-struct Faulty {
-    fault: fn(&Case, &mut Outcome),
+pub struct Faulty {
+    pub fault: fn(&Case, &mut Outcome),
 }
 
 impl Library for Faulty {
