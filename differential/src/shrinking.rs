@@ -56,13 +56,15 @@ fn fewer_syllables(row: &[u8]) -> impl Iterator<Item = Vec<u8>> + '_ {
         .map(|taken| without(row, taken.start * RECORD_SIZE..taken.end * RECORD_SIZE))
 }
 
-/// Cases of an add or its preview with as many values less as bytes of the book, so that a record that
-/// would end at the last byte still does.
+/// Cases of an add or its preview with as many values less, the last or the first ones, as bytes of the
+/// book, so that a record that would end at the last byte still does.
 fn shorter_adds(case: &Case) -> impl Iterator<Item = Case> + '_ {
     let adds = case.call.is_add_or_preview().then(|| shorter_bytes(case));
-    adds.into_iter().flatten().filter_map(|bytes| {
-        let length = case.word.len().checked_sub(case.bytes.len() - bytes.len())?;
-        Some(Case { bytes, word: case.word[..length].to_vec(), ..case.clone() })
+    adds.into_iter().flatten().flat_map(move |bytes| {
+        let less = case.bytes.len() - bytes.len();
+        let without_last = case.word.len().checked_sub(less).map(|length| &case.word[..length]);
+        let words = [without_last, case.word.get(less..)].into_iter().flatten();
+        words.map(move |word| Case { bytes: bytes.clone(), word: word.to_vec(), ..case.clone() })
     })
 }
 
