@@ -5,3 +5,4 @@ pub mod Classes
 pub mod Pieces
 pub mod Records
 pub mod Filtered
+pub mod Weighing

@@ -6,14 +6,19 @@ use mathlib.Core.List.{List, [], _∷_}
 use Prim.Native.Nat.{ℕ, _+_}
 use lib.Dec.{T}
 use Rattle.letters.specs.Letters.{isConsonant}
-use Rattle.letters.specs.Weights.{isHead, headWeight, independentVowelWeight, medialWeight, vowelWeight, toneWeight}
+use Rattle.letters.specs.Weights.{isHead, rangeWeight, independentVowelWeight, medialWeight, vowelWeight, toneWeight}
 use Rattle.formula.specs.Syllable.{Final, no-final, plain, plain-pair, stacked, kinzi, great-sa, Syllable, syllable, finalOf, isNoMedial, isNoVowel, isNoFinal, isNoTone, isFinal, takesTone, isSyllable}
 use Rattle.formula.specs.Row.{Row, isRowOf, join}
-use Rattle.formula.specs.Weighing.{finalWeightOf}
+use Rattle.formula.specs.Record.{finalNumberOf}
 
 pub data Edition : Type 0 where
   -- document 01; with the finals of independent letters, document 02, E2
   base independent-finals : Edition
+
+-- "At most 64 code values make a word.", in each of them
+abbrev pub limitIn : Edition → ℕ
+limitIn base = 64
+limitIn independent-finals = 64
 
 -- "at most one [..] final": all but a second one
 abbrev pub isSingle : Final → Bool
@@ -39,9 +44,10 @@ pub record GivesIn (edition : Edition) (row : Row) (word : List ℕ) : Type 0 wh
   pub is-row : IsRowIn edition row
   pub joined : join row ≡ word
 
--- "Five weights a syllable, compared in this order: head, medial, final, vowel, tone."
+-- "Five weights a syllable, compared in this order: head, medial, final, vowel, tone.", by the ranges of heads and the numbers of final letters that
+-- document 01 weighs by; what a key of today has for a head or a final does not stand here
 unfoldable pub fiveWeightsOf : Syllable → List ℕ
-fiveWeightsOf (syllable h m v f t) = headWeight h ∷ medialWeight m ∷ finalWeightOf f ∷ (independentVowelWeight h + vowelWeight v) ∷ toneWeight t ∷ []
+fiveWeightsOf (syllable h m v f t) = rangeWeight h ∷ medialWeight m ∷ finalNumberOf f ∷ (independentVowelWeight h + vowelWeight v) ∷ toneWeight t ∷ []
 
 abbrev pub fiveWeights : Row → List (List ℕ)
 fiveWeights [] = []

@@ -15,10 +15,14 @@ abbrev pub isHead : ℕ → Bool
 isHead x = isConsonant x || (isIndependentVowel x || (isDigit x || (isStop x || isSign x)))
 
 -- "Head: 104A 1, 104B 2, digits 3 to 12, C 13 to 46, S 47 to 50. An I has head 46 and a vowel weight"; 0 for what is no head
-abbrev pub headWeight : ℕ → ℕ
-headWeight x =
+abbrev pub rangeWeight : ℕ → ℕ
+rangeWeight x =
     pick (isConsonant x) (x - 0x1000 + 13)
     (pick (isIndependentVowel x) 46 (pick (isDigit x) (x - 0x1040 + 3) (pick (isStop x) (x - 0x104A + 1) (pick (isSign x) (x - 0x104C + 47) 0))))
+
+-- the weight of a head, as a key has it
+abbrev pub headWeight : ℕ → ℕ
+headWeight x = rangeWeight x
 
 -- "1023 2, 1024 3, 1025 4, 1026 5, 1027 6, 1029 8, 102A 9"; 0 for what is no I
 abbrev pub independentVowelWeight : ℕ → ℕ
@@ -65,13 +69,13 @@ medialSetWeight n = weightIn medialGroups n
 abbrev pub isFinalLetter : ℕ → Bool
 isFinalLetter x = within 0x1000 0x1020 x
 
--- the number of a final letter, as a syllable record has it
+-- the number of a final letter, as a syllable record has it: "1000 to 1020 are 1 to 33, whichever form"
 abbrev pub finalNumber : ℕ → ℕ
 finalNumber x = x - 0x1000 + 1
 
--- the weight of a final letter, as a key has it: "1000 to 1020 are 1 to 33, whichever form"
+-- the weight of a final letter, as a key has it
 abbrev pub finalWeight : ℕ → ℕ
-finalWeight x = x - 0x1000 + 1
+finalWeight x = finalNumber x
 
 abbrev pub vowelWeight : Vowel → ℕ
 vowelWeight no-vowel = 0

@@ -12,7 +12,8 @@ use Rattle.letters.specs.Marks.{MedialGroup}
 use Rattle.letters.specs.Weights.{isHead, headWeight, independentVowelWeight, medialSet, medialWeight, medialTable}
 use Rattle.formula.proofs.Classes.{head-bounds}
 use Rattle.formula.proofs.Pieces.{each-medial}
-use Rattle.formula.specs.Syllable.{Final, no-final, plain, plain-pair, stacked, kinzi, great-sa, Syllable, syllable, isSyllable}
+use Rattle.formula.proofs.Weighing.{final-weighs, second-weighs}
+use Rattle.formula.specs.Syllable.{Syllable, syllable, isSyllable}
 use Rattle.formula.specs.Record.{finalNumberOf, secondFinalNumberOf}
 use Rattle.formula.specs.Packed.{packed}
 use Rattle.formula.specs.Weighing.{finalWeightOf, secondFinalWeightOf, weightsOf}
@@ -23,24 +24,6 @@ use Rattle.syllable_weights.specs.Weights.{weightsBy}
 
 head-back : (h : ℕ) → T (isHead h) → 0x1000 + (h - 0x1000) ≡ h
 head-back h t = let l = head-bounds h t .0 in omega arith
-
--- a final weighs the number of its letter
-final-weighs : (f : Final) → finalNumberOf f ≡ finalWeightOf f
-final-weighs no-final = refl
-final-weighs (plain c) = refl
-final-weighs (plain-pair c d) = refl
-final-weighs (stacked c) = refl
-final-weighs kinzi = refl
-final-weighs great-sa = refl
-
--- and so does a second
-second-weighs : (f : Final) → secondFinalNumberOf f ≡ secondFinalWeightOf f
-second-weighs no-final = refl
-second-weighs (plain c) = refl
-second-weighs (plain-pair c d) = refl
-second-weighs (stacked c) = refl
-second-weighs kinzi = refl
-second-weighs great-sa = refl
 
 -- the table has the weight of each group
 medial-looked : (m : MedialGroup) → getD medialTable (medialSet m) 0 ≡ medialWeight m

@@ -12,6 +12,7 @@ use Rattle.formula.specs.Syllable.{Final, no-final, plain, plain-pair, stacked,
 use Rattle.formula.specs.Row.{Row, isRowOf}
 use Rattle.formula.specs.Weighing.{secondFinalWeightOf, weightsOf, weights}
 use Rattle.formula.specs.Earlier.{Edition, base, independent-finals, isSingle, isSyllableIn, IsRowIn, fiveWeightsOf, fiveWeights}
+use Rattle.formula.proofs.Weighing.{final-weighs}
 use Rattle.formula.proofs.Lists.{every, sameList, isPrefixOfLists, both, both-left, both-right}
 use Rattle.weighing.specs.Order.{inTurn, orderValues, orderWeights, filed, order}
 use Rattle.weighing.specs.declared.order.Order.{Order}
@@ -53,12 +54,12 @@ second-alike f g i j = no-second f i ∙ sym (no-second g j)
 syllables-order : (s t : Syllable) → T (hasOneFinal s) → T (hasOneFinal t) → orderValues (fiveWeightsOf s) (fiveWeightsOf t) ≡ orderValues (weightsOf s) (weightsOf t)
 unfolding orderValues weightsOf fiveWeightsOf
 syllables-order (syllable h m v f t) (syllable k n w g u) i j =
-    rw (equal-numbers (secondFinalWeightOf f) (secondFinalWeightOf g) (second-alike f g i j))
+    rw (equal-numbers (secondFinalWeightOf f) (secondFinalWeightOf g) (second-alike f g i j), final-weighs f, final-weighs g)
 
 syllables-same : (s t : Syllable) → T (hasOneFinal s) → T (hasOneFinal t) → sameList (fiveWeightsOf s) (fiveWeightsOf t) ≡ sameList (weightsOf s) (weightsOf t)
 unfolding weightsOf fiveWeightsOf
 syllables-same (syllable h m v f t) (syllable k n w g u) i j =
-    rw (eq-eqb (secondFinalWeightOf f) (secondFinalWeightOf g) (second-alike f g i j))
+    rw (eq-eqb (secondFinalWeightOf f) (secondFinalWeightOf g) (second-alike f g i j), final-weighs f, final-weighs g)
 
 rows-order : (r s : Row) → T (every hasOneFinal r) → T (every hasOneFinal s) → orderWeights (fiveWeights r) (fiveWeights s) ≡ orderWeights (weights r) (weights s)
 unfolding orderWeights
