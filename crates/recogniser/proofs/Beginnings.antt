@@ -12,10 +12,9 @@ use Rattle.letters.specs.Letters.{isAdmitted, isConsonant, kindOf}
 use Rattle.letters.specs.Marks.{MedialGroup, Vowel, ToneMark, no-tone, dot, visarga}
 use Rattle.letters.specs.Weights.{toneWeight}
 use Rattle.letters.proofs.Tests.{or-left, or-right, or-false, either}
-use Rattle.formula.specs.Limits.{limit}
 use Rattle.formula.specs.Syllable.{Final, no-final, plain, kinzi, great-sa, syllable, bare, headOf, finalOf, isNoFinal, isNoTone, isSyllable, follows}
 use Rattle.formula.specs.Row.{Row, isRowOf, isRowAfter, Gives}
-use Rattle.formula.specs.Earlier.{Edition, base, independent-finals, isSingle, isSyllableIn, GivesIn}
+use Rattle.formula.specs.Earlier.{Edition, base, independent-finals, isSingle, isSyllableIn, limitIn, GivesIn}
 use Rattle.formula.proofs.Lists.{both, both-left, both-right, every, every-at}
 use Rattle.refusals.specs.Outcome.{Outcome, refuses}
 use Rattle.rows.specs.Machine.{endOf, KeptOk, isNotGreatSa, step, andThen, run}
@@ -29,6 +28,7 @@ use Rattle.states.specs.Transition.{Transition, refuse, to, transition, bitOf, 
 use Rattle.states.proofs.Followed.{followed}
 use Rattle.recogniser.specs.Answer.{Answers, unfinished}
 use Rattle.recogniser.proofs.Determined.{answers-alike}
+use Rattle.recogniser.proofs.Earlier.{edition-within}
 
 -- a head that has a final in 01 is a C, and a final of one letter has at most that
 final-asks : (edition : Edition) (h : ℕ) (f g : Final) (t o : ToneMark) → isNoFinal g ≡ false → (T (isSingle g) → T (isSingle f)) → T (asks edition h g o)
@@ -166,9 +166,9 @@ module _ (edition : Edition) where
     read-on (some kept) e = run-admitted word [] kept e
 
     -- of the answers: a word that was unfinished in the edition is so still
-    pub earlier-unfinished : length word ≤ limit → ((row : Row) → GivesIn edition row word → ⊥) → (outcome : Outcome) → Answers word outcome
+    pub earlier-unfinished : length word ≤ limitIn edition → ((row : Row) → GivesIn edition row word → ⊥) → (outcome : Outcome) → Answers word outcome
         → outcome ≡ refuses 4 (length word)
     earlier-unfinished short none-gives outcome a =
         answers-alike word outcome (refuses 4 (length word)) a
-        (unfinished (record { short = short; admitted = every-at isAdmitted word (read-on (run word []) refl) })
+        (unfinished (record { short = omega (arith, edition-within edition); admitted = every-at isAdmitted word (read-on (run word []) refl) })
         (λ row g. none-gives row (earlier-beginning row g)) (earlier-viable edition whole word continuation w))

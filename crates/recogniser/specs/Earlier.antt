@@ -2,12 +2,11 @@
 use mathlib.Core.List.{List}
 use Prim.Native.Nat.{ℕ, _≤_}
 use lib.ListN.{length}
-use Rattle.formula.specs.Limits.{limit}
 use Rattle.formula.specs.Row.{Row}
-use Rattle.formula.specs.Earlier.{Edition, GivesIn}
+use Rattle.formula.specs.Earlier.{Edition, limitIn, GivesIn}
 
--- a row of the edition gives the word, within the limit
+-- a row of the edition gives the word, within the edition's limit
 pub record ReadableIn (edition : Edition) (word : List ℕ) : Type 0 where
-  pub short : length word ≤ limit
+  pub short : length word ≤ limitIn edition
   pub row : Row
   pub gives : GivesIn edition row word

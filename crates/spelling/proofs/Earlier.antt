@@ -9,7 +9,7 @@ use Rattle.formula.specs.Earlier.{Edition}
 use Rattle.refusals.specs.Outcome.{accepts-both}
 use Rattle.rows.proofs.Earlier.{earlier-gives}
 use Rattle.recogniser.specs.Earlier.{ReadableIn}
-use Rattle.recogniser.proofs.Earlier.{earlier-same}
+use Rattle.recogniser.proofs.Earlier.{earlier-short, earlier-same}
 use Rattle.reading.specs.Reading.{ReadRight}
 use Rattle.reading.specs.declared.read.Reading.{Reading}
 use Rattle.spelling.specs.Spell.{Lists, Written, SpellRight, spelled-out}
@@ -17,7 +17,7 @@ use Rattle.spelling.proofs.RoundTrip.{ReadBack, read-back}
 
 pub earlier-records : {edition : Edition} (word : List ℕ) (b : ReadableIn edition word) (reading : Reading) → ReadRight word reading → ReadBack word (recordBytes (b .row)) reading
 earlier-records {edition} word b reading right =
-    read-back word (recordBytes (b .row)) (b .row) (earlier-gives edition (b .row) word (b .gives)) refl (b .short) reading right
+    read-back word (recordBytes (b .row)) (b .row) (earlier-gives edition (b .row) word (b .gives)) refl (earlier-short word b) reading right
 
 pub earlier-spelled : {edition : Edition} (word : List ℕ) (b : ReadableIn edition word) (before after : Lists) (values count : ℕ) → SpellRight word before after (accepts-both values count)
     → Written (b .row) before after
