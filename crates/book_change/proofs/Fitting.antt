@@ -11,6 +11,7 @@ use lib.Dec.{leb}
 use lib.ListN.{length}
 use Rattle.letters.specs.Choice.{pick}
 use Rattle.refusals.specs.Outcome.{accepts-both, refuses}
+use Rattle.entries.specs.Limits.{headSize}
 use Rattle.entries.specs.Entries.{Entry, book}
 use Rattle.entries.specs.Map.{lookup}
 use Rattle.entries.specs.Tidy.{liveLength}
@@ -24,29 +25,29 @@ pub data Placed (es : List Entry) (free room size : ℕ) : ℕ → ℕ → Type 
 -- what is known where a record is placed
 pub record Fitting (es : List Entry) (free room : ℕ) (w : List ℕ) (start tidies : ℕ) : Type 0 where
   pub not-live : lookup es w ≡ none
-  pub placed : Placed es free room (7 + length w) start tidies
+  pub placed : Placed es free room (headSize + length w) start tidies
 
 pub added-fitting : (es : List Entry) (free room : ℕ) (w : List ℕ) (start tidies : ℕ) → accepts-both start tidies ≡ addOf (book es free) room w
     → Fitting es free room w start tidies
 unfolding pick
 added-fitting es free room w start tidies = go (lookup es w) refl
   where
-    chosen : (t u : Bool) → leb (liveLength es + (7 + length w)) room ≡ t → leb (free + (7 + length w)) room ≡ u
+    chosen : (t u : Bool) → leb (liveLength es + (headSize + length w)) room ≡ t → leb (free + (headSize + length w)) room ≡ u
         → accepts-both start tidies ≡ pick t (pick u (puts free) (tidiesAndPuts (liveLength es))) (refuses 14 (liveLength es))
-        → Placed es free room (7 + length w) start tidies
+        → Placed es free room (headSize + length w) start tidies
     chosen true true p q e =
         let s : free ≡ start = cc in
         let n : 0 ≡ tidies = cc in
-        subst (λ (t : ℕ). Placed es free room (7 + length w) start t) n
-        (subst (λ (t : ℕ). Placed es free room (7 + length w) t 0) s (behind (leb-true (free + (7 + length w)) room q)))
+        subst (λ (t : ℕ). Placed es free room (headSize + length w) start t) n
+        (subst (λ (t : ℕ). Placed es free room (headSize + length w) t 0) s (behind (leb-true (free + (headSize + length w)) room q)))
     chosen true false p q e =
         let s : liveLength es ≡ start = cc in
         let n : 1 ≡ tidies = cc in
-        subst (λ (t : ℕ). Placed es free room (7 + length w) start t) n
-        (subst (λ (t : ℕ). Placed es free room (7 + length w) t 1) s
-        (tidied-first (leb-false (free + (7 + length w)) room q) (leb-true (liveLength es + (7 + length w)) room p)))
+        subst (λ (t : ℕ). Placed es free room (headSize + length w) start t) n
+        (subst (λ (t : ℕ). Placed es free room (headSize + length w) t 1) s
+        (tidied-first (leb-false (free + (headSize + length w)) room q) (leb-true (liveLength es + (headSize + length w)) room p)))
     chosen false u p q e = let z : _≡_ {A = ℕ} 0 1 = cc in let y : ⊥ = omega arith in absurd y
 
-    go : (o : Option Entry) → lookup es w ≡ o → accepts-both start tidies ≡ addOfEntry o (placing es free room (7 + length w)) → Fitting es free room w start tidies
-    go none n e = record { not-live = n; placed = chosen (leb (liveLength es + (7 + length w)) room) (leb (free + (7 + length w)) room) refl refl e }
+    go : (o : Option Entry) → lookup es w ≡ o → accepts-both start tidies ≡ addOfEntry o (placing es free room (headSize + length w)) → Fitting es free room w start tidies
+    go none n e = record { not-live = n; placed = chosen (leb (liveLength es + (headSize + length w)) room) (leb (free + (headSize + length w)) room) refl refl e }
     go (some x) n e = let z : _≡_ {A = ℕ} 0 1 = cc in let y : ⊥ = omega arith in absurd y

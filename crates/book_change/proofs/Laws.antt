@@ -8,6 +8,7 @@ use Prim.Native.Nat.{ℕ, zero, suc, _+_, _≤_, _<_}
 use native.Mathlib.Omega.{arith}
 use lib.ListN.{length}
 use Rattle.refusals.specs.Outcome.{accepts, accepts-both, refuses}
+use Rattle.entries.specs.Limits.{headSize}
 use Rattle.entries.specs.Entries.{Entry, Entries, book, wrong, entries}
 use Rattle.entries.specs.Book.{endOf, IsBook, Opened}
 use Rattle.entries.specs.Map.{lookup, without, newEntry}
@@ -35,9 +36,9 @@ pub record Added (before after w : List ℕ) (stock start tidies : ℕ) : Type 0
   pub was : entries before ≡ book list free
   pub was-book : IsBook before list
   pub not-live : lookup list w ≡ none
-  pub placed : Placed list free (length before) (7 + length w) start tidies
+  pub placed : Placed list free (length before) (headSize + length w) start tidies
   pub is-book : IsBook after (listReady tidies list ++ (newEntry start w stock ∷ []))
-  pub is : entries after ≡ book (listReady tidies list ++ (newEntry start w stock ∷ [])) (start + 7 + length w)
+  pub is : entries after ≡ book (listReady tidies list ++ (newEntry start w stock ∷ [])) (start + headSize + length w)
 
 module _ (before after w : List ℕ) (stock start tidies : ℕ) (small : Bytes before) (st : Storable w) (fits : stock < 4294967296)
     (r : AddRight w stock before after (accepts-both start tidies)) where
@@ -45,7 +46,7 @@ module _ (before after w : List ℕ) (stock start tidies : ℕ) (small : Bytes b
   added = go (entries before) refl (r .answer)
     where
       placed-in : (es : List Entry) (free start tidies : ℕ) → entries before ≡ book es free → lookup es w ≡ none
-          → Placed es free (length before) (7 + length w) start tidies → Added before (withRecord (bytesReady tidies before) start w stock) w stock start tidies
+          → Placed es free (length before) (headSize + length w) start tidies → Added before (withRecord (bytesReady tidies before) start w stock) w stock start tidies
       placed-in es free start tidies q n (behind h) =
           let s = sound-at before es free small q in
           let o : Opened before free = record { list = es; is-book = s .0; end = s .1 } in
@@ -63,7 +64,7 @@ module _ (before after w : List ℕ) (stock start tidies : ℕ) (small : Bytes b
           let s = sound-at before es free small q in
           let o : Opened (bytesTidied before) (liveLength es) =
           record { list = tidied es; is-book = bytes-tidied-book before es (s .0); end = sym (end-tidied before es (s .0)) } in
-          let room : liveLength es + 7 + length w ≤ length (bytesTidied before) =
+          let room : liveLength es + headSize + length w ≤ length (bytesTidied before) =
           omega (arith, ap length (tidied-is before es (s .0)), length-tidied before es (s .0)) in
           let none-left : lookup (tidied es) w ≡ none = lookup-tidied es (s .0 .good) w ∙ ap (placedOne _) n in
           record {

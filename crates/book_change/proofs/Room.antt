@@ -8,6 +8,7 @@ use native.Mathlib.Omega.{arith}
 use lib.ListN.{length, take, drop, length-set}
 use lib.Seq.{length-take-le, take-at}
 use Rattle.refusals.specs.Outcome.{accepts, accepts-both, refuses}
+use Rattle.entries.specs.Limits.{headSize}
 use Rattle.entries.specs.Entries.{Entry, Entries, book, wrong, entries}
 use Rattle.entries.specs.Book.{recordBytes, IsBook}
 use Rattle.entries.specs.Map.{lookup, without, newEntry}
@@ -36,7 +37,7 @@ module _ (before after w : List ℕ) (stock start : ℕ) (small : Bytes before) 
       let same : a .free ≡ free = cc in
       at-free (a .list) (a .free) start 0 refl (a .placed) ∙ same
     where
-      at-free : (es : List Entry) (free start tidies : ℕ) → tidies ≡ 0 → Placed es free (length before) (7 + length w) start tidies → start ≡ free
+      at-free : (es : List Entry) (free start tidies : ℕ) → tidies ≡ 0 → Placed es free (length before) (headSize + length w) start tidies → start ≡ free
       at-free es free start tidies e (behind h) = refl
       at-free es free start tidies e (tidied-first h k) = let z : ⊥ = omega arith in absurd z
 
@@ -44,9 +45,9 @@ module _ (before after w : List ℕ) (stock start : ℕ) (small : Bytes before) 
   bytes-before =
       let a = added before after w stock start 0 small st fits r in
       ap (take start) (r .bytes)
-      ∙ take-at (take start before) (recordBytes (newEntry start w stock) ++ drop (start + 7 + length w) before) start (length-take-le start before (within (a .list) (a .free) start 0 (a .placed)))
+      ∙ take-at (take start before) (recordBytes (newEntry start w stock) ++ drop (start + headSize + length w) before) start (length-take-le start before (within (a .list) (a .free) start 0 (a .placed)))
     where
-      within : (es : List Entry) (free start tidies : ℕ) → Placed es free (length before) (7 + length w) start tidies → start ≤ length before
+      within : (es : List Entry) (free start tidies : ℕ) → Placed es free (length before) (headSize + length w) start tidies → start ≤ length before
       within es free start tidies (behind h) = omega arith
       within es free start tidies (tidied-first h k) = omega arith
 
@@ -60,16 +61,16 @@ tidy-then-add before after w stock start small st fits r =
     let room = tidied-room (a .list) (a .free) start 1 refl (a .placed) in
     record {
       answer =
-          ap puts (room .0) ∙ fits-behind (tidied (a .list)) (liveLength (a .list)) (length (bytesTidied before)) (7 + length w)
+          ap puts (room .0) ∙ fits-behind (tidied (a .list)) (liveLength (a .list)) (length (bytesTidied before)) (headSize + length w)
           (omega (arith, live-tidied before (a .list) k))
           (omega (arith, room .1, ap length (tidied-is before (a .list) k), length-tidied before (a .list) k))
-          ∙ sym (ap (λ (o : Option Entry). addOfEntry o (placing (tidied (a .list)) (liveLength (a .list)) (length (bytesTidied before)) (7 + length w))) none-left)
+          ∙ sym (ap (λ (o : Option Entry). addOfEntry o (placing (tidied (a .list)) (liveLength (a .list)) (length (bytesTidied before)) (headSize + length w))) none-left)
           ∙ sym (ap (λ (x : Entries). addOf x (length (bytesTidied before)) w) (tidied-entries before (a .list) k));
       bytes = r .bytes;
     }
   where
-    tidied-room : (es : List Entry) (free start tidies : ℕ) → tidies ≡ 1 → Placed es free (length before) (7 + length w) start tidies
-        → (start ≡ liveLength es) × (liveLength es + (7 + length w) ≤ length before)
+    tidied-room : (es : List Entry) (free start tidies : ℕ) → tidies ≡ 1 → Placed es free (length before) (headSize + length w) start tidies
+        → (start ≡ liveLength es) × (liveLength es + (headSize + length w) ≤ length before)
     tidied-room es free start tidies e (behind h) = let z : ⊥ = omega arith in absurd z
     tidied-room es free start tidies e (tidied-first h k) = (refl, k)
 

@@ -13,7 +13,7 @@ use lib.ListN.{length, getD, take, drop, set, getD-replicate}
 use lib.Seq.{getD-set-same, getD-set-other}
 use Rattle.letters.proofs.Tests.{is-true, is-false, of-true, or-left, or-right, or-cases}
 use Rattle.formula.proofs.Lists.{both, both-left, both-right, sameList, sameList-equal, sameList-refl}
-use Rattle.entries.specs.Limits.{bookLimit}
+use Rattle.entries.specs.Limits.{bookLimit, headSize}
 use Rattle.entries.specs.Entries.{Entry, valueOf, wordAt, entryAt, isFramed, holds}
 use Rattle.entries.specs.Book.{byteOf, zeros}
 use Rattle.entries.proofs.Bytes.{byte-value}
@@ -130,10 +130,10 @@ same-up l m = go (sameList l m) refl
         subst T e (subst (λ (n : List ℕ). T (sameList l n)) q (sameList-refl l)))
 
 -- the code's comparison of two words: first the counts, then the bytes
-pub compared : (b : List ℕ) (s at n : ℕ) (r : Bool) → getD b (s + 2) 0 ≡ n → getD b (at + 2) 0 ≡ n → r ≡ sameList (take n (drop (s + 7) b)) (take n (drop (at + 7) b))
+pub compared : (b : List ℕ) (s at n : ℕ) (r : Bool) → getD b (s + 2) 0 ≡ n → getD b (at + 2) 0 ≡ n → r ≡ sameList (take n (drop (s + headSize) b)) (take n (drop (at + headSize) b))
     → sameList (wordAt b s) (wordAt b at) ≡ r
 compared b s at n r e f q =
-    (λ i. sameList (map valueOf (take (e i) (drop (s + 7) b))) (map valueOf (take (f i) (drop (at + 7) b)))) ∙ same-up (take n (drop (s + 7) b)) (take n (drop (at + 7) b)) ∙ sym q
+    (λ i. sameList (map valueOf (take (e i) (drop (s + headSize) b))) (map valueOf (take (f i) (drop (at + headSize) b)))) ∙ same-up (take n (drop (s + headSize) b)) (take n (drop (at + headSize) b)) ∙ sym q
 
 pub unequal : (b : List ℕ) (s at : ℕ) → Framed b s → Framed b at → (getD b (s + 2) 0 ≡ getD b (at + 2) 0 → ⊥) → sameList (wordAt b s) (wordAt b at) ≡ false
 unequal b s at f g n =

@@ -12,9 +12,9 @@ use lib.ListN.{length, getD, drop, set, length-set, length-replicate, drop-of-le
 use Rattle.letters.specs.Choice.{pick}
 use Rattle.letters.proofs.Tests.{is-true, is-false, of-true, clash}
 use Rattle.formula.proofs.Lists.{both, both-left, both-right}
-use Rattle.entries.specs.Limits.{bookLimit}
+use Rattle.entries.specs.Limits.{bookLimit, headSize}
 use Rattle.entries.specs.Readable.{isReadable}
-use Rattle.entries.specs.Entries.{Entry, wordAt, entryAt, isFramed, holds, isFresh, mayFollow, Entries, book, wrong, zeroTail, entriesFrom, entries}
+use Rattle.entries.specs.Entries.{Entry, wordAt, entryAt, isFramed, holds, isFresh, mayFollow, Entries, book, wrong, zeroTail, entriesFrom, entries, entriesFromWithin, entriesWithin, mayFollowWithin}
 use Rattle.entries.specs.Book.{zeros}
 use Rattle.entries.specs.Map.{counted, liveCount}
 use Rattle.entries.proofs.Records.{Framed, framed-true}
@@ -37,11 +37,11 @@ pub record Passed (b : List ℕ) (at live : ℕ) (heads links : List ℕ) : Type
   pub chained : Chained b at list heads links
 
 pub too-long : (b : List ℕ) → bookLimit < length b → entries b ≡ wrong bookLimit
-unfolding entries pick
+unfolding entriesWithin pick
 too-long b h = ap (λ (t : Bool). pick t (entriesFrom (suc (length b)) b 0 []) (wrong bookLimit)) (lt-leb (length b) bookLimit h)
 
 pub passed-start : (b : List ℕ) → length b ≤ bookLimit → Passed b 0 0 (zeros buckets) (zeros bookLimit)
-unfolding entries pick
+unfolding entriesWithin pick
 passed-start b h =
     record {
       within = omega arith;
@@ -58,12 +58,12 @@ passed-start b h =
 
 -- one turn of the definition
 unroll : (k : ℕ) (b : List ℕ) (at : ℕ) (es : List Entry) (s t : Bool) → at ≤ length b → length b < at + k → eqb (getD b at 0) 0 ≡ s → isFramed b at && mayFollow es (entryAt b at) ≡ t
-    → entriesFrom k b at es ≡ pick s (zeroTail (drop at b) at (book es at)) (pick t (entriesFrom (k - 1) b (at + 7 + getD b (at + 2) 0) (es ++ (entryAt b at ∷ []))) (wrong at))
-unfolding entriesFrom
+    → entriesFrom k b at es ≡ pick s (zeroTail (drop at b) at (book es at)) (pick t (entriesFrom (k - 1) b (at + headSize + getD b (at + 2) 0) (es ++ (entryAt b at ∷ []))) (wrong at))
+unfolding entriesFromWithin
 unroll zero b at es s t w h e f = let z : ⊥ = omega arith in absurd z
 unroll (suc k) b at es s t w h e f =
     let p : k ≡ suc k - 1 = omega arith in
-    λ i. pick (e i) (zeroTail (drop at b) at (book es at)) (pick (f i) (entriesFrom (p i) b (at + 7 + getD b (at + 2) 0) (es ++ (entryAt b at ∷ []))) (wrong at))
+    λ i. pick (e i) (zeroTail (drop at b) at (book es at)) (pick (f i) (entriesFrom (p i) b (at + headSize + getD b (at + 2) 0) (es ++ (entryAt b at ∷ []))) (wrong at))
 
 module _ (b : List ℕ) (at live : ℕ) (heads links : List ℕ) (p : Passed b at live heads links) where
   pub ends-zero : getD b at 0 ≡ 0 → entries b ≡ zeroTail (drop at b) at (book (p .list) at)
@@ -81,13 +81,13 @@ module _ (b : List ℕ) (at live : ℕ) (heads links : List ℕ) (p : Passed b a
       ∙ unroll (p .fuel) b at (p .list) false false (p .within) (p .enough) (ne-eqb (getD b at 0) 0 z) (is-false (isFramed b at && mayFollow (p .list) (entryAt b at)) n)
 
   pub no-record : (getD b at 0 ≡ 0 → ⊥) → isFramed b at && isReadable (wordAt b at) ≡ false → entries b ≡ wrong at
-  unfolding mayFollow
+  unfolding mayFollowWithin
   no-record z e =
       refused z
       (λ t. subst T e (both (isFramed b at) (isReadable (wordAt b at)) (both-left (isFramed b at) _ t) (both-left (isReadable (wordAt b at)) _ (both-right (isFramed b at) _ t))))
 
   pub repeated : (getD b at 0 ≡ 0 → ⊥) → getD b (at + 1) 0 ≡ 0x57 → holds (p .list) (wordAt b at) ≡ true → entries b ≡ wrong at
-  unfolding mayFollow isFresh
+  unfolding mayFollowWithin isFresh
   repeated z l h =
       refused z
       (λ t. clash (entryAt b at .live) (holds (p .list) (wordAt b at)) (of-true (eqb (getD b (at + 1) 0) 0x57) (eq-eqb (getD b (at + 1) 0) 0x57 l)) (of-true (holds (p .list) (wordAt b at)) h)
@@ -110,8 +110,8 @@ module _ (b : List ℕ) (at live : ℕ) (heads links : List ℕ) (p : Passed b a
     abbrev after : List Entry
     after = p .list ++ (entryAt b at ∷ [])
 
-    go-on : entryAt b at .live && holds (p .list) (wordAt b at) ≡ false → entries b ≡ entriesFrom (p .fuel - 1) b (at + 7 + getD b (at + 2) 0) after
-    unfolding pick mayFollow isFresh
+    go-on : entryAt b at .live && holds (p .list) (wordAt b at) ≡ false → entries b ≡ entriesFrom (p .fuel - 1) b (at + headSize + getD b (at + 2) 0) after
+    unfolding pick mayFollowWithin isFresh
     go-on n =
         p .unrolled
         ∙ unroll (p .fuel) b at (p .list) false true (p .within) (p .enough) (ne-eqb (getD b at 0) 0 z)
@@ -120,7 +120,7 @@ module _ (b : List ℕ) (at live : ℕ) (heads links : List ℕ) (p : Passed b a
         (both (isReadable (wordAt b at)) _ (both-right (isFramed b at) _ (of-true (isFramed b at && isReadable (wordAt b at)) r))
         (subst (λ (t : Bool). T (not t)) (sym n) tt))))
 
-    pub pass-removed : (getD b (at + 1) 0 ≡ 0x57 → ⊥) → Passed b (at + 7 + getD b (at + 2) 0) live heads links
+    pub pass-removed : (getD b (at + 1) 0 ≡ 0x57 → ⊥) → Passed b (at + headSize + getD b (at + 2) 0) live heads links
     pass-removed dead =
         let f : Framed b at = framed-true b at frame-here in
         let e : entryAt b at .live ≡ false = ne-eqb (getD b (at + 1) 0) 0x57 dead in
@@ -134,11 +134,11 @@ module _ (b : List ℕ) (at live : ℕ) (heads links : List ℕ) (p : Passed b a
           few = omega (arith, p .few);
           heads-length = p .heads-length;
           links-length = p .links-length;
-          chained = chained-removed b at (at + 7 + getD b (at + 2) 0) (p .list) heads links (p .chained) frame-here (omega (arith, f .some)) (λ t. subst T e t);
+          chained = chained-removed b at (at + headSize + getD b (at + 2) 0) (p .list) heads links (p .chained) frame-here (omega (arith, f .some)) (λ t. subst T e t);
         }
 
     pub pass-live : (h q m : ℕ) → length b ≤ bookLimit → getD b (at + 1) 0 ≡ 0x57 → holds (p .list) (wordAt b at) ≡ false → h ≡ bucketAt b at → h < buckets → q ≡ getD heads h 0 → m ≡ at + 1
-        → Passed b (at + 7 + getD b (at + 2) 0) (live + 1) (set heads h m) (set links at q)
+        → Passed b (at + headSize + getD b (at + 2) 0) (live + 1) (set heads h m) (set links at q)
     pass-live h q m short alive n hb hs qe me =
         let f : Framed b at = framed-true b at frame-here in
         let e : entryAt b at .live ≡ true = eq-eqb (getD b (at + 1) 0) 0x57 alive in
@@ -152,8 +152,8 @@ module _ (b : List ℕ) (at live : ℕ) (heads links : List ℕ) (p : Passed b a
           few = omega (arith, p .few);
           heads-length = length-set heads h m ∙ p .heads-length;
           links-length = length-set links at q ∙ p .links-length;
-          chained = subst (λ (x : ℕ). Chained b (at + 7 + getD b (at + 2) 0) after (set heads h x) (set links at q)) (sym me)
-              (chained-live b at (at + 7 + getD b (at + 2) 0) (p .list) heads links (p .chained) frame-here (omega (arith, f .some)) h q (of-true (entryAt b at .live) e) hb
+          chained = subst (λ (x : ℕ). Chained b (at + headSize + getD b (at + 2) 0) after (set heads h x) (set links at q)) (sym me)
+              (chained-live b at (at + headSize + getD b (at + 2) 0) (p .list) heads links (p .chained) frame-here (omega (arith, f .some)) h q (of-true (entryAt b at .live) e) hb
               (omega (arith, p .heads-length)) (omega (arith, p .links-length, f .room)) qe hs);
         }
 

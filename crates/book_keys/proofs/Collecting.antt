@@ -14,6 +14,7 @@ use Rattle.memory.proofs.Stores.{sets-append, sets-there, sets-behind}
 use Rattle.letters.specs.Choice.{pick}
 use Rattle.formula.specs.Lists.{filtered}
 use Rattle.recogniser.specs.Answer.{Readable}
+use Rattle.entries.specs.Limits.{headSize}
 use Rattle.entries.specs.Entries.{Entry, wordAt}
 use Rattle.entries.specs.Map.{counted, liveCount, liveOnes}
 use Rattle.entries.specs.Book.{IsBook, Opened}
@@ -113,7 +114,7 @@ module _ (b : List ℕ) (free : ℕ) (keys-before starts-before keys starts : Li
 
     pub collect-live : getD b (at + 1) 0 ≡ 0x57 → (keys-after starts-after : List ℕ) → keys-after ≡ sets keys (weightCount * at) (filedKey (rowOf (wordAt b at)))
         → starts-after ≡ set starts live at
-        → Collected b free keys-before starts-before keys-after starts-after (live + 1) (at + 7 + getD b (at + 2) 0)
+        → Collected b free keys-before starts-before keys-after starts-after (live + 1) (at + headSize + getD b (at + 2) 0)
     unfolding pick
     collect-live m keys-after starts-after p q =
         let e : liveStarts (c .seen ++ (t .entry ∷ [])) ≡ liveStarts (c .seen) ++ (at ∷ []) = passed true (eq-eqb (getD b (at + 1) 0) 0x57 m) in
@@ -131,7 +132,7 @@ module _ (b : List ℕ) (free : ℕ) (keys-before starts-before keys starts : Li
               ∙ sym (keys-snoc b keys-before (liveStarts (c .seen)) at) ∙ ap (withKeys b keys-before) (sym e);
         }
 
-    pub collect-removed : (getD b (at + 1) 0 ≡ 0x57 → ⊥) → Collected b free keys-before starts-before keys starts live (at + 7 + getD b (at + 2) 0)
+    pub collect-removed : (getD b (at + 1) 0 ≡ 0x57 → ⊥) → Collected b free keys-before starts-before keys starts live (at + headSize + getD b (at + 2) 0)
     unfolding pick
     collect-removed n =
         let e : liveStarts (c .seen ++ (t .entry ∷ [])) ≡ liveStarts (c .seen) =

@@ -14,7 +14,7 @@ use Rattle.memory.proofs.Stores.{sets-before, sets-there}
 use Rattle.letters.specs.Choice.{pick}
 use Rattle.formula.specs.Lists.{filtered}
 use Rattle.recogniser.specs.Answer.{Readable}
-use Rattle.entries.specs.Limits.{bookLimit}
+use Rattle.entries.specs.Limits.{bookLimit, headSize}
 use Rattle.entries.specs.Entries.{Entry, wordAt, entryAt, isFramed}
 use Rattle.entries.specs.Book.{size, endOf, GoodAfter, IsBook}
 use Rattle.entries.specs.Map.{counted, liveCount, liveOnes}
@@ -57,7 +57,7 @@ entries-ahead b at free list seen [] w = refl
 entries-ahead b at free list seen (x ∷ rest) w =
     let h : Here b at free list seen x rest = here b at free list seen x rest w in
     go (x .live) (ap (λ (e : Entry). entryAt b (e .start)) (sym (h .is)) ∙ h .is)
-    (entries-ahead b (at + 7 + getD b (at + 2) 0) free list (seen ++ (x ∷ [])) rest (h .next))
+    (entries-ahead b (at + headSize + getD b (at + 2) 0) free list (seen ++ (x ∷ [])) rest (h .next))
   where
     go : (t : Bool) → entryAt b (x .start) ≡ x → map (entryAt b) (liveStarts rest) ≡ liveOnes rest
         → map (entryAt b) (map startOf (pick t (x ∷ liveOnes rest) (liveOnes rest))) ≡ pick t (x ∷ liveOnes rest) (liveOnes rest)
@@ -71,7 +71,7 @@ entries-back b list k = entries-ahead b 0 (endOf 0 list) list [] list (whole b l
 -- records with readable words stand at these starts, from a place on and each behind the one before
 abbrev pub Spaced : List ℕ → ℕ → List ℕ → Type 0
 Spaced b at [] = Unit {0}
-Spaced b at (s ∷ starts) = (at ≤ s) × T (isFramed b s) × Readable (wordAt b s) × Spaced b (s + 7 + getD b (s + 2) 0) starts
+Spaced b at (s ∷ starts) = (at ≤ s) × T (isFramed b s) × Readable (wordAt b s) × Spaced b (s + headSize + getD b (s + 2) 0) starts
 
 spaced-before : (b : List ℕ) (at from : ℕ) (starts : List ℕ) → from ≤ at → Spaced b at starts → Spaced b from starts
 spaced-before b at from [] h s = tt
@@ -83,14 +83,14 @@ spaced-ahead b at free list seen [] w = tt
 spaced-ahead b at free list seen (x ∷ rest) w =
     let h : Here b at free list seen x rest = here b at free list seen x rest w in
     go (x .live) (ap startOf (h .is)) (framed-is b at (h .frame)) (here-readable b at free list seen x rest h)
-    (spaced-ahead b (at + 7 + getD b (at + 2) 0) free list (seen ++ (x ∷ [])) rest (h .next))
+    (spaced-ahead b (at + headSize + getD b (at + 2) 0) free list (seen ++ (x ∷ [])) rest (h .next))
   where
-    go : (t : Bool) → at ≡ x .start → T (isFramed b at) → Readable (wordAt b at) → Spaced b (at + 7 + getD b (at + 2) 0) (liveStarts rest)
+    go : (t : Bool) → at ≡ x .start → T (isFramed b at) → Readable (wordAt b at) → Spaced b (at + headSize + getD b (at + 2) 0) (liveStarts rest)
         → Spaced b at (map startOf (pick t (x ∷ liveOnes rest) (liveOnes rest)))
     go true e f r s =
-        subst (λ (p : ℕ). (at ≤ p) × T (isFramed b p) × Readable (wordAt b p) × Spaced b (p + 7 + getD b (p + 2) 0) (liveStarts rest)) e
+        subst (λ (p : ℕ). (at ≤ p) × T (isFramed b p) × Readable (wordAt b p) × Spaced b (p + headSize + getD b (p + 2) 0) (liveStarts rest)) e
         (omega arith, f, r, s)
-    go false e f r s = spaced-before b (at + 7 + getD b (at + 2) 0) at (liveStarts rest) (omega arith) s
+    go false e f r s = spaced-before b (at + headSize + getD b (at + 2) 0) at (liveStarts rest) (omega arith) s
 
 pub spaced-of-book : (b : List ℕ) (list : List Entry) → IsBook b list → Spaced b 0 (liveStarts list)
 spaced-of-book b list k = spaced-ahead b 0 (endOf 0 list) list [] list (whole b list k)
@@ -107,7 +107,7 @@ unfolding withKeys
 keys-before b keys at q [] h s = refl
 keys-before b keys at q (x ∷ starts) h s =
     let l = s .0 in
-    keys-before b (sets keys (weightCount * x) (filedKey (rowOf (wordAt b x)))) (x + 7 + getD b (x + 2) 0) q starts (omega arith) (s .3)
+    keys-before b (sets keys (weightCount * x) (filedKey (rowOf (wordAt b x)))) (x + headSize + getD b (x + 2) 0) q starts (omega arith) (s .3)
     ∙ sets-before (filedKey (rowOf (wordAt b x))) keys (weightCount * x) q (omega arith)
 
 -- a part of the front
@@ -132,7 +132,7 @@ all-keyed b keys at [] short room s = tt
 all-keyed b keys at (x ∷ starts) short room s =
     let key : List ℕ = filedKey (rowOf (wordAt b x)) in
     let within = key-within b x short (framed-true b x (s .1)) (s .2) in
-    let next : ℕ = x + 7 + getD b (x + 2) 0 in (
+    let next : ℕ = x + headSize + getD b (x + 2) 0 in (
       record {
         framed = s .1;
         readable = s .2;

@@ -14,19 +14,19 @@ use Rattle.recogniser.specs.Answer.{Readable}
 use Rattle.recogniser.proofs.Counted.{row-bound}
 use Rattle.weighing.specs.Keys.{keyOf}
 use Rattle.weighing.proofs.Laws.{key-used}
-use Rattle.entries.specs.Limits.{bookLimit}
-use Rattle.recogniser.proofs.Decided.{decide}
+use Rattle.entries.specs.Limits.{bookLimit, headSize}
+use Rattle.recogniser.proofs.Decided.{decideRow}
 use Rattle.entries.specs.Entries.{wordAt}
 use Rattle.entries.proofs.Records.{Framed, framed-true, length-word}
 use Rattle.book_keys.specs.Filing.{decidedRow, rowOf, filedKey, keyRoom, HasKey}
 
 pub row-is : (word : List ℕ) → Readable word → (row : Row) → Gives row word → rowOf word ≡ row
 unfolding rowOf
-row-is word r row g = go (decide word)
+row-is word r row g = go (decideRow word)
   where
-    go : (d : Dec (Readable word)) → decidedRow d ≡ row
-    go (yes s) = sym (s .only row g)
-    go (no n) = absurd (n r)
+    go : (d : Dec ((row : Row) × Gives row word)) → decidedRow d ≡ row
+    go (yes s) = r .only (s .0) (s .1) ∙ sym (r .only row g)
+    go (no n) = absurd (n (row, g))
 
 pub row-gives : (word : List ℕ) → Readable word → Gives (rowOf word) word
 row-gives word r = subst (λ (row : Row). Gives row word) (sym (row-is word r (r .row) (r .gives))) (r .gives)
@@ -40,7 +40,7 @@ filed-key-length row = omega (arith, key-used row)
 
 -- the key of the record at a place ends before that of the record behind it, within the room for keys
 pub key-within : (b : List ℕ) (at : ℕ) → length b ≤ bookLimit → Framed b at → Readable (wordAt b at)
-    → (weightCount * at + length (filedKey (rowOf (wordAt b at))) ≤ weightCount * (at + 7 + getD b (at + 2) 0))
+    → (weightCount * at + length (filedKey (rowOf (wordAt b at))) ≤ weightCount * (at + headSize + getD b (at + 2) 0))
     × (weightCount * at + length (filedKey (rowOf (wordAt b at))) ≤ keyRoom)
 key-within b at s f r =
     let k = filed-key-length (rowOf (wordAt b at)) in

@@ -6,21 +6,21 @@ use Prim.Native.Nat.{ℕ, _≤_}
 use lib.Dec.{T}
 use lib.ListN.{length, take, drop}
 use lib.Seq.{sets}
-use Rattle.formula.specs.Row.{Row}
+use Rattle.formula.specs.Row.{Row, Gives}
 use Rattle.recogniser.specs.Answer.{Readable}
 use Rattle.weighing.specs.Keys.{keyOf, usedBytes}
-use Rattle.recogniser.proofs.Decided.{decide}
+use Rattle.recogniser.proofs.Decided.{decideRow}
 use Rattle.entries.specs.Entries.{Entry, wordAt, isFramed}
 use Rattle.entries.specs.Book.{IsBook}
 use Rattle.entries.specs.Map.{liveCount, liveOnes}
 
-abbrev pub decidedRow : {word : List ℕ} → Dec (Readable word) → Row
-decidedRow (yes readable) = readable .row
+abbrev pub decidedRow : {word : List ℕ} → Dec ((row : Row) × Gives row word) → Row
+decidedRow (yes given) = given .0
 decidedRow (no none) = []
 
--- the row of a readable word; no row for another word
+-- the row that gives a word, of whatever length; no row where none does
 unfoldable pub rowOf : List ℕ → Row
-rowOf word = decidedRow (decide word)
+rowOf word = decidedRow (decideRow word)
 
 -- how a key is filed: the number of syllables, then the weights, six bytes a syllable
 unfoldable pub filedKey : Row → List ℕ

@@ -17,6 +17,7 @@ use Rattle.weighing.proofs.order.Order.{the-type}
 use Rattle.weighing.proofs.OrderOfNumbers.{Stand, below, level, above, stand, less-numbers, equal-numbers, greater-numbers}
 use Rattle.weighing.proofs.Passing.{decided}
 use Rattle.weighing.proofs.Laws.{keys-order}
+use Rattle.entries.specs.Limits.{headSize}
 use Rattle.entries.specs.Entries.{valueOf, wordAt, entryAt}
 use Rattle.book_keys.specs.Filing.{rowOf, HasKey}
 use Rattle.book_keys.proofs.Rows.{key-weights}
@@ -58,10 +59,10 @@ module _ (b keys : List ℕ) (first second : ℕ) (one : HasKey b keys first) (o
       ∙ ap (λ (w : Order). inTurn w (orderValues (wordAt b first) (wordAt b second))) by-weights)
 
   pub values-decide : o ≡ Equal → (p : Order)
-      → p ≡ orderValues (take (getD b (first + 2) 0) (drop (first + 7) b)) (take (getD b (second + 2) 0) (drop (second + 7) b))
+      → p ≡ orderValues (take (getD b (first + 2) 0) (drop (first + headSize) b)) (take (getD b (second + 2) 0) (drop (second + headSize) b))
       → (r : Bool) → r ≡ isLess p → r ≡ before (entryAt b first) (entryAt b second)
   unfolding before order
   values-decide same p q r e =
       e ∙ ap isLess
-      (q ∙ sym (order-of-values (take (getD b (first + 2) 0) (drop (first + 7) b)) (take (getD b (second + 2) 0) (drop (second + 7) b)))
+      (q ∙ sym (order-of-values (take (getD b (first + 2) 0) (drop (first + headSize) b)) (take (getD b (second + 2) 0) (drop (second + headSize) b)))
       ∙ ap (λ (w : Order). inTurn w (orderValues (wordAt b first) (wordAt b second))) (sym same ∙ by-weights))

@@ -7,6 +7,7 @@ use native.Mathlib.Omega.{arith}
 use native.Mathlib.Nat.{le-of-suc-le-suc}
 use lib.ListN.{length, getD, take, drop, set, length-map, length-append}
 use lib.Seq.{sets-eq, paste, length-take-le, take-at, drop-at, drop-drop, take-all}
+use Rattle.entries.specs.Limits.{headSize}
 use Rattle.entries.specs.Book.{byteOf, numberBytes, recordBytes}
 use Rattle.entries.specs.Change.{withRecord}
 use Rattle.book_record.specs.Head.{withHead}
@@ -17,9 +18,9 @@ map-byte-at (x ∷ l) zero h = refl
 map-byte-at (x ∷ l) (suc k) h = map-byte-at l k (le-of-suc-le-suc h)
 
 -- the seven stores of a head
-pub head-stores : (b : List ℕ) (at first mark count low second third high : ℕ) → at + 7 ≤ length b
+pub head-stores : (b : List ℕ) (at first mark count low second third high : ℕ) → at + headSize ≤ length b
     → set (set (set (set (set (set (set b at first) (at + 1) mark) (at + 2) count) (at + 3) low) (at + 4) second) (at + 5) third) (at + 6) high
-    ≡ take at b ++ ((first ∷ mark ∷ count ∷ low ∷ second ∷ third ∷ high ∷ []) ++ drop (at + 7) b)
+    ≡ take at b ++ ((first ∷ mark ∷ count ∷ low ∷ second ∷ third ∷ high ∷ []) ++ drop (at + headSize) b)
 head-stores b at first mark count low second third high h =
     let one : at + 1 ≡ suc at = omega arith in
     let two : at + 2 ≡ suc (suc at) = omega arith in
@@ -29,21 +30,21 @@ head-stores b at first mark count low second third high h =
     let six : at + 6 ≡ suc (suc (suc (suc (suc (suc at))))) = omega arith in
     (λ i. set (set (set (set (set (set (set b at first) (one i) mark) (two i) count) (three i) low) (four i) second) (five i) third) (six i) high)
     ∙ sets-eq (first ∷ mark ∷ count ∷ low ∷ second ∷ third ∷ high ∷ []) b at h
-    ∙ append-assoc (take at b) (first ∷ mark ∷ count ∷ low ∷ second ∷ third ∷ high ∷ []) (drop (at + 7) b)
+    ∙ append-assoc (take at b) (first ∷ mark ∷ count ∷ low ∷ second ∷ third ∷ high ∷ []) (drop (at + headSize) b)
 
 -- the head and the word, written one after the other
-pub written : (b w : List ℕ) (at s : ℕ) → at + 7 + length w ≤ length b
-    → paste (withHead b at (length w) s) (at + 7) (map byteOf w) (length w) ≡ withRecord b at w s
+pub written : (b w : List ℕ) (at s : ℕ) → at + headSize + length w ≤ length b
+    → paste (withHead b at (length w) s) (at + headSize) (map byteOf w) (length w) ≡ withRecord b at w s
 unfolding withHead recordBytes
 written b w at s h =
     let H : List ℕ = 0x4D ∷ 0x57 ∷ length w ∷ numberBytes s [] in
     let n : ℕ = length w in
-    let d : List ℕ = take at b ++ (H ++ drop (at + 7) b) in
+    let d : List ℕ = take at b ++ (H ++ drop (at + headSize) b) in
     let front : List ℕ = take at b ++ H in
-    let split : d ≡ front ++ drop (at + 7) b = sym (append-assoc (take at b) H (drop (at + 7) b)) in
-    let fl : length front ≡ at + 7 = length-append (take at b) H ∙ ap (λ (k : ℕ). k + 7) (length-take-le at b (omega arith)) in
-    let t : take (at + 7) d ≡ front = ap (take (at + 7)) split ∙ take-at front (drop (at + 7) b) (at + 7) fl in
-    let r : drop (at + 7 + n) d ≡ drop (at + 7 + n) b =
-    sym (drop-drop n (at + 7) d) ∙ ap (λ (l : List ℕ). drop n (drop (at + 7) l)) split ∙ ap (drop n) (drop-at front (drop (at + 7) b) (at + 7) fl) ∙ drop-drop n (at + 7) b in
+    let split : d ≡ front ++ drop (at + headSize) b = sym (append-assoc (take at b) H (drop (at + headSize) b)) in
+    let fl : length front ≡ at + headSize = length-append (take at b) H ∙ ap (λ (k : ℕ). k + headSize) (length-take-le at b (omega arith)) in
+    let t : take (at + headSize) d ≡ front = ap (take (at + headSize)) split ∙ take-at front (drop (at + headSize) b) (at + headSize) fl in
+    let r : drop (at + headSize + n) d ≡ drop (at + headSize + n) b =
+    sym (drop-drop n (at + headSize) d) ∙ ap (λ (l : List ℕ). drop n (drop (at + headSize) l)) split ∙ ap (drop n) (drop-at front (drop (at + headSize) b) (at + headSize) fl) ∙ drop-drop n (at + headSize) b in
     let m : take n (map byteOf w) ≡ map byteOf w = take-all n (map byteOf w) (omega (arith, length-map w byteOf)) in
-    (λ i. (t i ++ m i) ++ r i) ∙ append-assoc front (map byteOf w) (drop (at + 7 + n) b) ∙ append-assoc (take at b) H (map byteOf w ++ drop (at + 7 + n) b)
+    (λ i. (t i ++ m i) ++ r i) ∙ append-assoc front (map byteOf w) (drop (at + headSize + n) b) ∙ append-assoc (take at b) H (map byteOf w ++ drop (at + headSize + n) b)

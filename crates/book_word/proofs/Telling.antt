@@ -12,6 +12,7 @@ use lib.Dec.{leb}
 use lib.ListN.{length, getD, take, drop}
 use Rattle.letters.proofs.Tests.{pick-true, pick-false}
 use Rattle.refusals.specs.Outcome.{Outcome, accepts-both, absent, refuses}
+use Rattle.entries.specs.Limits.{headSize}
 use Rattle.entries.specs.Entries.{Entry, valueOf, wordAt, entryAt, Entries, wrong, entries}
 use Rattle.entries.specs.Book.{Opened}
 use Rattle.entries.proofs.Records.{Framed, length-word}
@@ -32,7 +33,7 @@ module _ (b : List ℕ) (at : ℕ) (f : Framed b at) (count : ℕ) (e : count �
       }
 
   pub told-whole : (after : List ℕ) (answer : Outcome) → count ≤ length before
-      → after ≡ map valueOf (take count (drop (at + 7) b)) ++ drop count before
+      → after ≡ map valueOf (take count (drop (at + headSize) b)) ++ drop count before
       → answer ≡ accepts-both (entryAt b at .stock) (markedCount (entryAt b at .live) count)
       → ToldRight (entryAt b at) before after answer
   told-whole after answer h p q =
@@ -42,7 +43,7 @@ module _ (b : List ℕ) (at : ℕ) (f : Framed b at) (count : ℕ) (e : count �
             q ∙ ap (λ (n : ℕ). accepts-both (entryAt b at .stock) (markedCount (entryAt b at .live) n)) long
             ∙ sym (pick-true (leb (length (wordAt b at)) (length before)) _ _ room);
         output =
-            p ∙ (λ i. map valueOf (take (e i) (drop (at + 7) b)) ++ drop (long i) before)
+            p ∙ (λ i. map valueOf (take (e i) (drop (at + headSize) b)) ++ drop (long i) before)
             ∙ sym (pick-true (leb (length (wordAt b at)) (length before)) _ _ room);
       }
 

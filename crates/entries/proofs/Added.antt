@@ -9,6 +9,7 @@ use native.Mathlib.Omega.{arith}
 use lib.Dec.{T}
 use lib.ListN.{length, take, drop, length-append, length-drop}
 use lib.Seq.{take-at, drop-at, drop-drop, length-take-le}
+use Rattle.entries.specs.Limits.{headSize}
 use Rattle.entries.specs.Entries.{Entry, book, isFresh, entries}
 use Rattle.entries.specs.Book.{zeros, recordBytes, records, IsBook, Opened}
 use Rattle.entries.specs.Map.{lookup, newEntry}
@@ -27,30 +28,30 @@ unfolding isFresh
 fresh-new es w p s e = subst (λ (t : Bool). T (not t)) (sym (holds-lookup es w e)) tt
 
 -- add keeps the buffer's length
-pub length-added : (b w : List ℕ) (f s : ℕ) → f + 7 + length w ≤ length b → length (withRecord b f w s) ≡ length b
+pub length-added : (b w : List ℕ) (f s : ℕ) → f + headSize + length w ≤ length b → length (withRecord b f w s) ≡ length b
 length-added b w f s room =
     let new : Entry = newEntry f w s in
     length-append (take f b) _
-    ∙ omega (arith, length-take-le f b (omega arith), length-append (recordBytes new) (drop (f + 7 + length w) b), length-record new, length-drop (f + 7 + length w) b)
+    ∙ omega (arith, length-take-le f b (omega arith), length-append (recordBytes new) (drop (f + headSize + length w) b), length-record new, length-drop (f + headSize + length w) b)
 
-module _ (b w : List ℕ) (f s : ℕ) (o : Opened b f) (room : f + 7 + length w ≤ length b) where
+module _ (b w : List ℕ) (f s : ℕ) (o : Opened b f) (room : f + headSize + length w ≤ length b) where
   -- the bytes before the new record are the records, and those behind it are zeros
   before-new : take f b ≡ records (o .list)
   before-new =
       ap (take f) (o .is-book .written)
       ∙ take-at (records (o .list)) (zeros (o .is-book .pad)) f (let e : length (records (o .list)) ≡ f = omega (arith, end-length 0 (o .list), o .end) in e)
 
-  behind-new : drop (f + 7 + length w) b ≡ zeros (o .is-book .pad - (7 + length w))
+  behind-new : drop (f + headSize + length w) b ≡ zeros (o .is-book .pad - (headSize + length w))
   behind-new =
       let shared : length (records (o .list)) ≡ f = omega (arith, end-length 0 (o .list), o .end) in
-      ap (λ (n : ℕ). drop n b) (let g : f + 7 + length w ≡ f + (7 + length w) = omega arith in g) ∙ sym (drop-drop (7 + length w) f b)
-      ∙ ap (drop (7 + length w)) (ap (drop f) (o .is-book .written) ∙ drop-at (records (o .list)) (zeros (o .is-book .pad)) f shared)
-      ∙ drop-zeros (7 + length w) (o .is-book .pad)
+      ap (λ (n : ℕ). drop n b) (let g : f + headSize + length w ≡ f + (headSize + length w) = omega arith in g) ∙ sym (drop-drop (headSize + length w) f b)
+      ∙ ap (drop (headSize + length w)) (ap (drop f) (o .is-book .written) ∙ drop-at (records (o .list)) (zeros (o .is-book .pad)) f shared)
+      ∙ drop-zeros (headSize + length w) (o .is-book .pad)
 
-  pub added-written : withRecord b f w s ≡ records (o .list ++ (newEntry f w s ∷ [])) ++ zeros (o .is-book .pad - (7 + length w))
+  pub added-written : withRecord b f w s ≡ records (o .list ++ (newEntry f w s ∷ [])) ++ zeros (o .is-book .pad - (headSize + length w))
   added-written =
       let new : Entry = newEntry f w s in
-      let rest : List ℕ = zeros (o .is-book .pad - (7 + length w)) in
+      let rest : List ℕ = zeros (o .is-book .pad - (headSize + length w)) in
       (λ i. before-new i ++ (recordBytes new ++ behind-new i)) ∙ sym (append-assoc (records (o .list)) (recordBytes new) rest)
       ∙ ap (λ (l : List ℕ). records (o .list) ++ l ++ rest) (sym (append-nil (recordBytes new)))
       ∙ ap (λ (l : List ℕ). l ++ rest) (sym (records-append (o .list) (new ∷ [])))
@@ -59,7 +60,7 @@ module _ (b w : List ℕ) (f s : ℕ) (o : Opened b f) (room : f + 7 + length w 
   added-book st small e =
       record {
         short = omega (arith, o .is-book .short, length-added b w f s room);
-        pad = o .is-book .pad - (7 + length w);
+        pad = o .is-book .pad - (headSize + length w);
         written = added-written;
         good =
             good-snoc 0 [] (o .list) (newEntry f w s) (o .is-book .good) (o .end)
@@ -68,7 +69,7 @@ module _ (b w : List ℕ) (f s : ℕ) (o : Opened b f) (room : f + 7 + length w 
 
   -- the entries after add are those before it and one more at the end
   pub added-entries : Storable w → s < 4294967296 → lookup (o .list) w ≡ none
-      → entries (withRecord b f w s) ≡ book (o .list ++ (newEntry f w s ∷ [])) (f + 7 + length w)
+      → entries (withRecord b f w s) ≡ book (o .list ++ (newEntry f w s ∷ [])) (f + headSize + length w)
   added-entries st small e =
       complete (withRecord b f w s) (o .list ++ (newEntry f w s ∷ [])) (added-book st small e)
       ∙ ap (book (o .list ++ (newEntry f w s ∷ []))) (end-append 0 (o .list) (newEntry f w s) ∙ omega (arith, o .end))

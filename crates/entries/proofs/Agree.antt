@@ -13,9 +13,9 @@ use lib.Seq.{getD-drop, append-snoc}
 use Rattle.letters.specs.Choice.{pick}
 use Rattle.letters.proofs.Tests.{is-true, pick-true, pick-false, on-pick}
 use Rattle.formula.proofs.Lists.{both, both-left, both-right}
-use Rattle.entries.specs.Limits.{bookLimit}
+use Rattle.entries.specs.Limits.{bookLimit, headSize}
 use Rattle.entries.specs.Readable.{isReadable}
-use Rattle.entries.specs.Entries.{Entry, wordAt, entryAt, isFramed, isFresh, mayFollow, Entries, book, wrong, zeroTail, entriesFrom, entries}
+use Rattle.entries.specs.Entries.{Entry, wordAt, entryAt, isFramed, isFresh, mayFollow, Entries, book, wrong, zeroTail, entriesFrom, entries, entriesFromWithin, entriesWithin, mayFollowWithin}
 use Rattle.entries.specs.Book.{zeros, recordBytes, records, size, endOf, GoodEntry, GoodAfter, IsBook, Opened}
 use Rattle.entries.proofs.Tests.{of-readable, to-readable}
 use Rattle.entries.proofs.Bytes.{Bytes, readable-within}
@@ -46,28 +46,28 @@ entry-good b at small f t =
     }
 
 follow-readable : (es : List Entry) (e : Entry) → T (mayFollow es e) → T (isReadable (e .word))
-unfolding mayFollow
+unfolding mayFollowWithin
 follow-readable es e t = both-left (isReadable (e .word)) _ t
 
 follow-fresh : (es : List Entry) (e : Entry) → T (mayFollow es e) → T (isFresh es e)
-unfolding mayFollow
+unfolding mayFollowWithin
 follow-fresh es e t = both-right (isReadable (e .word)) _ t
 
-may-follow : (es : List Entry) (e : Entry) → GoodEntry e → T (isFresh es e) → T (mayFollow es e)
-unfolding mayFollow
+pub may-follow : (es : List Entry) (e : Entry) → GoodEntry e → T (isFresh es e) → T (mayFollow es e)
+unfolding mayFollowWithin
 may-follow es e g t = both (isReadable (e .word)) _ (to-readable (e .word) (g .readable)) t
 
 pub upto-next : (b : List ℕ) (at : ℕ) (es : List Entry) → Bytes b → Upto b at es → T (isFramed b at) → T (mayFollow es (entryAt b at))
-    → Upto b (at + 7 + getD b (at + 2) 0) (es ++ (entryAt b at ∷ []))
+    → Upto b (at + headSize + getD b (at + 2) 0) (es ++ (entryAt b at ∷ []))
 upto-next b at es small u t m =
     let f = framed-true b at t in
     let e = entryAt b at in
     record {
       bytes =
           u .bytes ∙ ap (λ (l : List ℕ). records es ++ l) (cut b at small f)
-          ∙ sym (append-assoc (records es) (recordBytes e) (drop (at + 7 + getD b (at + 2) 0) b))
-          ∙ ap (λ (l : List ℕ). records es ++ l ++ drop (at + 7 + getD b (at + 2) 0) b) (sym (append-nil (recordBytes e)))
-          ∙ ap (λ (l : List ℕ). l ++ drop (at + 7 + getD b (at + 2) 0) b) (sym (records-append es (e ∷ [])));
+          ∙ sym (append-assoc (records es) (recordBytes e) (drop (at + headSize + getD b (at + 2) 0) b))
+          ∙ ap (λ (l : List ℕ). records es ++ l ++ drop (at + headSize + getD b (at + 2) 0) b) (sym (append-nil (recordBytes e)))
+          ∙ ap (λ (l : List ℕ). l ++ drop (at + headSize + getD b (at + 2) 0) b) (sym (records-append es (e ∷ [])));
       good = good-snoc 0 [] es e (u .good) (sym (u .end)) (entry-good b at small f (follow-readable es e m)) (follow-fresh es e m);
       end = end-append 0 es e ∙ omega (arith, u .end, length-word b at (f .room));
     }
@@ -100,23 +100,23 @@ sound-tail b es (x ∷ l) p n at s g e q =
     tt
 
 sound-from : (k : ℕ) (b : List ℕ) (at : ℕ) (es : List Entry) → Bytes b → length b ≤ bookLimit → Upto b at es → Sound b (entriesFrom k b at es)
-unfolding entriesFrom
+unfolding entriesFromWithin
 sound-from zero b at es small s u = tt
 sound-from (suc k) b at es small s u =
     sound-pick b (eqb (getD b at 0) 0) _ _
     (λ t. sound-tail b es (drop at b) at 0 at s (u .good) (sym (u .end)) (u .bytes ∙ ap (λ (l : List ℕ). l ++ drop at b) (sym (append-nil (records es)))))
     (sound-pick b (isFramed b at && mayFollow es (entryAt b at)) _ _
-    (λ t. sound-from k b (at + 7 + getD b (at + 2) 0) (es ++ (entryAt b at ∷ [])) small s
+    (λ t. sound-from k b (at + headSize + getD b (at + 2) 0) (es ++ (entryAt b at ∷ [])) small s
     (upto-next b at es small u (both-left (isFramed b at) _ t) (both-right (isFramed b at) _ t)))
     tt)
 
 -- what `entries` finds is a book, and the place is its end
 pub sound : (b : List ℕ) → Bytes b → Sound b (entries b)
-unfolding entries
+unfolding entriesWithin
 sound b small =
     sound-pick b (leb (length b) bookLimit) _ _ (λ t. sound-from (suc (length b)) b 0 [] small (leb-true (length b) bookLimit (is-true (leb (length b) bookLimit) t)) (upto-start b)) tt
 
-tail-zeros : (n p : ℕ) (e : Entries) → zeroTail (zeros n) p e ≡ e
+pub tail-zeros : (n p : ℕ) (e : Entries) → zeroTail (zeros n) p e ≡ e
 unfolding zeroTail pick
 tail-zeros zero p e = refl
 tail-zeros (suc n) p e = tail-zeros n (suc p) e
@@ -126,7 +126,7 @@ pub read-good : (b : List ℕ) (at : ℕ) (e : Entry) (rest : List ℕ) → drop
 read-good b at e rest q s g =
     read-back b at e rest q s (g .some) (g .readable .admissible .short) (g .stock) (λ k h. readable-within (e .word) (g .readable) k h .0)
 
-zeros-first : (b : List ℕ) (at n : ℕ) → drop at b ≡ zeros n → eqb (getD b at 0) 0 ≡ true
+pub zeros-first : (b : List ℕ) (at n : ℕ) → drop at b ≡ zeros n → eqb (getD b at 0) 0 ≡ true
 zeros-first b at n q =
     eq-eqb (getD b at 0) 0 (ap (λ (k : ℕ). getD b k 0) (sym (add-zero at)) ∙ sym (getD-drop at b 0 0) ∙ ap (λ (l : List ℕ). getD l 0 0) q ∙ first n)
   where
@@ -136,30 +136,30 @@ zeros-first b at n q =
 
 complete-from : (k : ℕ) (b : List ℕ) (at : ℕ) (seen rest : List Entry) (n : ℕ) → drop at b ≡ records rest ++ zeros n → GoodAfter at seen rest → length rest < k
     → entriesFrom k b at seen ≡ book (seen ++ rest) (endOf at rest)
-unfolding entriesFrom
+unfolding entriesFromWithin
 complete-from zero b at seen rest n q g h = absurd (not-suc-le-zero h)
 complete-from (suc k) b at seen [] n q g h =
     pick-true (eqb (getD b at 0) 0) _ _ (zeros-first b at n q) ∙ ap (λ (l : List ℕ). zeroTail l at (book seen at)) q ∙ tail-zeros n at (book seen at)
     ∙ ap (λ (l : List Entry). book l at) (sym (append-nil seen))
 complete-from (suc k) b at seen (e ∷ rest) n q g h =
     let r : Read b at e (records rest ++ zeros n) = read-good b at e (records rest ++ zeros n) (q ∙ append-assoc (recordBytes e) (records rest) (zeros n)) (g .0) (g .1) in
-    let next : at + 7 + getD b (at + 2) 0 ≡ at + size e = omega (arith, r .count) in
+    let next : at + headSize + getD b (at + 2) 0 ≡ at + size e = omega (arith, r .count) in
     pick-false (eqb (getD b at 0) 0) _ _ (ne-eqb (getD b at 0) 0 (λ e. let z : ⊥ = omega (arith, r .frame .first) in z))
     ∙ pick-true (isFramed b at && mayFollow seen (entryAt b at)) _ _
     (is-true _
     (both (isFramed b at) _ (framed-is b at (r .frame)) (subst (λ (x : Entry). T (mayFollow seen x)) (sym (r .entry)) (may-follow seen e (g .1) (g .2)))))
-    ∙ ap (λ (x : Entry). entriesFrom k b (at + 7 + getD b (at + 2) 0) (seen ++ (x ∷ []))) (r .entry)
+    ∙ ap (λ (x : Entry). entriesFrom k b (at + headSize + getD b (at + 2) 0) (seen ++ (x ∷ []))) (r .entry)
     ∙ ap (λ (p : ℕ). entriesFrom k b p (seen ++ (e ∷ []))) next
     ∙ complete-from k b (at + size e) (seen ++ (e ∷ [])) rest n (subst (λ (p : ℕ). drop p b ≡ records rest ++ zeros n) next (r .left)) (g .3) (le-of-suc-le-suc h)
     ∙ ap (λ (l : List Entry). book l (endOf (at + size e) rest)) (append-snoc seen e rest)
 
-count-records : (es : List Entry) → length es ≤ length (records es)
+pub count-records : (es : List Entry) → length es ≤ length (records es)
 count-records [] = omega arith
 count-records (e ∷ es) = omega (arith, length-append (recordBytes e) (records es), length-record e, count-records es)
 
 -- a book is read as its entries
 pub complete : (b : List ℕ) (es : List Entry) → IsBook b es → entries b ≡ book es (endOf 0 es)
-unfolding entries
+unfolding entriesWithin
 complete b es k =
     let l : length es ≤ length b = omega (arith, count-records es, ap length (k .written), length-append (records es) (zeros (k .pad))) in
     pick-true (leb (length b) bookLimit) _ _ (le-leb (length b) bookLimit (k .short))

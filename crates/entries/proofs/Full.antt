@@ -12,6 +12,7 @@ use lib.ListN.{length}
 use Rattle.letters.specs.Choice.{pick}
 use Rattle.letters.proofs.Tests.{pick-false}
 use Rattle.refusals.specs.Outcome.{accepts-both, refuses}
+use Rattle.entries.specs.Limits.{headSize}
 use Rattle.entries.specs.Entries.{Entry, book}
 use Rattle.entries.specs.Map.{lookup}
 use Rattle.entries.specs.Tidy.{liveLength}
@@ -19,28 +20,28 @@ use Rattle.entries.specs.Outcome.{puts, tidiesAndPuts, placing, addOfEnt
 
 module _ (es : List Entry) (free room : ℕ) (w : List ℕ) where
   -- given then
-  pub full-when : lookup es w ≡ none → room < liveLength es + (7 + length w) → addOf (book es free) room w ≡ refuses 14 (liveLength es)
+  pub full-when : lookup es w ≡ none → room < liveLength es + (headSize + length w) → addOf (book es free) room w ≡ refuses 14 (liveLength es)
   full-when n h =
-      ap (λ (o : Option Entry). addOfEntry o (placing es free room (7 + length w))) n
-      ∙ pick-false (leb (liveLength es + (7 + length w)) room) _ _ (lt-leb (liveLength es + (7 + length w)) room h)
+      ap (λ (o : Option Entry). addOfEntry o (placing es free room (headSize + length w))) n
+      ∙ pick-false (leb (liveLength es + (headSize + length w)) room) _ _ (lt-leb (liveLength es + (headSize + length w)) room h)
 
   -- and at no other time
   pub full-only : (place : ℕ) → addOf (book es free) room w ≡ refuses 14 place
-      → (lookup es w ≡ none) × (room < liveLength es + (7 + length w)) × (place ≡ liveLength es)
+      → (lookup es w ≡ none) × (room < liveLength es + (headSize + length w)) × (place ≡ liveLength es)
   unfolding pick
   full-only place = go (lookup es w) refl
     where
-      chosen : (t u : Bool) → leb (liveLength es + (7 + length w)) room ≡ t
+      chosen : (t u : Bool) → leb (liveLength es + (headSize + length w)) room ≡ t
           → pick t (pick u (puts free) (tidiesAndPuts (liveLength es))) (refuses 14 (liveLength es)) ≡ refuses 14 place
-          → (room < liveLength es + (7 + length w)) × (place ≡ liveLength es)
+          → (room < liveLength es + (headSize + length w)) × (place ≡ liveLength es)
       chosen true true p e = let z : _≡_ {A = ℕ} 0 1 = cc in let y : ⊥ = omega arith in absurd y
       chosen true false p e = let z : _≡_ {A = ℕ} 0 1 = cc in let y : ⊥ = omega arith in absurd y
-      chosen false u p e = (leb-false (liveLength es + (7 + length w)) room p, cc)
+      chosen false u p e = (leb-false (liveLength es + (headSize + length w)) room p, cc)
 
-      go : (o : Option Entry) → lookup es w ≡ o → addOfEntry o (placing es free room (7 + length w)) ≡ refuses 14 place
-          → (lookup es w ≡ none) × (room < liveLength es + (7 + length w)) × (place ≡ liveLength es)
+      go : (o : Option Entry) → lookup es w ≡ o → addOfEntry o (placing es free room (headSize + length w)) ≡ refuses 14 place
+          → (lookup es w ≡ none) × (room < liveLength es + (headSize + length w)) × (place ≡ liveLength es)
       go none n e =
-          let c = chosen (leb (liveLength es + (7 + length w)) room) (leb (free + (7 + length w)) room) refl e in
+          let c = chosen (leb (liveLength es + (headSize + length w)) room) (leb (free + (headSize + length w)) room) refl e in
           (n, c .0, c .1)
       go (some x) n e = let z : _≡_ {A = ℕ} 12 14 = cc in let y : ⊥ = omega arith in absurd y
 
@@ -48,16 +49,16 @@ module _ (es : List Entry) (free room : ℕ) (w : List ℕ) where
   pub not-full : lookup es w ≡ none → ((place : ℕ) → addOf (book es free) room w ≡ refuses 14 place → ⊥)
       → (start : ℕ) × (tidies : ℕ) × (addOf (book es free) room w ≡ accepts-both start tidies)
   unfolding pick
-  not-full n f = go (leb (liveLength es + (7 + length w)) room) refl (leb (free + (7 + length w)) room) refl
+  not-full n f = go (leb (liveLength es + (headSize + length w)) room) refl (leb (free + (headSize + length w)) room) refl
     where
-      looked : addOf (book es free) room w ≡ placing es free room (7 + length w)
-      looked = ap (λ (o : Option Entry). addOfEntry o (placing es free room (7 + length w))) n
+      looked : addOf (book es free) room w ≡ placing es free room (headSize + length w)
+      looked = ap (λ (o : Option Entry). addOfEntry o (placing es free room (headSize + length w))) n
 
-      at : (t u : Bool) → leb (liveLength es + (7 + length w)) room ≡ t → leb (free + (7 + length w)) room ≡ u
+      at : (t u : Bool) → leb (liveLength es + (headSize + length w)) room ≡ t → leb (free + (headSize + length w)) room ≡ u
           → addOf (book es free) room w ≡ pick t (pick u (puts free) (tidiesAndPuts (liveLength es))) (refuses 14 (liveLength es))
       at t u p q = looked ∙ (λ i. pick (p i) (pick (q i) (puts free) (tidiesAndPuts (liveLength es))) (refuses 14 (liveLength es)))
 
-      go : (t : Bool) → leb (liveLength es + (7 + length w)) room ≡ t → (u : Bool) → leb (free + (7 + length w)) room ≡ u
+      go : (t : Bool) → leb (liveLength es + (headSize + length w)) room ≡ t → (u : Bool) → leb (free + (headSize + length w)) room ≡ u
           → (start : ℕ) × (tidies : ℕ) × (addOf (book es free) room w ≡ accepts-both start tidies)
       go true p true q = (free, 0, at true true p q)
       go true p false q = (liveLength es, 1, at true false p q)

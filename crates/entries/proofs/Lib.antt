@@ -17,3 +17,4 @@ pub mod Freed
 pub mod Full
 pub mod AnswersTidied
 pub mod Passed
+pub mod Narrowed

@@ -10,6 +10,7 @@ use lib.ListN.{length, getD, length-append}
 use Rattle.letters.specs.Choice.{pick}
 use Rattle.formula.specs.Lists.{filtered}
 use Rattle.formula.proofs.Filtered.{filtered-append}
+use Rattle.entries.specs.Limits.{headSize}
 use Rattle.entries.specs.Entries.{Entry}
 use Rattle.entries.specs.Book.{recordBytes, records, size, endOf, IsBook, Opened}
 use Rattle.entries.specs.Map.{liveOnes}
@@ -47,7 +48,7 @@ module _ (b : List ℕ) (seen : List Entry) (at free live : ℕ) (p : Passed b s
   passed-all h list k = only b list (p .list) k (p .walk .is-book) ∙ walk-seen b at free (p .list) seen (p .rest) (p .walk) h
 
   module _ (t : Turn b at free (p .list) seen (p .rest)) where
-    pub turn-size : size (t .entry) ≡ 7 + getD b (at + 2) 0
+    pub turn-size : size (t .entry) ≡ headSize + getD b (at + 2) 0
     turn-size = omega (arith, ap (λ (e : Entry). length (e .word)) (t .stands .is), length-word b at (t .stands .frame .room))
 
     turn-live : (live-is : Bool) → eqb (getD b (at + 1) 0) 0x57 ≡ live-is → t .entry .live ≡ live-is
@@ -61,7 +62,7 @@ module _ (b : List ℕ) (seen : List Entry) (at free live : ℕ) (p : Passed b s
         filtered-append _ seen (t .entry ∷ []) ∙ ap (λ (u : Bool). liveOnes seen ++ pick u (t .entry ∷ []) []) (turn-live live-is e)
 
     abbrev pub sizeLive : Bool → ℕ
-    sizeLive true = 7 + getD b (at + 2) 0
+    sizeLive true = headSize + getD b (at + 2) 0
     sizeLive false = 0
 
     length-next : (live-is : Bool) → length (records (pick live-is (t .entry ∷ []) [])) ≡ sizeLive live-is
@@ -70,10 +71,10 @@ module _ (b : List ℕ) (seen : List Entry) (at free live : ℕ) (p : Passed b s
     length-next false = refl
 
     -- the record at the place is passed
-    pub passed-next : (live-is : Bool) → eqb (getD b (at + 1) 0) 0x57 ≡ live-is → (next more : ℕ) → next ≡ at + (7 + getD b (at + 2) 0)
+    pub passed-next : (live-is : Bool) → eqb (getD b (at + 1) 0) 0x57 ≡ live-is → (next more : ℕ) → next ≡ at + (headSize + getD b (at + 2) 0)
         → more ≡ live + sizeLive live-is → Passed b (seen ++ (t .entry ∷ [])) next free more
     passed-next live-is e next more there counted =
-        let place : at + 7 + getD b (at + 2) 0 ≡ next = omega arith in
+        let place : at + headSize + getD b (at + 2) 0 ≡ next = omega arith in
         record {
           list = p .list;
           rest = t .behind;

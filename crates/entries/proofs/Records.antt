@@ -13,7 +13,8 @@ use lib.Seq.{getD-drop, drop-drop, length-take-le, take-at, drop-at}
 use Rattle.letters.proofs.Tests.{or-cases}
 use Rattle.formula.specs.Limits.{limit}
 use Rattle.formula.proofs.Lists.{both, both-left, both-right}
-use Rattle.entries.specs.Entries.{Entry, valueOf, number, wordAt, entryAt, isFramed}
+use Rattle.entries.specs.Limits.{headSize}
+use Rattle.entries.specs.Entries.{Entry, valueOf, number, wordAt, entryAt, isFramed, isFramedWithin}
 use Rattle.entries.specs.Book.{byteOf, markOf, numberBytes, recordBytes, records, size, endOf}
 use Rattle.entries.proofs.Bytes.{Bytes, byte-value, value-byte}
 
@@ -23,13 +24,13 @@ pub record Framed (b : List ℕ) (at : ℕ) : Type 0 where
   pub mark : (getD b (at + 1) 0 ≡ 0x57) ⊎ (getD b (at + 1) 0 ≡ 0x2D)
   pub some : 1 ≤ getD b (at + 2) 0
   pub short : getD b (at + 2) 0 ≤ limit
-  pub room : at + 7 + getD b (at + 2) 0 ≤ length b
+  pub room : at + headSize + getD b (at + 2) 0 ≤ length b
 
 mark-of : (m : ℕ) → T (eqb m 0x57 || eqb m 0x2D) → (m ≡ 0x57) ⊎ (m ≡ 0x2D)
 mark-of m t = ⊎-elim (λ u. inl (eqb→eq m 0x57 u)) (λ u. inr (eqb→eq m 0x2D u)) (or-cases (eqb m 0x57) (eqb m 0x2D) t)
 
 pub framed-true : (b : List ℕ) (at : ℕ) → T (isFramed b at) → Framed b at
-unfolding isFramed
+unfolding isFramedWithin
 framed-true b at t =
     let n = getD b (at + 2) 0 in
     let marked = both-right (eqb (getD b at 0) 0x4D) _ t in
@@ -40,7 +41,7 @@ framed-true b at t =
       mark = mark-of (getD b (at + 1) 0) (both-left (eqb (getD b (at + 1) 0) 0x57 || eqb (getD b (at + 1) 0) 0x2D) _ marked);
       some = leb→le 1 n (both-left (leb 1 n) _ counted);
       short = leb→le n limit (both-left (leb n limit) _ bounded);
-      room = leb→le (at + 7 + n) (length b) (both-right (leb n limit) _ bounded);
+      room = leb→le (at + headSize + n) (length b) (both-right (leb n limit) _ bounded);
     }
 
 mark-test : (m : ℕ) → (m ≡ 0x57) ⊎ (m ≡ 0x2D) → T (eqb m 0x57 || eqb m 0x2D)
@@ -48,13 +49,13 @@ mark-test m (inl e) = subst (λ (x : ℕ). T (eqb x 0x57 || eqb x 0x2D)) (sym e)
 mark-test m (inr e) = subst (λ (x : ℕ). T (eqb x 0x57 || eqb x 0x2D)) (sym e) tt
 
 pub framed-is : (b : List ℕ) (at : ℕ) → Framed b at → T (isFramed b at)
-unfolding isFramed
+unfolding isFramedWithin
 framed-is b at f =
     let n = getD b (at + 2) 0 in
     both (eqb (getD b at 0) 0x4D) _ (subst (λ (x : ℕ). T (eqb x 0x4D)) (sym (f .first)) tt)
     (both (eqb (getD b (at + 1) 0) 0x57 || eqb (getD b (at + 1) 0) 0x2D) _ (mark-test (getD b (at + 1) 0) (f .mark))
     (both (leb 1 n) _ (le→leb 1 n (f .some))
-    (both (leb n limit) _ (le→leb n limit (f .short)) (le→leb (at + 7 + n) (length b) (f .room)))))
+    (both (leb n limit) _ (le→leb n limit (f .short)) (le→leb (at + headSize + n) (length b) (f .room)))))
 
 mark-is : (m : ℕ) → (m ≡ 0x57) ⊎ (m ≡ 0x2D) → markOf (eqb m 0x57) ≡ m
 mark-is m (inl e) = subst (λ (x : ℕ). markOf (eqb x 0x57) ≡ x) (sym e) refl
@@ -91,26 +92,26 @@ seven (a ∷ b ∷ c ∷ d ∷ e ∷ []) h = let z : ⊥ = omega arith in absurd
 seven (a ∷ b ∷ c ∷ d ∷ e ∷ f ∷ []) h = let z : ⊥ = omega arith in absurd z
 seven (a ∷ b ∷ c ∷ d ∷ e ∷ f ∷ g ∷ l) h = refl
 
-pub length-word : (b : List ℕ) (at : ℕ) → at + 7 + getD b (at + 2) 0 ≤ length b → length (wordAt b at) ≡ getD b (at + 2) 0
+pub length-word : (b : List ℕ) (at : ℕ) → at + headSize + getD b (at + 2) 0 ≤ length b → length (wordAt b at) ≡ getD b (at + 2) 0
 length-word b at h =
-    let d : getD b (at + 2) 0 ≤ length (drop (at + 7) b) = omega (arith, length-drop (at + 7) b) in
-    length-map (take (getD b (at + 2) 0) (drop (at + 7) b)) valueOf ∙ length-take-le (getD b (at + 2) 0) (drop (at + 7) b) d
+    let d : getD b (at + 2) 0 ≤ length (drop (at + headSize) b) = omega (arith, length-drop (at + headSize) b) in
+    length-map (take (getD b (at + 2) 0) (drop (at + headSize) b)) valueOf ∙ length-take-le (getD b (at + 2) 0) (drop (at + headSize) b) d
 
 -- a record, cut off the buffer
 pub cut : (b : List ℕ) (at : ℕ) → Bytes b → Framed b at
-    → drop at b ≡ recordBytes (entryAt b at) ++ drop (at + 7 + getD b (at + 2) 0) b
+    → drop at b ≡ recordBytes (entryAt b at) ++ drop (at + headSize + getD b (at + 2) 0) b
 unfolding recordBytes
 cut b at small f =
     let n = getD b (at + 2) 0 in
     let long : 7 ≤ length (drop at b) = omega (arith, length-drop at b, f .room) in
-    let word : map byteOf (wordAt b at) ++ drop (at + 7 + n) b ≡ drop (at + 7) b =
-    ap (λ (l : List ℕ). l ++ drop (at + 7 + n) b) (byte-value (take n (drop (at + 7) b)))
-    ∙ ap (λ (l : List ℕ). take n (drop (at + 7) b) ++ l) (sym (drop-drop n (at + 7) b)) ∙ take-append-drop n (drop (at + 7) b) in
+    let word : map byteOf (wordAt b at) ++ drop (at + headSize + n) b ≡ drop (at + headSize) b =
+    ap (λ (l : List ℕ). l ++ drop (at + headSize + n) b) (byte-value (take n (drop (at + headSize) b)))
+    ∙ ap (λ (l : List ℕ). take n (drop (at + headSize) b) ++ l) (sym (drop-drop n (at + headSize) b)) ∙ take-append-drop n (drop (at + headSize) b) in
     let first : getD (drop at b) 0 0 ≡ 0x4D = getD-drop at b 0 0 ∙ ap (λ (k : ℕ). getD b k 0) (add-zero at) ∙ f .first in
-    let right : recordBytes (entryAt b at) ++ drop (at + 7 + n) b
-    ≡ 0x4D ∷ getD b (at + 1) 0 ∷ n ∷ getD b (at + 3) 0 ∷ getD b (at + 4) 0 ∷ getD b (at + 5) 0 ∷ getD b (at + 6) 0 ∷ drop (at + 7) b =
+    let right : recordBytes (entryAt b at) ++ drop (at + headSize + n) b
+    ≡ 0x4D ∷ getD b (at + 1) 0 ∷ n ∷ getD b (at + 3) 0 ∷ getD b (at + 4) 0 ∷ getD b (at + 5) 0 ∷ getD b (at + 6) 0 ∷ drop (at + headSize) b =
     rw (mark-is (getD b (at + 1) 0) (f .mark), length-word b at (f .room))
-    (ap (λ (l : List ℕ). 0x4D ∷ getD b (at + 1) 0 ∷ n ∷ (l ++ drop (at + 7 + n) b))
+    (ap (λ (l : List ℕ). 0x4D ∷ getD b (at + 1) 0 ∷ n ∷ (l ++ drop (at + headSize + n) b))
     (number-bytes (getD b (at + 3) 0) (getD b (at + 4) 0) (getD b (at + 5) 0) (getD b (at + 6) 0) (map byteOf (wordAt b at))
     (small (at + 3)) (small (at + 4)) (small (at + 5)) (small (at + 6)))
     ∙ ap (λ (l : List ℕ). 0x4D ∷ getD b (at + 1) 0 ∷ n ∷ getD b (at + 3) 0 ∷ getD b (at + 4) 0 ∷ getD b (at + 5) 0 ∷ getD b (at + 6) 0 ∷ l) word) in
@@ -131,7 +132,7 @@ pub record Read (b : List ℕ) (at : ℕ) (e : Entry) (rest : List ℕ) : Type 0
   pub frame : Framed b at
   pub entry : entryAt b at ≡ e
   pub count : getD b (at + 2) 0 ≡ length (e .word)
-  pub left : drop (at + 7 + getD b (at + 2) 0) b ≡ rest
+  pub left : drop (at + headSize + getD b (at + 2) 0) b ≡ rest
 
 pub read-back : (b : List ℕ) (at : ℕ) (e : Entry) (rest : List ℕ) → drop at b ≡ recordBytes e ++ rest → e .start ≡ at
     → 1 ≤ length (e .word) → length (e .word) ≤ limit → e .stock < 4294967296 → ((k : ℕ) → k < length (e .word) → 0x1000 ≤ getD (e .word) k 0) → Read b at e rest
@@ -143,8 +144,8 @@ read-back b at e rest q st some short fits values =
     let first : getD b at 0 ≡ 0x4D = ap (λ (k : ℕ). getD b k 0) (sym (add-zero at)) ∙ g 0 in
     let mark : getD b (at + 1) 0 ≡ markOf (e .live) = g 1 in
     let count : getD b (at + 2) 0 ≡ length w = g 2 in
-    let behind : drop (at + 7) b ≡ map byteOf w ++ rest = sym (drop-drop 7 at b) ∙ ap (drop 7) q in
-    let long : length b - at ≡ 7 + (length w + length rest) =
+    let behind : drop (at + headSize) b ≡ map byteOf w ++ rest = sym (drop-drop headSize at b) ∙ ap (drop headSize) q in
+    let long : length b - at ≡ headSize + (length w + length rest) =
     sym (length-drop at b) ∙ ap length q ∙ ap (λ (n : ℕ). suc (suc (suc (suc (suc (suc (suc n))))))) (length-append (map byteOf w) rest ∙ ap (λ (n : ℕ). n + length rest) (length-map w byteOf)) ∙ omega arith in
     let front : take (length w) (map byteOf w ++ rest) ≡ map byteOf w = take-at (map byteOf w) rest (length w) (length-map w byteOf) in
     let behind-word : drop (length w) (map byteOf w ++ rest) ≡ rest = drop-at (map byteOf w) rest (length w) (length-map w byteOf) in
@@ -164,7 +165,7 @@ read-back b at e rest q st some short fits values =
           };
       entry = λ i. record { start = sym st i; live = live i; stock = stock i; word = word i };
       count = count;
-      left = sym (drop-drop (getD b (at + 2) 0) (at + 7) b) ∙ (λ i. drop (count i) (behind i)) ∙ behind-word;
+      left = sym (drop-drop (getD b (at + 2) 0) (at + headSize) b) ∙ (λ i. drop (count i) (behind i)) ∙ behind-word;
     }
 
 pub records-append : (es fs : List Entry) → records (es ++ fs) ≡ records es ++ records fs

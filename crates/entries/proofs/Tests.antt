@@ -7,12 +7,12 @@ use Prim.Native.Nat.{ℕ}
 use lib.Dec.{T}
 use Rattle.letters.proofs.Tests.{is-true}
 use Rattle.recogniser.specs.Answer.{Readable, RowTest}
-use Rattle.entries.specs.Readable.{decided, isReadable}
+use Rattle.entries.specs.Readable.{decided, isReadableWithin, isReadable}
 use Rattle.recogniser.proofs.Decided.{decide}
 
 -- the test for readable words decides
 pub readable-test : (word : List ℕ) → RowTest word (isReadable word)
-unfolding isReadable
+unfolding isReadableWithin
 readable-test word = go (decide word)
   where
     go : (d : Dec (Readable word)) → RowTest word (decided d)

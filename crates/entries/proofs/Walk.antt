@@ -6,6 +6,7 @@ use Prim.Native.Nat.{ℕ, _+_, _≤_, _<_}
 use native.Mathlib.Omega.{arith}
 use lib.ListN.{length, getD, drop, length-append}
 use lib.Seq.{append-snoc}
+use Rattle.entries.specs.Limits.{headSize}
 use Rattle.entries.specs.Entries.{Entry, entryAt}
 use Rattle.entries.specs.Book.{zeros, recordBytes, records, size, endOf, GoodEntry, GoodAfter, IsBook, Opened}
 use Rattle.entries.proofs.Records.{Framed, Read, end-length}
@@ -36,7 +37,7 @@ pub record Here (b : List ℕ) (at free : ℕ) (list seen : List Entry) (entry :
   pub frame : Framed b at
   pub is : entryAt b at ≡ entry
   pub good : GoodEntry entry
-  pub next : Walk b (at + 7 + getD b (at + 2) 0) free list (seen ++ (entry ∷ [])) behind
+  pub next : Walk b (at + headSize + getD b (at + 2) 0) free list (seen ++ (entry ∷ [])) behind
 
 pub here : (b : List ℕ) (at free : ℕ) (list seen : List Entry) (x : Entry) (rest : List Entry) → Walk b at free list seen (x ∷ rest)
     → Here b at free list seen x rest
@@ -44,7 +45,7 @@ here b at free list seen x rest w =
     let g = w .good in
     let left : List ℕ = records rest ++ zeros (w .pad) in
     let r : Read b at x left = read-good b at x left (w .bytes ∙ append-assoc (recordBytes x) (records rest) (zeros (w .pad))) (g .0) (g .1) in
-    let place : at + 7 + getD b (at + 2) 0 ≡ at + size x = omega (arith, r .count) in
+    let place : at + headSize + getD b (at + 2) 0 ≡ at + size x = omega (arith, r .count) in
     record {
       frame = r .frame;
       is = r .entry;

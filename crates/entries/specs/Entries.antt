@@ -10,7 +10,7 @@ use Rattle.letters.specs.Choice.{pick}
 use Rattle.formula.specs.Limits.{limit}
 use Rattle.formula.specs.Lists.{sameList}
 use Rattle.entries.specs.Limits.{bookLimit, headSize}
-use Rattle.entries.specs.Readable.{isReadable}
+use Rattle.entries.specs.Readable.{isReadableWithin}
 
 -- a record: where it starts, whether it is live, its stock number, its word
 pub record Entry : Type 0 where
@@ -43,10 +43,13 @@ entryAt bytes at =
 
 -- "Each record starts with the two bytes 4D 57 (hexadecimal); a removed one starts with 4D 2D. Then come the count n of code values (one
 -- byte, 1 to 64)", and the record ends within the buffer. Past the end of the buffer `getD` gives 0, so a cut record fails at one of these.
-unfoldable pub isFramed : List ℕ → ℕ → Bool
-isFramed bytes at =
+unfoldable pub isFramedWithin : ℕ → List ℕ → ℕ → Bool
+isFramedWithin most bytes at =
     eqb (getD bytes at 0) 0x4D && ((eqb (getD bytes (at + 1) 0) 0x57 || eqb (getD bytes (at + 1) 0) 0x2D)
-    && (leb 1 (getD bytes (at + 2) 0) && (leb (getD bytes (at + 2) 0) limit && leb (at + headSize + getD bytes (at + 2) 0) (length bytes))))
+    && (leb 1 (getD bytes (at + 2) 0) && (leb (getD bytes (at + 2) 0) most && leb (at + headSize + getD bytes (at + 2) 0) (length bytes))))
+
+abbrev pub isFramed : List ℕ → ℕ → Bool
+isFramed bytes at = isFramedWithin limit bytes at
 
 -- some live entry has the word
 unfoldable pub holds : List Entry → List ℕ → Bool
@@ -58,8 +61,11 @@ unfoldable pub isFresh : List Entry → Entry → Bool
 isFresh seen entry = not (entry .live && holds seen (entry .word))
 
 -- "Every record's word, removed ones included, is in storage order and readable; no two live records have the same word."
-unfoldable pub mayFollow : List Entry → Entry → Bool
-mayFollow seen entry = isReadable (entry .word) && isFresh seen entry
+unfoldable pub mayFollowWithin : ℕ → List Entry → Entry → Bool
+mayFollowWithin most seen entry = isReadableWithin most (entry .word) && isFresh seen entry
+
+abbrev pub mayFollow : List Entry → Entry → Bool
+mayFollow seen entry = mayFollowWithin limit seen entry
 
 -- the entries and the first free byte, or the first wrong place
 pub data Entries : Type 0 where
@@ -73,15 +79,22 @@ zeroTail (byte ∷ bytes) place given = pick (eqb byte 0) (zeroTail bytes (suc p
 
 -- the records from `at` on, behind those that are read; `fuel` bounds how many there are. "The records end at the first zero byte that
 -- stands where a record would begin, or at the buffer's end"
-unfoldable pub entriesFrom : ℕ → List ℕ → ℕ → List Entry → Entries
-entriesFrom zero bytes at seen = wrong at
-entriesFrom (suc fuel) bytes at seen =
-    pick (eqb (getD bytes at 0) 0)
-    (zeroTail (drop at bytes) at (book seen at))
-    (pick (isFramed bytes at && mayFollow seen (entryAt bytes at))
-    (entriesFrom fuel bytes (at + headSize + getD bytes (at + 2) 0) (seen ++ (entryAt bytes at ∷ [])))
-    (wrong at))
+module _ (most : ℕ) where
+  unfoldable pub entriesFromWithin : ℕ → List ℕ → ℕ → List Entry → Entries
+  entriesFromWithin zero bytes at seen = wrong at
+  entriesFromWithin (suc fuel) bytes at seen =
+      pick (eqb (getD bytes at 0) 0)
+      (zeroTail (drop at bytes) at (book seen at))
+      (pick (isFramedWithin most bytes at && mayFollowWithin most seen (entryAt bytes at))
+      (entriesFromWithin fuel bytes (at + headSize + getD bytes (at + 2) 0) (seen ++ (entryAt bytes at ∷ [])))
+      (wrong at))
+
+abbrev pub entriesFrom : ℕ → List ℕ → ℕ → List Entry → Entries
+entriesFrom fuel bytes at seen = entriesFromWithin limit fuel bytes at seen
 
 -- "In 11 an overlong buffer is tested first", and its place is 16,384; a buffer has fewer records than bytes
-unfoldable pub entries : List ℕ → Entries
-entries bytes = pick (leb (length bytes) bookLimit) (entriesFrom (suc (length bytes)) bytes 0 []) (wrong bookLimit)
+unfoldable pub entriesWithin : ℕ → List ℕ → Entries
+entriesWithin most bytes = pick (leb (length bytes) bookLimit) (entriesFromWithin most (suc (length bytes)) bytes 0 []) (wrong bookLimit)
+
+abbrev pub entries : List ℕ → Entries
+entries bytes = entriesWithin limit bytes

@@ -3,12 +3,16 @@
 use mathlib.Core.Bool.{Bool, true, false}
 use mathlib.Core.List.{List}
 use Prim.Native.Nat.{ℕ}
-use Rattle.recogniser.proofs.Decided.{decide}
+use Rattle.formula.specs.Limits.{limit}
+use Rattle.recogniser.proofs.Decided.{decideWithin}
 
 abbrev pub decided : {A : Type 0} → Dec A → Bool
 decided (yes a) = true
 decided (no n) = false
 
 -- document 01: "is in storage order and readable"; a readable word is in storage order
-unfoldable pub isReadable : List ℕ → Bool
-isReadable word = decided (decide word)
+unfoldable pub isReadableWithin : ℕ → List ℕ → Bool
+isReadableWithin most word = decided (decideWithin most word)
+
+abbrev pub isReadable : List ℕ → Bool
+isReadable word = isReadableWithin limit word

@@ -9,6 +9,7 @@ use lib.ListN.{getD}
 use Rattle.letters.specs.Choice.{pick}
 use Rattle.letters.proofs.Tests.{pick-true, pick-false}
 use Rattle.formula.proofs.Lists.{sameList}
+use Rattle.entries.specs.Limits.{headSize}
 use Rattle.entries.specs.Entries.{Entry, entryAt, Entries, book, entries}
 use Rattle.entries.specs.Book.{IsBook, Opened}
 use Rattle.entries.specs.Map.{lookup}
@@ -48,7 +49,7 @@ module _ {test : Entry → Bool} {search : List Entry → Option Entry} (s : Sea
     pub hit : test (entryAt b at) ≡ true → search (a .list) ≡ some (entryAt b at)
     hit e = ahead-finds ∙ pick-true (test (entryAt b at)) _ _ e
 
-    pub miss : test (entryAt b at) ≡ false → Ahead search b (at + 7 + getD b (at + 2) 0) free
+    pub miss : test (entryAt b at) ≡ false → Ahead search b (at + headSize + getD b (at + 2) 0) free
     miss e =
         record {
           list = a .list;

@@ -11,6 +11,7 @@ use lib.Dec.{leb}
 use lib.ListN.{length}
 use Rattle.letters.specs.Choice.{pick}
 use Rattle.refusals.specs.Outcome.{Outcome, accepts, refuses}
+use Rattle.entries.specs.Limits.{headSize}
 use Rattle.entries.specs.Entries.{Entry, Entries, book, wrong, entries}
 use Rattle.entries.specs.Book.{endOf, IsBook}
 use Rattle.entries.specs.Map.{lookup}
@@ -57,11 +58,11 @@ remove-by (book es f) w = go (lookup es w)
     go none = refl
     go (some x) = refl
 
-pub add-by : (e : Entries) (room : ℕ) (w : List ℕ) → addBy (lookOf e w) (placedIn e room (7 + length w)) ≡ addOf e room w
+pub add-by : (e : Entries) (room : ℕ) (w : List ℕ) → addBy (lookOf e w) (placedIn e room (headSize + length w)) ≡ addOf e room w
 add-by (wrong p) room w = refl
 add-by (book es f) room w = go (lookup es w)
   where
-    go : (o : Option Entry) → addBy (lookOfEntry o f (liveLength es)) (placing es f room (7 + length w)) ≡ addOfEntry o (placing es f room (7 + length w))
+    go : (o : Option Entry) → addBy (lookOfEntry o f (liveLength es)) (placing es f room (headSize + length w)) ≡ addOfEntry o (placing es f room (headSize + length w))
     go none = refl
     go (some x) = refl
 

@@ -11,6 +11,7 @@ use lib.Seq.{take-at}
 use Rattle.refusals.specs.Outcome.{Outcome, refuses}
 use Rattle.refusals.specs.Output.{Puts, too-short}
 use Rattle.refusals.proofs.Putting.{puts-writes, puts-room}
+use Rattle.entries.specs.Limits.{headSize}
 use Rattle.entries.specs.Entries.{Entry, entryAt, Entries, entries}
 use Rattle.entries.specs.Book.{size, endOf, GoodAfter, Opened}
 use Rattle.entries.specs.Map.{liveCount}
@@ -71,7 +72,7 @@ module _ {bytes : List ℕ} {live free : ℕ} (o : Opened bytes free) (answer : 
         ∙ ap (λ (x : Option Entry). rankOfEntry x (liveCount (o .list)))
         (entry-there bytes (o .list) (o .is-book) number after live live-is long front (omega (arith, live-is))))
 
-    pub start-within : getD after number 0 + 7 ≤ length bytes
+    pub start-within : getD after number 0 + headSize ≤ length bytes
     start-within =
         let r = rank-below bytes (o .list) (o .is-book) number (omega (arith, live-is)) in
         let same : finds (getD after number 0) (entryAt bytes (getD after number 0) .stock) ≡ finds (r .entry .start) (r .entry .stock) = found-there ∙ r .found in

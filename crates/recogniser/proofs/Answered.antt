@@ -18,7 +18,7 @@ use Rattle.rows.specs.Machine.{endOf, run}
 use Rattle.rows.proofs.Sound.{sound}
 use Rattle.rows.proofs.Admitted.{run-admitted}
 use Rattle.rows.proofs.Viable.{read-back, only-row, unfinished, alive, stops, longest}
-use Rattle.recogniser.specs.Answer.{AdmissibleWithin, Admissible, RefusedWithin, RefusedWith, too-long, foreign, no-continuation, unfinished as open-end, ReadsWithin, Reads, Readable}
+use Rattle.recogniser.specs.Answer.{AdmissibleWithin, Admissible, RefusedWithin, RefusedWith, too-long, foreign, no-continuation, unfinished as open-end, ReadsWithin, Reads, ReadableWithin, Readable}
 use Rattle.recogniser.specs.Concluded.{AdmittedTo, Halted}
 
 -- whether a test of the row's last final passes
@@ -103,7 +103,7 @@ row-reads row word g short =
     }
 
 -- a word that is read is a row, of however many syllables
-pub reads-readable : (word : List ℕ) (n : ℕ) → Reads word n → Readable word
+pub reads-readable : {most : ℕ} (word : List ℕ) (n : ℕ) → ReadsWithin most word n → ReadableWithin most word
 reads-readable word n r = record { admissible = r .admissible; row = r .row; gives = r .gives; only = r .only }
 
 -- a refused word of admitted values within the limit is given by no row

@@ -62,11 +62,14 @@ abbrev pub Answers : List ℕ → Outcome → Type 0
 Answers word outcome = AnswersWithin limit word outcome
 
 -- some row gives the word, and only one
-pub record Readable (word : List ℕ) : Type 0 where
-  pub admissible : Admissible word
+pub record ReadableWithin (most : ℕ) (word : List ℕ) : Type 0 where
+  pub admissible : AdmissibleWithin most word
   pub row : Row
   pub gives : Gives row word
   pub only : (other : Row) → Gives other word → other ≡ row
+
+abbrev pub Readable : List ℕ → Type 0
+Readable word = ReadableWithin limit word
 
 -- the promise of a test for rows
 abbrev pub RowTest : List ℕ → Bool → Type 0

@@ -12,6 +12,7 @@ use lib.Seq.{sets, sets-eq, length-sets, getD-drop, drop-drop, length-take-le, t
 use Rattle.memory.proofs.Stores.{sets-behind}
 use Rattle.letters.specs.Choice.{pick}
 use Rattle.formula.specs.Lists.{filtered}
+use Rattle.entries.specs.Limits.{headSize}
 use Rattle.entries.specs.Entries.{Entry}
 use Rattle.entries.specs.Book.{zeros, recordBytes, records, Opened}
 use Rattle.entries.specs.Map.{liveOnes}
@@ -48,21 +49,21 @@ module _ (b : List ℕ) (free : ℕ) (a : List ℕ) (at kept : ℕ) (c : Closing
 
   module _ (t : Turn b at free (c .passed .list) (c .seen) (c .passed .rest)) where
     -- the record at the place
-    part-is : take (7 + getD b (at + 2) 0) (drop at a) ≡ recordBytes (t .entry)
+    part-is : take (headSize + getD b (at + 2) 0) (drop at a) ≡ recordBytes (t .entry)
     part-is =
         let w = c .passed .walk in
         let left : List ℕ = records (t .behind) ++ zeros (w .pad) in
-        ap (take (7 + getD b (at + 2) 0))
+        ap (take (headSize + getD b (at + 2) 0))
         (c .ahead ∙ w .bytes ∙ ap (λ (l : List Entry). records l ++ zeros (w .pad)) (t .first) ∙ append-assoc (recordBytes (t .entry)) (records (t .behind)) (zeros (w .pad)))
-        ∙ take-at (recordBytes (t .entry)) left (7 + getD b (at + 2) 0) (length-record (t .entry) ∙ turn-size b (c .seen) at free kept (c .passed) t)
+        ∙ take-at (recordBytes (t .entry)) left (headSize + getD b (at + 2) 0) (length-record (t .entry) ∙ turn-size b (c .seen) at free kept (c .passed) t)
 
-    ahead-next : (next : ℕ) → next ≡ at + (7 + getD b (at + 2) 0) → drop next a ≡ drop next b
+    ahead-next : (next : ℕ) → next ≡ at + (headSize + getD b (at + 2) 0) → drop next a ≡ drop next b
     ahead-next next e =
-        ap (λ (k : ℕ). drop k a) e ∙ sym (drop-drop (7 + getD b (at + 2) 0) at a) ∙ ap (drop (7 + getD b (at + 2) 0)) (c .ahead)
-        ∙ drop-drop (7 + getD b (at + 2) 0) at b ∙ ap (λ (k : ℕ). drop k b) (sym e)
+        ap (λ (k : ℕ). drop k a) e ∙ sym (drop-drop (headSize + getD b (at + 2) 0) at a) ∙ ap (drop (headSize + getD b (at + 2) 0)) (c .ahead)
+        ∙ drop-drop (headSize + getD b (at + 2) 0) at b ∙ ap (λ (k : ℕ). drop k b) (sym e)
 
     -- a removed record is passed
-    pub closing-removed : eqb (getD b (at + 1) 0) 0x57 ≡ false → (next same : ℕ) → next ≡ at + (7 + getD b (at + 2) 0) → same ≡ kept
+    pub closing-removed : eqb (getD b (at + 1) 0) 0x57 ≡ false → (next same : ℕ) → next ≡ at + (headSize + getD b (at + 2) 0) → same ≡ kept
         → (left : List ℕ) → left ≡ a → Closing b free left next same
     unfolding pick
     closing-removed e next same there counted left is =
@@ -77,11 +78,11 @@ module _ (b : List ℕ) (free : ℕ) (a : List ℕ) (at kept : ℕ) (c : Closing
         }
 
     -- a live record is moved behind those that are kept
-    pub closing-live : eqb (getD b (at + 1) 0) 0x57 ≡ true → (next more : ℕ) → next ≡ at + (7 + getD b (at + 2) 0) → more ≡ kept + (7 + getD b (at + 2) 0)
-        → (moved : List ℕ) → moved ≡ sets a kept (take (7 + getD b (at + 2) 0) (drop at a)) → Closing b free moved next more
+    pub closing-live : eqb (getD b (at + 1) 0) 0x57 ≡ true → (next more : ℕ) → next ≡ at + (headSize + getD b (at + 2) 0) → more ≡ kept + (headSize + getD b (at + 2) 0)
+        → (moved : List ℕ) → moved ≡ sets a kept (take (headSize + getD b (at + 2) 0) (drop at a)) → Closing b free moved next more
     unfolding pick
     closing-live e next more there counted moved is =
-        let size-is : ℕ = 7 + getD b (at + 2) 0 in
+        let size-is : ℕ = headSize + getD b (at + 2) 0 in
         let part : List ℕ = take size-is (drop at a) in
         let room : at + size-is ≤ length a = omega (arith, t .stands .frame .room, c .long) in
         let part-long : length part ≡ size-is = length-take-le size-is (drop at a) (omega (arith, length-drop at a)) in

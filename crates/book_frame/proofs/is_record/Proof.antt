@@ -12,6 +12,7 @@ use lib.Seq.{length-take-le}
 use denote.Ref.{now}
 use Rattle.letters.proofs.Tests.{of-true}
 use Rattle.recogniser.specs.Answer.{RowTest}
+use Rattle.entries.specs.Limits.{headSize}
 use Rattle.entries.specs.Readable.{isReadable}
 use Rattle.entries.specs.Entries.{valueOf, wordAt, isFramed}
 use Rattle.entries.proofs.Tests.{readable-test, tests-agree}
@@ -70,7 +71,7 @@ returns-2 c =
     let b = now (c .before .before .before .before .before .before .before .before .args .book) in
     let at = c .before .before .before .before .before .before .before .before .args .at in
     let e : take (c .before .before .before .wide .result) (c .before .before .values-of .result) ≡ wordAt b at =
-    c .before .before .values-of .ensures .0 ∙ ap (λ (n : ℕ). map valueOf (take n (drop (at + 7) b))) (c .before .before .before .wide .ensures .0) in
+    c .before .before .values-of .ensures .0 ∙ ap (λ (n : ℕ). map valueOf (take n (drop (at + headSize) b))) (c .before .before .before .wide .ensures .0) in
     tests-agree (wordAt b at) (c .is-row .result) (isReadable (wordAt b at))
     (subst (λ (w : List ℕ). RowTest w (c .is-row .result)) e (c .is-row .ensures)) (readable-test (wordAt b at))
     ∙ ap (λ (t : Bool). t && isReadable (wordAt b at)) (sym (framed-on (c .before .before .before .before .before)))

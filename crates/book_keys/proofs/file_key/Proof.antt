@@ -10,6 +10,7 @@ use lib.Seq.{sets, length-take-le}
 use denote.Ref.{now}
 use Rattle.formula.specs.Limits.{weightCount}
 use Rattle.keying.specs.Filled.{FillRight}
+use Rattle.entries.specs.Limits.{headSize}
 use Rattle.entries.specs.Entries.{valueOf, wordAt}
 use Rattle.entries.proofs.Records.{Framed, framed-true}
 use Rattle.book_keys.specs.Filing.{rowOf}
@@ -35,7 +36,7 @@ filled c =
     let w = c .before .before .before .before in
     let v = c .before .before .before in
     let e : take (w .wide .result) (v .values-of .result) ≡ word s =
-    v .values-of .ensures .0 ∙ ap (λ (n : ℕ). map valueOf (take n (drop (s .args .at + 7) (now (s .args .book))))) (w .wide .ensures .0) in
+    v .values-of .ensures .0 ∙ ap (λ (n : ℕ). map valueOf (take n (drop (s .args .at + headSize) (now (s .args .book))))) (w .wide .ensures .0) in
     subst (λ (l : List ℕ). FillRight l (c .fill .result) (c .fill .last .1 .0)) e (c .fill .ensures)
 
 add-wide : tie.Need-add-wide

@@ -8,6 +8,7 @@ use Prim.Native.Nat.{ℕ, _+_, _-_, _<_}
 use native.Mathlib.Omega.{arith}
 use lib.ListN.{length, getD, set}
 use denote.Ref.{now}
+use Rattle.entries.specs.Limits.{headSize}
 use Rattle.entries.proofs.Records.{framed-is}
 use Rattle.entries.proofs.Walk.{Turn}
 use Rattle.book_frame.proofs.Marks.{mark-met, mark-missed}
@@ -101,7 +102,7 @@ loop-again c =
     let a = c .before .before .before .before .before .before in
     let l = a .loop in
     let t = at-turn (c .before .before .before .before .before) in
-    let e : l .at + (7 + c .wide .result) ≡ l .at + 7 + getD (bytes a) (l .at + 2) 0 = omega (arith, c .wide .ensures .0) in
+    let e : l .at + (headSize + c .wide .result) ≡ l .at + headSize + getD (bytes a) (l .at + 2) 0 = omega (arith, c .wide .ensures .0) in
     ⊎-elim
     (λ w. collect-as _ _ _ _ _ _ _ _ _ _ _ _ (w .4) (w .5) (w .6) e
     (collect-live _ _ _ _ _ _ _ _ (l .inv) t

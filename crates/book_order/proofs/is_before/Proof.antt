@@ -9,6 +9,7 @@ use lib.ListN.{length, take, drop}
 use denote.Ref.{now}
 use Rattle.formula.specs.Limits.{weightCount}
 use Rattle.weighing.specs.Order.{orderValues}
+use Rattle.entries.specs.Limits.{headSize}
 use Rattle.entries.specs.Entries.{wordAt}
 use Rattle.entries.proofs.Records.{Framed, framed-true}
 use Rattle.book_keys.specs.Filing.{rowOf, keyRoom}
@@ -147,8 +148,8 @@ returns-2 c =
     (first-count (o .before .before .before)) (second-count (o .before)) (o .order-keys .result) (o .order-keys .ensures)
     (equal .enum-told .given .1) (p .order-parts .result)
     (p .order-parts .ensures
-    ∙ (λ i. orderValues (take (p .before .before .before .wide3 .ensures .0 i) (drop (s .args .first + 7) (bytes s)))
-    (take (p .before .wide4 .ensures .0 i) (drop (s .args .second + 7) (bytes s)))))
+    ∙ (λ i. orderValues (take (p .before .before .before .wide3 .ensures .0 i) (drop (s .args .first + headSize) (bytes s)))
+    (take (p .before .wide4 .ensures .0 i) (drop (s .args .second + headSize) (bytes s)))))
     (c .is-less2 .result) (c .is-less2 .ensures)
 
 pub is-before-spec : {M : Type 1} → statement M

@@ -7,6 +7,7 @@ use Prim.Native.Nat.{_+_}
 use native.Mathlib.Omega.{arith}
 use lib.ListN.{take, drop, length-set}
 use denote.Ref.{now}
+use Rattle.entries.specs.Limits.{headSize}
 use Rattle.book_record.specs.Head.{withHead}
 use Rattle.book_record.proofs.Words.{head-stores}
 use Rattle.book_record.proofs.put_head.Statement.{statement}
@@ -84,7 +85,7 @@ returns c =
     head-stores b (a .at) 0x4D 0x57 _ _ _ _ _ (s .pre .1)
     ∙ (λ i. take (a .at) b
     ++ ((0x4D ∷ 0x57 ∷ c .before .before .before .before .count-byte .ensures i ∷ c .before .before .before .stock-byte .ensures i ∷ c .before .before .stock-byte2 .ensures i ∷ c .before .stock-byte3 .ensures i ∷ c .stock-byte4 .ensures i ∷ [])
-    ++ drop (a .at + 7) b))
+    ++ drop (a .at + headSize) b))
 
 pub put-head-spec : {M : Type 1} → statement M
 put-head-spec =

@@ -8,12 +8,13 @@ use native.Mathlib.Omega.{arith}
 use lib.ListN.{length}
 use lib.Seq.{paste}
 use denote.Ref.{now}
+use Rattle.entries.specs.Limits.{headSize}
 use Rattle.entries.specs.Book.{byteOf}
 use Rattle.book_record.proofs.Words.{written}
 use Rattle.book_record.proofs.put_record.Statement.{statement}
 use Rattle.book_record.proofs.put_record.Tie as tie
 
-room : (s : tie.Start) → s .args .start + 7 + length (now (s .args .word)) ≤ length (now (s .args .book))
+room : (s : tie.Start) → s .args .start + headSize + length (now (s .args .word)) ≤ length (now (s .args .book))
 room s = let w = s .pre .0 in omega (arith, w .room)
 
 put-head-requires : tie.Need-put-head-requires
@@ -41,7 +42,7 @@ returns c =
     let s = h .before .before .before .before in
     let a = s .args in
     w .put-word .ensures
-    ∙ ap (λ (d : List ℕ). paste d (a .start + 7) (map byteOf (now (a .word))) (length (now (a .word)))) (h .put-head .ensures)
+    ∙ ap (λ (d : List ℕ). paste d (a .start + headSize) (map byteOf (now (a .word))) (length (now (a .word)))) (h .put-head .ensures)
     ∙ written (now (a .book)) (now (a .word)) (a .start) (a .stock) (room s)
 
 pub put-record-spec : {M : Type 1} → statement M

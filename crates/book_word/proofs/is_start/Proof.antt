@@ -7,6 +7,7 @@ use native.Mathlib.Omega.{arith}
 use borrow.Author.Tests.{ne-eqb}
 use lib.ListN.{getD}
 use denote.Ref.{now}
+use Rattle.entries.specs.Limits.{headSize}
 use Rattle.entries.proofs.Walk.{Turn}
 use Rattle.lookup.proofs.Walk.{Ahead, ahead-start, at-record, miss}
 use Rattle.book_word.specs.WordAt.{entryStarting}
@@ -54,7 +55,7 @@ loop-again : tie.Need-loop-again Inv-loop μ-loop
 loop-again c =
     let a = c .before .before .before .before in
     let s = a .before .before .args in
-    let e : a .loop .at + (7 + c .wide .result) ≡ a .loop .at + 7 + getD (now (s .book)) (a .loop .at + 2) 0 = omega (arith, c .wide .ensures .0) in
+    let e : a .loop .at + (headSize + c .wide .result) ≡ a .loop .at + headSize + getD (now (s .book)) (a .loop .at + 2) 0 = omega (arith, c .wide .ensures .0) in
     subst (λ (p : ℕ). Ahead (λ l. entryStarting l (s .start)) (now (s .book)) p (s .free)) (sym e)
     (miss (starting-searches (s .start)) _ _ _ (a .loop .inv) (at-turn (c .before .before .before))
     (ne-eqb (a .loop .at) (s .start) (c .before .before .if1 .left)))

@@ -9,6 +9,7 @@ use lib.ListN.{length, getD, take, drop}
 use denote.Ref.{now}
 use Rattle.letters.proofs.Tests.{is-false}
 use Rattle.formula.proofs.Lists.{sameList, sameList-equal}
+use Rattle.entries.specs.Limits.{headSize}
 use Rattle.entries.specs.Entries.{valueOf, wordAt}
 use Rattle.entries.proofs.Records.{Framed, framed-true, length-word}
 use Rattle.lookup.proofs.has_word.Statement.{statement}
@@ -50,7 +51,7 @@ returns-2 : tie.Need-returns-2
 returns-2 c =
     let s = c .before .before .before .before .before .before in
     let count : length (now (s .args .word)) ≡ getD (bytes s) (s .args .at + 2) 0 = sym (c .before .if1 .left) ∙ c .before .before .wide .ensures .0 in
-    c .is-word .ensures ∙ ap (λ (n : ℕ). sameList (map valueOf (take n (drop (s .args .at + 7) (bytes s)))) (now (s .args .word))) count
+    c .is-word .ensures ∙ ap (λ (n : ℕ). sameList (map valueOf (take n (drop (s .args .at + headSize) (bytes s)))) (now (s .args .word))) count
 
 pub has-word-spec : {M : Type 1} → statement M
 has-word-spec =

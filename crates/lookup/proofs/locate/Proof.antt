@@ -12,6 +12,7 @@ use lib.Dec.{eqb}
 use lib.ListN.{getD}
 use denote.Ref.{now}
 use Rattle.formula.proofs.Lists.{sameList}
+use Rattle.entries.specs.Limits.{headSize}
 use Rattle.entries.specs.Entries.{Entry, wordAt}
 use Rattle.entries.specs.Map.{lookup}
 use Rattle.entries.specs.Tidy.{liveLength}
@@ -47,13 +48,13 @@ mark c =
 missed : (c : tie.After-has-mark Inv-loop μ-loop) → let w = c .before .before in let i = w .before .before in
     let at = i .before .loop .at in let s = i .before .before .before .before .args in
     eqb (getD (bytes i) (at + 1) 0) 0x57 && sameList (wordAt (bytes i) at) (now (s .word)) ≡ false
-    → Ahead (λ l. lookup l (now (s .word))) (bytes i) (at + (7 + w .wide .result)) (s .free)
+    → Ahead (λ l. lookup l (now (s .word))) (bytes i) (at + (headSize + w .wide .result)) (s .free)
 missed c e =
     let w = c .before .before in
     let i = w .before .before in
     let at = i .before .loop .at in
     let s = i .before .before .before .before .args in
-    let place : at + 7 + getD (bytes i) (at + 2) 0 ≡ at + (7 + w .wide .result) = omega (arith, w .wide .ensures .0) in
+    let place : at + headSize + getD (bytes i) (at + 2) 0 ≡ at + (headSize + w .wide .result) = omega (arith, w .wide .ensures .0) in
     subst (λ (n : ℕ). Ahead (λ l. lookup l (now (s .word))) (bytes i) n (s .free)) place
     (miss (lookup-searches (now (s .word))) _ _ _ (i .before .loop .inv .0) (at-turn i) e)
 
@@ -130,11 +131,11 @@ loop-again c =
     let p = l .inv .1 .1 in
     let u = passed-turn _ _ _ _ _ p (i .loop-test .taken) in
     let count = w .wide .ensures .0 in
-    let next = ap (λ (n : ℕ). l .at + (7 + n)) count in
+    let next = ap (λ (n : ℕ). l .at + (headSize + n)) count in
     ⊎-elim
     (λ j. (
       missed m (λ k. (mark m ∙ j .0 .taken) k && (sym (j .1 .ensures) ∙ j .2 .left) k),
-      (_, passed-next _ _ _ _ _ p u true (mark m ∙ j .0 .taken) _ _ next (j .3 ∙ ap (λ (n : ℕ). l .length + (7 + n)) count)),
+      (_, passed-next _ _ _ _ _ p u true (mark m ∙ j .0 .taken) _ _ next (j .3 ∙ ap (λ (n : ℕ). l .length + (headSize + n)) count)),
     ))
     (λ j. (
       missed m (ap (λ (live : Bool). live && sameList (wordAt (bytes i) (l .at)) word) (mark m ∙ j .0 .left)),

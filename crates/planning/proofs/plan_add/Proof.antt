@@ -6,6 +6,7 @@ use Prim.Native.Nat.{_+_}
 use native.Mathlib.Omega.{arith}
 use lib.ListN.{length}
 use denote.Ref.{now}
+use Rattle.entries.specs.Limits.{headSize}
 use Rattle.entries.specs.Entries.{Entries, entries}
 use Rattle.entries.specs.Book.{Opened}
 use Rattle.entries.specs.Outcome.{addOf}
@@ -17,11 +18,11 @@ use Rattle.planning.proofs.plan_add.Statement.{statement}
 use Rattle.planning.proofs.plan_add.Tie as tie
 
 answered : (c : tie.After-look-up) (look : Look) → c .look-up .result ≡ look → let s = c .before .before .before .args in
-    addBy look (placedIn (entries (now (s .book))) (length (now (s .book))) (7 + length (now (s .word))))
+    addBy look (placedIn (entries (now (s .book))) (length (now (s .book))) (headSize + length (now (s .word))))
     ≡ addOf (entries (now (s .book))) (length (now (s .book))) (now (s .word))
 answered c look e =
     let s = c .before .before .before .args in
-    ap (λ (l : Look). addBy l (placedIn (entries (now (s .book))) (length (now (s .book))) (7 + length (now (s .word))))) (sym e ∙ c .look-up .ensures .answer)
+    ap (λ (l : Look). addBy l (placedIn (entries (now (s .book))) (length (now (s .book))) (headSize + length (now (s .word))))) (sym e ∙ c .look-up .ensures .answer)
     ∙ add-by (entries (now (s .book))) (length (now (s .book))) (now (s .word))
 
 opened : (c : tie.After-known-told3) → Opened (now (c .before .before .before .before .before .before .args .book)) (c .before .free .given .0 .0)
@@ -66,7 +67,7 @@ returns-3 c =
     let r = c .plan-record .ensures in
     record {
       answer =
-          r .answer (o .list) (o .is-book) ∙ sym (ap (λ (x : Entries). placedIn x (length b) (7 + length (now (s .word)))) (opened-is b _ o))
+          r .answer (o .list) (o .is-book) ∙ sym (ap (λ (x : Entries). placedIn x (length b) (headSize + length (now (s .word)))) (opened-is b _ o))
           ∙ answered (k .before .before .before) _ (k .before .free .given .1);
       within = r .within;
     }

@@ -12,6 +12,7 @@ use lib.Dec.{eqb}
 use lib.ListN.{length, getD, take, drop}
 use lib.Seq.{sets}
 use denote.Ref.{now}
+use Rattle.entries.specs.Limits.{headSize}
 use Rattle.entries.proofs.Records.{end-length}
 use Rattle.entries.proofs.Walk.{Turn}
 use Rattle.entries.proofs.Passed.{mark-live}
@@ -33,7 +34,7 @@ at-turn : (c : tie.In-loop Inv-loop μ-loop) → let l = c .before .loop in let 
 at-turn c = closing-turn _ _ _ _ _ (c .before .loop .inv .0) (c .loop-test .taken)
 
 -- the place of the count stands within the bytes that are there now
-count-within : (c : tie.In-loop Inv-loop μ-loop) → c .before .loop .at + (7 + getD (bytes c) (c .before .loop .at + 2) 0) ≤ length (c .before .loop .book)
+count-within : (c : tie.In-loop Inv-loop μ-loop) → c .before .loop .at + (headSize + getD (bytes c) (c .before .loop .at + 2) 0) ≤ length (c .before .loop .book)
 count-within c = let t = at-turn c in omega (arith, t .stands .frame .room, c .before .loop .inv .0 .long)
 
 low : (c : tie.In-loop Inv-loop μ-loop) → length (c .before .loop .book) ≤ 16384
@@ -58,10 +59,10 @@ has-mark-requires : tie.Need-has-mark-requires Inv-loop μ-loop
 has-mark-requires c κs = omega (arith, count-within (c .before .before .before .before))
 
 -- the count that is read is that of the record
-size-read : (c : tie.After-wide Inv-loop μ-loop) → let i = c .before .before in 7 + c .wide .result ≡ 7 + getD (bytes i) (i .before .loop .at + 2) 0
+size-read : (c : tie.After-wide Inv-loop μ-loop) → let i = c .before .before in headSize + c .wide .result ≡ headSize + getD (bytes i) (i .before .loop .at + 2) 0
 size-read c =
     let l = c .before .before .before .loop in
-    ap (λ (n : ℕ). 7 + n) (c .wide .ensures .0 ∙ closing-read _ _ _ _ _ (l .inv .0) 2)
+    ap (λ (n : ℕ). headSize + n) (c .wide .ensures .0 ∙ closing-read _ _ _ _ _ (l .inv .0) 2)
 
 move-down-requires : tie.Need-move-down-requires Inv-loop μ-loop
 move-down-requires c κs =
@@ -100,7 +101,7 @@ loop-again c =
           (j .5 ∙ j .2 .ensures ∙ ap (λ (n : ℕ). sets (l .book) (l .kept) (take n (drop (l .at) (l .book)))) (size-read w)))
           (λ j. closing-removed _ _ _ _ _ k t (live ∙ j .0 .left) _ _ next (j .2) _ (j .1))
           (c .if1 .came),
-      omega (arith, size-read w, t .stands .next .end, end-length (l .at + 7 + getD (bytes i) (l .at + 2) 0) (t .behind)),
+      omega (arith, size-read w, t .stands .next .end, end-length (l .at + headSize + getD (bytes i) (l .at + 2) 0) (t .behind)),
     )
 
 same-length : tie.Need-same-length Inv-loop μ-loop

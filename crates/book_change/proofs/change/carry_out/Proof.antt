@@ -8,6 +8,7 @@ use native.Mathlib.Omega.{arith}
 use lib.ListN.{length}
 use denote.Ref.{now}
 use Rattle.refusals.specs.Outcome.{Outcome}
+use Rattle.entries.specs.Limits.{headSize}
 use Rattle.entries.specs.Book.{Opened, Within}
 use Rattle.entries.specs.Change.{withRecord}
 use Rattle.entries.proofs.Tidied.{length-tidied, tidied-is}
@@ -26,10 +27,10 @@ still-within b a free start size outcome o r w =
 
 -- what is known where the plan is of a kind
 within : (c : tie.After-shared-slice-known) (plan : Plan) → c .before .before .args .plan ≡ plan → let s = c .before .before in
-    PlanWithin (now (s .args .book)) (7 + length (now (s .args .word))) plan
+    PlanWithin (now (s .args .book)) (headSize + length (now (s .args .word))) plan
 within c plan e =
     let s = c .before .before in
-    subst (PlanWithin (now (s .args .book)) (7 + length (now (s .args .word)))) e (s .pre .0)
+    subst (PlanWithin (now (s .args .book)) (headSize + length (now (s .args .word)))) e (s .pre .0)
 
 -- what is to be written where the plan is of a kind
 planned : (c : tie.After-shared-slice-known) (plan : Plan) → c .before .before .args .plan ≡ plan → let s = c .before .before .args in

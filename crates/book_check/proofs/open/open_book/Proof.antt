@@ -12,7 +12,7 @@ use borrow.Author.Tests.{not-true, not-false}
 use lib.Dec.{T}
 use lib.ListN.{length, getD, take, drop, set}
 use denote.Ref.{now}
-use Rattle.entries.specs.Limits.{bookLimit}
+use Rattle.entries.specs.Limits.{bookLimit, headSize}
 use Rattle.entries.specs.Readable.{isReadable}
 use Rattle.entries.specs.Entries.{book as book-of, wordAt, isFramed, entries}
 use Rattle.entries.proofs.Records.{Framed, framed-true}
@@ -68,11 +68,11 @@ unfolding bucketAt
 bucket c =
     let a = loop-at (record-at (c .before .before)) in
     c .bucket-of .ensures .0
-    ∙ ap (λ (n : ℕ). hashOf (take n (drop (a .loop .at + 7) (bytes a))) 0) (c .before .before .before .before .wide .ensures .0)
+    ∙ ap (λ (n : ℕ). hashOf (take n (drop (a .loop .at + headSize) (bytes a))) 0) (c .before .before .before .before .wide .ensures .0)
 
 -- a live record is passed
 one-more : (c : tie.After-link-to Inv-loop μ-loop) → let h = c .before .before .before .before .before in let a = loop-at (record-at (h .before .before)) in
-    Passed (bytes a) (a .loop .at + 7 + getD (bytes a) (a .loop .at + 2) 0) (a .loop .live + 1) (set (a .loop .heads) (h .bucket-of .result) (c .link-to .result))
+    Passed (bytes a) (a .loop .at + headSize + getD (bytes a) (a .loop .at + 2) 0) (a .loop .live + 1) (set (a .loop .heads) (h .bucket-of .result) (c .link-to .result))
     (set (a .loop .links) (a .loop .at) (getD (a .loop .heads) (h .bucket-of .result) 0))
 one-more c =
     let h = c .before .before .before .before .before in
@@ -228,7 +228,7 @@ loop-again c =
     let r = record-at (c .before) in
     let a = loop-at r in
     let l = a .loop in
-    let e : l .at + (7 + c .before .before .before .wide .result) ≡ l .at + 7 + getD (bytes a) (l .at + 2) 0 = omega (arith, c .before .before .before .wide .ensures .0) in (
+    let e : l .at + (headSize + c .before .before .before .wide .result) ≡ l .at + headSize + getD (bytes a) (l .at + 2) 0 = omega (arith, c .before .before .before .wide .ensures .0) in (
       l .inv .0,
       ⊎-elim
           (λ w. moved (bytes a) _ _ _ _ _ _ _ _ e (w .9) (w .7) (w .8)
