@@ -30,7 +30,7 @@ pub extern "C" fn jogcairn_book_add(book: &mut [u8], word: &[u16], stock: u32) -
 // What add would answer on a copy of the book, with where its record would start and whether it would tidy: the number of the add.
 #[no_mangle]
 pub extern "C" fn jogcairn_book_preview(book: &[u8], word: &[u16], stock: u32) -> u64
-    ensures { λ r. ⌜ Packed (PreviewPromise (now (word .entry)) (now (book .entry)) (now (book .exit))) previewNumbers r ⌝ }
+    ensures { λ r. ⌜ Packed (PreviewPromise (now (word .entry)) stock (now (book .entry)) (now (book .exit))) previewNumbers r ⌝ }
 {
     packing::of_preview(wordbook::preview(book, word, stock))
 }

@@ -4,6 +4,7 @@ use mathlib.Core.Path.{_≡_}
 use mathlib.Core.List.{List, []}
 use Prim.Native.Nat.{ℕ}
 use lib.ListN.{length}
+use Rattle.formula.specs.Limits.{limit}
 use Rattle.formula.specs.Held.{wordOf}
 use Rattle.formula.specs.declared.Word.{Word}
 use Rattle.refusals.specs.Refusal.{numberOf, placeOf}
@@ -11,21 +12,27 @@ use Rattle.refusals.specs.Outcome.{Outcome, accepts, accepts-both, absent, refu
 use Rattle.refusals.specs.Output.{Writes}
 use Rattle.refusals.specs.declared.Refusal.{Refusal}
 use Rattle.refusals.specs.declared.Counted.the-variants.{Refused}
-use Rattle.recogniser.specs.Answer.{Admissible, RefusedWith, Reads}
+use Rattle.recogniser.specs.Answer.{AdmissibleWithin, RefusedWithin, ReadsWithin}
 use Rattle.recogniser.specs.Concluded.{AdmittedTo}
 use Rattle.storage.specs.Stored.{storedForm}
-use Rattle.normaliser.specs.Admission.{Unadmitted}
+use Rattle.normaliser.specs.Admission.{UnadmittedWithin}
 use Rattle.normaliser.specs.declared.Normalised.{Normalised}
 
 -- the refusals of a word that is normalised first: 1 and 2 speak of the word as handed in, 3 and 4 of its stored form
-pub data StoreRefusedWith (word : List ℕ) : ℕ → ℕ → Type 0 where
-  unadmitted : {number place : ℕ} → Unadmitted word number place → StoreRefusedWith word number place
-  outcome : {number place : ℕ} → Admissible word → RefusedWith (storedForm word) number place → StoreRefusedWith word number place
+pub data StoreRefusedWithin (most : ℕ) (word : List ℕ) : ℕ → ℕ → Type 0 where
+  unadmitted : {number place : ℕ} → UnadmittedWithin most word number place → StoreRefusedWithin most word number place
+  outcome : {number place : ℕ} → AdmissibleWithin most word → RefusedWithin most (storedForm word) number place → StoreRefusedWithin most word number place
+
+abbrev pub StoreRefusedWith : List ℕ → ℕ → ℕ → Type 0
+StoreRefusedWith word = StoreRefusedWithin limit word
 
 -- the stored form is a row of n syllables
-pub record Stores (word : List ℕ) (n : ℕ) : Type 0 where
-  pub admissible : Admissible word
-  pub reads : Reads (storedForm word) n
+pub record StoresWithin (most : ℕ) (word : List ℕ) (n : ℕ) : Type 0 where
+  pub admissible : AdmissibleWithin most word
+  pub reads : ReadsWithin most (storedForm word) n
+
+abbrev pub Stores : List ℕ → ℕ → Type 0
+Stores word = StoresWithin limit word
 
 abbrev pub StoreAnswers : List ℕ → Outcome → Type 0
 StoreAnswers word (accepts n) = Stores word n

@@ -17,8 +17,8 @@ use Rattle.formula.proofs.Lists.{sameList, both-left}
 use Rattle.formula.specs.Limits.{limit}
 use Rattle.refusals.specs.Outcome.{Outcome, accepts-both, refuses}
 use Rattle.storage.specs.Stored.{storedForm}
-use Rattle.entries.specs.Limits.{bookLimit}
-use Rattle.entries.specs.Entries.{Entry, entryAt, isFramed, mayFollow, Entries, book, wrong, zeroTail, entriesFrom, entries}
+use Rattle.entries.specs.Limits.{bookLimit, headSize}
+use Rattle.entries.specs.Entries.{Entry, entryAt, isFramed, mayFollow, Entries, book, wrong, zeroTail, entriesFrom, entries, entriesFromWithin, entriesWithin}
 use Rattle.entries.specs.Book.{zeros, recordBytes, records, size, endOf, GoodEntry, GoodAfter, IsBook}
 use Rattle.entries.specs.Map.{lookup, counted, liveCount}
 use Rattle.entries.specs.Tidy.{liveLength}
@@ -64,18 +64,18 @@ bounded-tail n (byte ∷ bytes) place given h g =
     bounded-pick n (eqb byte 0) _ _ (λ _. bounded-tail n bytes (suc place) given (omega arith) g) (omega arith)
 
 bounded-from : (fuel : ℕ) (bytes : List ℕ) (at : ℕ) (seen : List Entry) → at ≤ length bytes → Bounded (length bytes) (entriesFrom fuel bytes at seen)
-unfolding entriesFrom
+unfolding entriesFromWithin
 bounded-from zero bytes at seen h = h
 bounded-from (suc fuel) bytes at seen h =
     bounded-pick (length bytes) (eqb (getD bytes at 0) 0) _ _
     (λ _. bounded-tail (length bytes) (drop at bytes) at (book seen at) (omega (arith, length-drop at bytes)) tt)
     (bounded-pick (length bytes) (isFramed bytes at && mayFollow seen (entryAt bytes at)) _ _
-    (λ t. bounded-from fuel bytes (at + 7 + getD bytes (at + 2) 0) (seen ++ (entryAt bytes at ∷ []))
+    (λ t. bounded-from fuel bytes (at + headSize + getD bytes (at + 2) 0) (seen ++ (entryAt bytes at ∷ []))
     (framed-true bytes at (both-left (isFramed bytes at) _ t) .room))
     h)
 
 pub bounded : (bytes : List ℕ) → Bounded bookLimit (entries bytes)
-unfolding entries
+unfolding entriesWithin
 bounded bytes =
     bounded-pick bookLimit (leb (length bytes) bookLimit) _ _
     (λ t. bounded-more (length bytes) bookLimit (entriesFrom (suc (length bytes)) bytes 0 [])
@@ -195,7 +195,7 @@ module _ (bytes word : List ℕ) where
 
   add-by : (room : ℕ) (e : Entries) → Bounded bookLimit e → Sound bytes e → Fits (outcomeNumbers (addOf e room word))
   add-by room (book es free) b s =
-      add-entry es _ (s .0) (placing-fits es free room (7 + length word) (s .0) (s .1)) (lookup es word) refl
+      add-entry es _ (s .0) (placing-fits es free room (headSize + length word) (s .0) (s .1)) (lookup es word) refl
   add-by room (wrong place) b s = wrong-fits place b
 
   tidy-by : (e : Entries) → Bounded bookLimit e → Sound bytes e → Fits (outcomeNumbers (tidyOf e))
@@ -289,8 +289,8 @@ module _ (bytes : List ℕ) (small : Bytes bytes) where
   find-fits word o c = call-fits word _ o (find-by bytes (storedForm word) (entries bytes) (bounded bytes) (sound bytes small)) c
 
   -- the answer of add, to itself and to its preview
-  pub add-fits : (word : List ℕ) (o : Outcome) → AddAnswers word bytes o → Fits (outcomeNumbers o)
-  add-fits word o c = call-fits word _ o (add-by bytes (storedForm word) (length bytes) (entries bytes) (bounded bytes) (sound bytes small)) c
+  pub add-fits : (word : List ℕ) (stock : ℕ) (o : Outcome) → AddAnswers word stock bytes o → Fits (outcomeNumbers o)
+  add-fits word stock o c = call-fits word _ o (add-by bytes (storedForm word) (length bytes) (entries bytes) (bounded bytes) (sound bytes small)) c
 
   pub tidy-fits : (after : List ℕ) (o : Outcome) → TidyRight bytes after o → Fits (outcomeNumbers o)
   tidy-fits after o t =

@@ -27,7 +27,7 @@ use Rattle.packing.proofs.WordFits.{store-refused-small}
 use Rattle.packing.proofs.Unpacked.{preview-unpacked}
 
 -- "Preview on a book equals add on a copy of it", of the numbers that hosts are given
-pub preview-number : (word bytes seen after : List ℕ) (stock n m : ℕ) → Packed (PreviewPromise word bytes seen) previewNumbers n
+pub preview-number : (word bytes seen after : List ℕ) (stock n m : ℕ) → Packed (PreviewPromise word stock bytes seen) previewNumbers n
     → Packed (AddPromise word stock bytes after) outcomeNumbers m → n ≡ m
 preview-number word bytes seen after stock n m p q =
     p .packed ∙ ap (λ (o : Outcome). pack (outcomeNumbers o)) (call-alike word _ _ _ (p .right .answers) (q .right .answers)) ∙ sym (q .packed)
@@ -57,9 +57,9 @@ book-told (book list free) room word = go (lookup list word)
     go none = placed (leb (liveLength list + (headSize + length word)) room) (leb (free + (headSize + length word)) room)
     go (some entry) = omega arith
 
-add-told : (word bytes : List ℕ) (o : Outcome) → AddAnswers word bytes o → AddTold o
-add-told word bytes o (word-refused r) = word-told word _ _ r
-add-told word bytes o (word-stored s) = book-told (entries bytes) (length bytes) (storedForm word)
+add-told : (word : List ℕ) (stock : ℕ) (bytes : List ℕ) (o : Outcome) → AddAnswers word stock bytes o → AddTold o
+add-told word stock bytes o (word-refused r) = word-told word _ _ r
+add-told word stock bytes o (word-stored s) = book-told (entries bytes) (length bytes) (storedForm word)
 
 numbers-read : (o : Outcome) → AddTold o → (startRead (outcomeNumbers o) ≡ startOf o) × (tidiesRead (outcomeNumbers o) ≡ tidiesOf o)
 unfolding pick
@@ -69,12 +69,12 @@ numbers-read absent t = absurd t
 numbers-read (refuses number place) t = (ap (λ (b : Bool). pick b place 0) (ne-eqb number 0 (λ e. let z : ⊥ = omega arith in z)), refl)
 
 -- what a host reads from the number of a preview is what the preview tells: the start, 0 where the add is refused, and whether it would tidy
-pub preview-read : (word bytes seen : List ℕ) → Bytes bytes → (n : ℕ) (p : Packed (PreviewPromise word bytes seen) previewNumbers n)
+pub preview-read : (word : List ℕ) (stock : ℕ) (bytes seen : List ℕ) → Bytes bytes → (n : ℕ) (p : Packed (PreviewPromise word stock bytes seen) previewNumbers n)
     → (startRead (unpack n) ≡ p .outcome .start) × (tidiesRead (unpack n) ≡ p .outcome .tidies)
-preview-read word bytes seen small n p =
+preview-read word stock bytes seen small n p =
     let o = p .outcome in
-    let numbers = preview-unpacked bytes small n word seen p in
-    let read = numbers-read (o .answer) (add-told word bytes (o .answer) (p .right .answers)) in (
+    let numbers = preview-unpacked bytes small n word stock seen p in
+    let read = numbers-read (o .answer) (add-told word stock bytes (o .answer) (p .right .answers)) in (
       ap startRead numbers ∙ read .0 ∙ sym (ap (λ (x : PreviewOutcome). x .start) (p .right .tells)),
       ap tidiesRead numbers ∙ read .1 ∙ sym (ap (λ (x : PreviewOutcome). x .tidies) (p .right .tells)),
     )

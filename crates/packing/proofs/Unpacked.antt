@@ -101,11 +101,11 @@ module _ (book : List ℕ) (small : Bytes book) (n : ℕ) where
 
   pub add-unpacked : (word : List ℕ) (stock : ℕ) (after : List ℕ) (p : Packed (AddPromise word stock book after) outcomeNumbers n)
       → unpack n ≡ outcomeNumbers (p .outcome)
-  add-unpacked word stock after p = packed-unpacked (AddPromise word stock book after) outcomeNumbers (λ o right. add-fits book small word o (right .answers)) n p
+  add-unpacked word stock after p = packed-unpacked (AddPromise word stock book after) outcomeNumbers (λ o right. add-fits book small word stock o (right .answers)) n p
 
-  pub preview-unpacked : (word after : List ℕ) (p : Packed (PreviewPromise word book after) previewNumbers n) → unpack n ≡ previewNumbers (p .outcome)
-  preview-unpacked word after p =
-      packed-unpacked (PreviewPromise word book after) previewNumbers (λ o right. add-fits book small word (o .answer) (right .answers)) n p
+  pub preview-unpacked : (word : List ℕ) (stock : ℕ) (after : List ℕ) (p : Packed (PreviewPromise word stock book after) previewNumbers n) → unpack n ≡ previewNumbers (p .outcome)
+  preview-unpacked word stock after p =
+      packed-unpacked (PreviewPromise word stock book after) previewNumbers (λ o right. add-fits book small word stock (o .answer) (right .answers)) n p
 
   pub tidy-unpacked : (after : List ℕ) (p : Packed (TidyRight book after) outcomeNumbers n) → unpack n ≡ outcomeNumbers (p .outcome)
   tidy-unpacked after p = packed-unpacked (TidyRight book after) outcomeNumbers (tidy-fits book small after) n p

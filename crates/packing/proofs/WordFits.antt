@@ -31,18 +31,18 @@ use Rattle.collation.specs.Comparison.{orderNumber, Compares, CompareAnswers}
 use Rattle.packing.specs.Packing.{answer, Fits}
 use Rattle.packing.specs.Answers.{outcomeNumbers, pairNumbers}
 
--- a refusal of a word: its number is one of the documents', so not 0, and its place at most the limit
+-- a refusal of what is handed in: its number is neither 0 nor that of nothing there, 128, and its place, in a word or not, fits its bits
 pub record Small (number place : ℕ) : Type 0 where
   pub some : 1 ≤ number
-  pub few : number ≤ 23
-  pub near : place ≤ limit
+  pub few : number < 128
+  pub near : place < 0x100000000
 
 pub refused-small : (word : List ℕ) (number place : ℕ) → reading.RefusedWith word number place → Small number place
 refused-small word number place (reading.too-long h) = record { some = omega arith; few = omega arith; near = omega arith }
 refused-small word number place (reading.foreign f) = record { some = omega arith; few = omega arith; near = let s = f .short in let w = f .within in omega arith }
 refused-small word number place (reading.no-continuation a v l) =
     record { some = omega arith; few = omega arith; near = let s = a .short in let w = l .within in omega arith }
-refused-small word number place (reading.unfinished a r v) = record { some = omega arith; few = omega arith; near = a .short }
+refused-small word number place (reading.unfinished a r v) = record { some = omega arith; few = omega arith; near = let s = a .short in omega arith }
 
 pub unadmitted-small : (word : List ℕ) (number place : ℕ) → Unadmitted word number place → Small number place
 unadmitted-small word number place (too-long h) = record { some = omega arith; few = omega arith; near = omega arith }

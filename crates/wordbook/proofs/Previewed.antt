@@ -4,7 +4,6 @@ use mathlib.Core.Path.{_≡_, refl, sym, ap, subst, _∙_}
 use mathlib.Core.Bool.{false}
 use mathlib.Core.List.{List}
 use Prim.Native.Nat.{ℕ, _<_}
-use native.Mathlib.Omega.{arith}
 use lib.Dec.{eqb}
 use lib.ListN.{length}
 use Rattle.refusals.specs.Outcome.{Outcome, accepts-both, refuses, replyOutcome}
@@ -31,24 +30,24 @@ preview-once first second e =
     λ i. record { answer = answer i; start = e i .start; tidies = e i .tidies }
 
 -- the add that a preview foresees: each law of add holds of it
-pub foreseen : (word before : List ℕ) (stock : ℕ) (answer : Outcome) → AddAnswers word before answer
+pub foreseen : (word before : List ℕ) (stock : ℕ) (answer : Outcome) → AddAnswers word stock before answer
     → AddPromise word stock before (bytesAdded answer before (storedForm word) stock) answer
 foreseen word before stock answer a = record { answers = a; bytes = refl }
 
-module _ (word bytes shown : List ℕ) (preview : Preview) (p : PreviewPromise word bytes shown (previewOutcome preview)) where
+module _ (word : List ℕ) (stock : ℕ) (bytes shown : List ℕ) (preview : Preview) (p : PreviewPromise word stock bytes shown (previewOutcome preview)) where
   -- one preview only
-  pub preview-determined : (other : Preview) (final : List ℕ) → PreviewPromise word bytes final (previewOutcome other) → (preview ≡ other) × (shown ≡ final)
+  pub preview-determined : (other : Preview) (final : List ℕ) → PreviewPromise word stock bytes final (previewOutcome other) → (preview ≡ other) × (shown ≡ final)
   preview-determined other final q = (
     preview-once preview other (p .tells ∙ ap previewOf (call-alike word _ _ _ (p .answers) (q .answers)) ∙ sym (q .tells)),
     p .bytes ∙ sym (q .bytes),
   )
 
   -- "The preview gives the answer that add gives on a copy of the book, refusal and place included", and start and tidying are those of that add
-  pub preview-equals-add : (copy after : List ℕ) (stock : ℕ) (reply : Reply) → copy ≡ bytes → AddPromise word stock copy after (replyOutcome reply)
+  pub preview-equals-add : (copy after : List ℕ) (reply : Reply) → copy ≡ bytes → AddPromise word stock copy after (replyOutcome reply)
       → (preview .answer ≡ reply) × (preview .start ≡ startOf (replyOutcome reply)) × (preview .tidies ≡ tidiesOf (replyOutcome reply)) × (shown ≡ bytes)
-  preview-equals-add copy after stock reply same q =
+  preview-equals-add copy after reply same q =
       let answer : replyOutcome (preview .answer) ≡ replyOutcome reply =
-      call-alike word _ _ _ (p .answers) (subst (λ (b : List ℕ). AddAnswers word b (replyOutcome reply)) same (q .answers)) in
+      call-alike word _ _ _ (p .answers) (subst (λ (b : List ℕ). AddAnswers word stock b (replyOutcome reply)) same (q .answers)) in
       let tells : previewOutcome preview ≡ previewOf (replyOutcome reply) = p .tells ∙ ap previewOf answer in (
         reply-once (preview .answer) reply answer,
         ap (λ (o : PreviewOutcome). o .start) tells,
@@ -66,8 +65,8 @@ module _ (word bytes shown : List ℕ) (preview : Preview) (p : PreviewPromise w
       (ap (λ (o : PreviewOutcome). o .start) t, ap (λ (o : PreviewOutcome). o .tidies) t)
 
   module _ (start tidies : ℕ) (e : replyOutcome (preview .answer) ≡ accepts-both start tidies) where
-    accepted : AddAnswers word bytes (accepts-both start tidies)
-    accepted = subst (AddAnswers word bytes) e (p .answers)
+    accepted : AddAnswers word stock bytes (accepts-both start tidies)
+    accepted = subst (AddAnswers word stock bytes) e (p .answers)
 
     -- where add would accept, it tells where and how
     pub preview-accepted : (preview .start ≡ start) × (preview .tidies ≡ eqb tidies 1)
@@ -75,7 +74,7 @@ module _ (word bytes shown : List ℕ) (preview : Preview) (p : PreviewPromise w
         let t = told (accepts-both start tidies) e in
         (ap (λ (o : PreviewOutcome). o .start) t, ap (λ (o : PreviewOutcome). o .tidies) t)
 
-    module _ (stock : ℕ) (small : Bytes bytes) (fits : stock < 4294967296) where
+    module _ (small : Bytes bytes) (fits : stock < 4294967296) where
       stored : WordStored word
       stored = add-stored word bytes _ stock start tidies small fits (foreseen word bytes stock (accepts-both start tidies) accepted)
 
@@ -95,13 +94,13 @@ module _ (word bytes shown : List ℕ) (preview : Preview) (p : PreviewPromise w
           ∙ ap (λ (n : ℕ). finds n stock) (sym (preview-accepted .0))
 
 -- "after tidying where add would tidy": once the book is tidied, the preview shows the same start and would not tidy
-pub previewed-after-tidy : (word bytes shown tidy seen : List ℕ) (preview other : Preview) (start : ℕ) (outcome : Outcome) → Bytes bytes
-    → PreviewPromise word bytes shown (previewOutcome preview) → replyOutcome (preview .answer) ≡ accepts-both start 1 → TidyRight bytes tidy outcome
-    → PreviewPromise word tidy seen (previewOutcome other) → (other .start ≡ preview .start) × (other .tidies ≡ false)
-previewed-after-tidy word bytes shown tidy seen preview other start outcome small p e t q =
-    let add = foreseen word bytes 0 (accepts-both start 1) (accepted word bytes shown preview p start 1 e) in
-    let untidied = add-as-tidied word bytes _ 0 start small (omega arith) add tidy outcome t in
+pub previewed-after-tidy : (word : List ℕ) (stock : ℕ) (bytes shown tidy seen : List ℕ) (preview other : Preview) (start : ℕ) (outcome : Outcome) → Bytes bytes
+    → stock < 4294967296 → PreviewPromise word stock bytes shown (previewOutcome preview) → replyOutcome (preview .answer) ≡ accepts-both start 1 → TidyRight bytes tidy outcome
+    → PreviewPromise word stock tidy seen (previewOutcome other) → (other .start ≡ preview .start) × (other .tidies ≡ false)
+previewed-after-tidy word stock bytes shown tidy seen preview other start outcome small fits p e t q =
+    let add = foreseen word bytes stock (accepts-both start 1) (accepted word stock bytes shown preview p start 1 e) in
+    let untidied = add-as-tidied word bytes _ stock start small fits add tidy outcome t in
     let same : replyOutcome (other .answer) ≡ accepts-both start 0 = call-alike word _ _ _ (q .answers) (untidied .answers) in
-    let before = preview-accepted word bytes shown preview p start 1 e in
-    let after = preview-accepted word tidy seen other q start 0 same in
+    let before = preview-accepted word stock bytes shown preview p start 1 e in
+    let after = preview-accepted word stock tidy seen other q start 0 same in
     (after .0 ∙ sym (before .0), after .1)

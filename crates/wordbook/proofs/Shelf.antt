@@ -20,7 +20,7 @@ use Rattle.recogniser.specs.Answer.{Reads}
 use Rattle.recogniser.proofs.Answered.{row-reads, reads-readable}
 use Rattle.storage.specs.Stored.{storedForm}
 use Rattle.storage.proofs.Rows.{gives-stored}
-use Rattle.entries.specs.Entries.{Entry, holds, isFresh, Entries, book, wrong, zeroTail, entriesFrom, entries}
+use Rattle.entries.specs.Entries.{Entry, holds, isFresh, Entries, book, wrong, zeroTail, entriesFrom, entries, entriesFromWithin, entriesWithin}
 use Rattle.entries.specs.Limits.{bookLimit}
 use Rattle.entries.specs.Book.{zeros, recordBytes, records, endOf, GoodEntry, GoodAfter}
 use Rattle.entries.specs.Map.{lookup}
@@ -176,7 +176,7 @@ shelf-live = worked ukka (held-words .1 .1 .1 .0) filled _ entries-filled 6
 
 -- a zero and then a seven are no book: 11 with the place of the seven
 pub shelf-no-book : (after : List ℕ) (outcome : Outcome) → AddPromise (letter .word) 6 (0 ∷ 7 ∷ []) after outcome → (outcome ≡ refuses 11 1) × (after ≡ 0 ∷ 7 ∷ [])
-unfolding entries entriesFrom zeroTail pick
+unfolding entriesWithin entriesFromWithin zeroTail pick
 shelf-no-book = worked letter (held-words .0) (0 ∷ 7 ∷ []) (wrong 1) refl 6
 
 -- a removed record of 8 bytes, and 11 that are free

@@ -40,9 +40,9 @@ pub fn add(book: &mut [u8], word: &[u16], stock: u32) -> Reply
     }
 }
 
-// What add would answer on a copy of the book, where its record would start, and whether it would tidy. The stock number decides nothing of it.
-pub fn preview(book: &[u8], word: &[u16], _stock: u32) -> Preview
-    ensures { λ r. ⌜ PreviewPromise (now (word .entry)) (now (book .entry)) (now (book .exit)) (previewOutcome r) ⌝ }
+// What add would answer on a copy of the book, where its record would start, and whether it would tidy.
+pub fn preview(book: &[u8], word: &[u16], stock: u32) -> Preview
+    ensures { λ r. ⌜ PreviewPromise (now (word .entry)) stock (now (book .entry)) (now (book .exit)) (previewOutcome r) ⌝ }
 {
     let mut values = [0; Word::LIMIT];
     match enter(word, &mut values) {

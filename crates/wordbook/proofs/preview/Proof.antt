@@ -20,11 +20,11 @@ use Rattle.wordbook.proofs.preview.Statement.{statement}
 use Rattle.wordbook.proofs.preview.Tie as tie
 
 -- the preview of an answer that add gives
-promised : (word bytes : List ℕ) (told : PreviewOutcome) (answer : Outcome) → told ≡ previewOf answer → AddAnswers word bytes answer
-    → PreviewPromise word bytes bytes told
-promised word bytes told answer e a =
+promised : (word : List ℕ) (stock : ℕ) (bytes : List ℕ) (told : PreviewOutcome) (answer : Outcome) → told ≡ previewOf answer → AddAnswers word stock bytes answer
+    → PreviewPromise word stock bytes bytes told
+promised word stock bytes told answer e a =
     let same : told .answer ≡ answer = ap (λ (o : PreviewOutcome). o .answer) e in
-    record { answers = subst (AddAnswers word bytes) (sym same) a; tells = e ∙ ap previewOf (sym same); bytes = refl }
+    record { answers = subst (AddAnswers word stock bytes) (sym same) a; tells = e ∙ ap previewOf (sym same); bytes = refl }
 
 -- the word went on to the book
 form : (c : tie.After-known-told2) → let e = c .before .before .before .before in
@@ -63,7 +63,7 @@ preview-requires-2 c κs = search needs
 returns : tie.Need-returns
 returns c =
     let k = c .before .before in
-    promised _ _ _ _ (c .preview .ensures)
+    promised _ _ _ _ _ (c .preview .ensures)
     (word-refused (entered-refused _ (zeros limit) _ _ (k .before .before .before .enter .ensures) _ (k .refusal .given .1)))
 
 returns-2 : tie.Need-returns-2
@@ -72,8 +72,8 @@ returns-2 c =
     let s = k .before .before .before .before .before .before .before .before .args in
     let h = form k in
     let b = now (s .book) in
-    promised _ b _ _ (c .preview2 .ensures)
-    (subst (AddAnswers (now (s .word)) b) (sym (c .before .plan-add .ensures .answer ∙ ap (addOf (entries b) (length b)) (form-front h))) (word-stored (h .stored)))
+    promised _ _ b _ _ (c .preview2 .ensures)
+    (subst (AddAnswers (now (s .word)) (s .stock) b) (sym (c .before .plan-add .ensures .answer ∙ ap (addOf (entries b) (length b)) (form-front h))) (word-stored (h .stored)))
 
 pub preview-spec : {M : Type 1} → statement M
 preview-spec =
