@@ -69,7 +69,7 @@ module _ (form : List ℕ) (n : ℕ) where
       let short = r .admissible .short in
       let g = r .gives in
       subst (λ (l : List ℕ). length (skeletonOf l) ≤ skeletonLimit) (g .joined)
-      (skeleton-within (r .row) (g .is-row) (omega (arith, ap length (g .joined))) (omega (arith, r .count)))
+      (skeleton-within limit (r .row) (g .is-row) (omega (arith, ap length (g .joined))) (omega (arith, r .count)))
 
 -- so the skeleton of a label is within its limit
 pub skeleton-short : (word : List ℕ) (n : ℕ) → IsLabel word n → length (skeleton word) ≤ skeletonLimit

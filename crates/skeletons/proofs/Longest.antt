@@ -1,26 +1,26 @@
--- No skeleton of a label has more than 73 values: 1029 alone becomes two, it stands at the head of a syllable, and where it heads every one of them each
--- has at most six values.
+-- No skeleton of a label has more than 73 values: 1029 alone becomes two, it stands at the head of a syllable of at most six values, and any other syllable
+-- has at most twelve; so the bound goes by how many syllables begin with 1029.
 -- Assumes nothing.
 use mathlib.Core.Path.{_≡_, refl, sym, ap, subst, _∙_}
 use mathlib.Core.Bool.{Bool, true, false, not, _&&_, _||_}
 use mathlib.Core.List.{List, [], _∷_, _++_}
-use Prim.Native.Nat.{ℕ, suc, _+_, _*_, _≤_, _<_}
+use Prim.Native.Nat.{ℕ, zero, suc, _+_, _*_, _≤_, max}
 use native.Mathlib.Decide.{ℕ-discrete}
 use native.Mathlib.Omega.{arith}
 use borrow.Author.Tests.{eq-eqb, ne-eqb}
-use lib.Dec.{T, eqb}
+use lib.Dec.{T, eqb, leb, leb→le}
 use lib.ListN.{length, replicate, length-append}
 use Rattle.letters.specs.Choice.{pick}
 use Rattle.letters.specs.Marks.{group, ya, MedialGroup, no-medial, medialText, Vowel, no-vowel, vowel-e-aa, vowelText, ToneMark, no-tone, dot, visarga, toneText}
 use Rattle.letters.specs.Weights.{isHead, isFinalLetter}
 use Rattle.formula.specs.Limits.{limit, labelLimit}
-use Rattle.formula.specs.Syllable.{Final, no-final, plain, plain-pair, stacked, kinzi, great-sa, Syllable, syllable, headOf, finalOf, carriesMarks, carriesFinal, isNoMedial, isNoVowel, isClosed, isFinal, isSyllable, follows, finalText, headText, part}
+use Rattle.formula.specs.Syllable.{Final, no-final, plain, plain-pair, stacked, kinzi, great-sa, Syllable, syllable, finalOf, carriesMarks, carriesFinal, isNoMedial, isNoVowel, isFinal, isSyllable, finalText, headText, part}
 use Rattle.formula.specs.Row.{Row, isRowAfter, IsRow, joinAfter, join}
 use Rattle.formula.proofs.Classes.{within-bounds}
 use Rattle.formula.proofs.Lists.{every, both, both-left, both-right}
 use Rattle.formula.proofs.Pieces.{each-vowel, each-medial, no-medial-is, no-vowel-is}
 use Rattle.rows.proofs.Complete.{first}
-use Rattle.skeletons.specs.Skeleton.{replaced, skeletonOf, skeletonLimit}
+use Rattle.skeletons.specs.Skeleton.{replaced, skeletonOf, skeletonMost, largest, skeletonLimitWithin, skeletonLimit}
 use Rattle.skeletons.proofs.Replacing.{one-value, two-values}
 use Rattle.skeletons.proofs.Filling.{skeleton-append}
 
@@ -77,15 +77,31 @@ tone-short no-tone = omega arith
 tone-short dot = omega arith
 tone-short visarga = omega arith
 
-closed-short : (g : Final) → T (isClosed g) → length (finalText g) ≤ 4
-closed-short no-final c = omega arith
-closed-short (plain x) c = omega arith
-closed-short (plain-pair x y) c = omega arith
-closed-short (stacked x) c = absurd c
-closed-short kinzi c = absurd c
-closed-short great-sa c = absurd c
+final-short : (g : Final) → length (finalText g) ≤ 4
+final-short no-final = omega arith
+final-short (plain x) = omega arith
+final-short (plain-pair x y) = omega arith
+final-short (stacked x) = omega arith
+final-short kinzi = omega arith
+final-short great-sa = omega arith
 
--- the head that becomes two is written as itself, and no final that asks for something stands before it
+-- a medial group and a vowel have at most three values each
+medial-short : (m : MedialGroup) → length (medialText m) ≤ 3
+medial-short m = leb→le (length (medialText m)) 3 (each-medial (λ (n : MedialGroup). leb (length (medialText n)) 3) tt m)
+
+vowel-short : (v : Vowel) → length (vowelText v) ≤ 3
+vowel-short v = leb→le (length (vowelText v)) 3 (each-vowel (λ (u : Vowel). leb (length (vowelText u)) 3) tt v)
+
+tail-short : (m : MedialGroup) (v : Vowel) (g : Final) (t : ToneMark) → length (tail m v g t) ≤ 11
+tail-short m v g t = simp length-append (omega (arith, medial-short m, vowel-short v, final-short g, tone-short t))
+
+-- 1029 carries no medial and no vowel
+unmarked-short : (m : MedialGroup) (v : Vowel) (g : Final) (t : ToneMark) → T (isNoMedial m && isNoVowel v) → length (tail m v g t) ≤ 5
+unmarked-short m v g t none =
+    rw (no-medial-is m (both-left (isNoMedial m) _ none), no-vowel-is v (both-right (isNoMedial m) _ none))
+    (omega (arith, length-append (finalText g) (toneText t), final-short g, tone-short t))
+
+-- the head that becomes two is written as itself
 headed : (f : Final) (h : ℕ) → headText f h ≡ 0x1029 → h ≡ 0x1029
 headed no-final h e = e
 headed (plain c) h e = e
@@ -94,24 +110,10 @@ headed (stacked c) h e = e
 headed kinzi h e = e
 headed great-sa h e = let z : ⊥ = omega arith in absurd z
 
-closed-before : (f : Final) → T (follows f 0x1029) → T (isClosed f)
-closed-before no-final t = tt
-closed-before (plain c) t = tt
-closed-before (plain-pair c d) t = tt
-closed-before (stacked c) t = absurd t
-closed-before kinzi t = absurd t
-closed-before great-sa t = absurd t
-
--- a part keeps its size, or it has one value more, and is short where its final is closed
+-- a part keeps its size, or it has one value more and is short
 data Sized (f : Final) (s : Syllable) : Type 0 where
-  kept : length (skeletonOf (part f s)) ≡ length (part f s) → Sized f s
-  grown : length (skeletonOf (part f s)) ≡ suc (length (part f s)) → headOf s ≡ 0x1029 → (T (isClosed (finalOf s)) → length (part f s) ≤ 6) → Sized f s
-
--- 1029 carries no medial and no vowel
-short-part : (m : MedialGroup) (v : Vowel) (g : Final) (t : ToneMark) → T (isNoMedial m && isNoVowel v) → T (isClosed g) → suc (length (tail m v g t)) ≤ 6
-short-part m v g t none c =
-    rw (no-medial-is m (both-left (isNoMedial m) _ none), no-vowel-is v (both-right (isNoMedial m) _ none))
-    (omega (arith, length-append (finalText g) (toneText t), closed-short g c, tone-short t))
+  kept : length (skeletonOf (part f s)) ≡ length (part f s) → length (part f s) ≤ 12 → Sized f s
+  grown : length (skeletonOf (part f s)) ≡ suc (length (part f s)) → length (part f s) ≤ 6 → Sized f s
 
 sized : (f : Final) (s : Syllable) → T (isSyllable s) → Sized f s
 unfolding carriesMarks
@@ -125,18 +127,21 @@ sized f (syllable h m v g t) is =
     go : Dec (headText f h ≡ 0x1029) → T (carriesMarks h || (isNoMedial m && isNoVowel v)) → length (skeletonOf (tail m v g t)) ≡ length (tail m v g t)
         → Sized f (syllable h m v g t)
     go (yes e) marks even =
-        let own = headed f h e in
-        grown (omega (arith, length-append (replaced (headText f h)) (skeletonOf (tail m v g t)), ap length (two-values (headText f h) e))) own
-        (short-part m v g t (subst (λ (x : ℕ). T (carriesMarks x || (isNoMedial m && isNoVowel v))) own marks))
+        let none = subst (λ (x : ℕ). T (carriesMarks x || (isNoMedial m && isNoVowel v))) (headed f h e) marks in
+        grown (omega (arith, length-append (replaced (headText f h)) (skeletonOf (tail m v g t)), ap length (two-values (headText f h) e)))
+        (omega (arith, unmarked-short m v g t none))
     go (no n) marks even =
         kept (omega (arith, length-append (replaced (headText f h)) (skeletonOf (tail m v g t)), ap length (one-value (headText f h) n)))
+        (omega (arith, tail-short m v g t))
 
--- a row has fewer values more than syllables, or 1029 heads each of them
-data Bound (f : Final) (row : Row) : Type 0 where
-  fewer : length (skeletonOf (joinAfter f row)) < length (joinAfter f row) + length row → Bound f row
-  each : length (skeletonOf (joinAfter f row)) ≤ length (joinAfter f row) + length row → length (joinAfter f row) ≤ 6 * length row → T (isClosed f) → Bound f row
+-- a row by how many of its syllables begin with 1029, and how many do not
+record Counted (f : Final) (row : Row) : Type 0 where
+  doubled : ℕ
+  others : ℕ
+  all : doubled + others ≡ length row
+  grows : length (skeletonOf (joinAfter f row)) ≡ length (joinAfter f row) + doubled
+  short : length (joinAfter f row) ≤ 6 * doubled + 12 * others
 
--- how a row's values and its skeleton's are counted
 module _ (f : Final) (s : Syllable) (row : Row) where
   sum : length (joinAfter f (s ∷ row)) ≡ length (part f s) + length (joinAfter (finalOf s) row)
   sum = length-append (part f s) (joinAfter (finalOf s) row)
@@ -145,24 +150,41 @@ module _ (f : Final) (s : Syllable) (row : Row) where
   skeleton-sum =
       ap length (skeleton-append (part f s) (joinAfter (finalOf s) row)) ∙ length-append (skeletonOf (part f s)) (skeletonOf (joinAfter (finalOf s) row))
 
-  bound-on : T (follows f (headOf s)) → Sized f s → Bound (finalOf s) row → Bound f (s ∷ row)
-  bound-on w (kept e) (fewer h) = fewer (omega (arith, sum, skeleton-sum))
-  bound-on w (kept e) (each h l c) = fewer (omega (arith, sum, skeleton-sum))
-  bound-on w (grown e o k) (fewer h) = fewer (omega (arith, sum, skeleton-sum))
-  bound-on w (grown e o k) (each h l c) =
-      each (omega (arith, sum, skeleton-sum)) (omega (arith, k c, sum)) (closed-before f (subst (λ (x : ℕ). T (follows f x)) o w))
+  counted-on : Sized f s → Counted (finalOf s) row → Counted f (s ∷ row)
+  counted-on (kept e h) c = record {
+    doubled = c .doubled;
+    others = suc (c .others);
+    all = omega (arith, c .all);
+    grows = omega (arith, sum, skeleton-sum, c .grows);
+    short = omega (arith, sum, c .short);
+  }
+  counted-on (grown e h) c = record {
+    doubled = suc (c .doubled);
+    others = c .others;
+    all = omega (arith, c .all);
+    grows = omega (arith, sum, skeleton-sum, c .grows);
+    short = omega (arith, sum, c .short);
+  }
 
-bound : (f : Final) (row : Row) → T (isRowAfter f row) → Bound f row
-bound f [] is = each (omega arith) (omega arith) is
-bound f (s ∷ row) is = let p = first f s row is in bound-on f s row (p .follow) (sized f s (p .is)) (bound (finalOf s) row (p .rest))
+counted : (f : Final) (row : Row) → T (isRowAfter f row) → Counted f row
+counted f [] is = record { doubled = 0; others = 0; all = refl; grows = refl; short = omega arith }
+counted f (s ∷ row) is = let p = first f s row is in counted-on f s row (sized f s (p .is)) (counted (finalOf s) row (p .rest))
+
+larger-over : (f : ℕ → ℕ) (n k : ℕ) → (k ≤ n → f k ≤ largest f n) → k ≤ suc n → Dec (k ≡ suc n) → f k ≤ largest f (suc n)
+larger-over f n k below h (yes e) = rw e (omega arith)
+larger-over f n k below h (no other) = let rest : f k ≤ largest f n = below (omega arith) in omega arith
+
+largest-over : (f : ℕ → ℕ) (n k : ℕ) → k ≤ n → f k ≤ largest f n
+largest-over f zero k h = let z : k ≡ zero = omega arith in rw z (omega arith)
+largest-over f (suc n) k h = larger-over f n k (largest-over f n k) h (ℕ-discrete k (suc n))
 
 -- so a row within the limits of a word and of a label has a skeleton within its own
-pub skeleton-within : (row : Row) → IsRow row → length (join row) ≤ limit → length row ≤ labelLimit → length (skeletonOf (join row)) ≤ skeletonLimit
-skeleton-within row is short few = go (bound no-final row is)
-  where
-    go : Bound no-final row → length (skeletonOf (join row)) ≤ skeletonLimit
-    go (fewer h) = omega arith
-    go (each h l c) = omega arith
+pub skeleton-within : (most : ℕ) (row : Row) → IsRow row → length (join row) ≤ most → length row ≤ labelLimit
+    → length (skeletonOf (join row)) ≤ skeletonLimitWithin most
+skeleton-within most row is short few =
+    let c = counted no-final row is in
+    let bound : length (skeletonOf (join row)) ≤ skeletonMost most (c .doubled) = omega (arith, c .all, c .grows, c .short) in
+    omega (arith, largest-over (skeletonMost most) labelLimit (c .doubled) (omega (arith, c .all)))
 
 -- the word that reaches it: nine syllables of 1029 with two finals and a tone, and one of ten values
 abbrev pub longestRow : Row
@@ -182,3 +204,7 @@ longest-reaches = record { is-row = tt; long = refl; syllables = refl; skeleton 
 
 pub limit-reached : skeletonLimit ≡ 73
 limit-reached = refl
+
+-- where words may have 128 values, ten syllables bound it
+limit-of-ten : skeletonLimitWithin 128 ≡ 120
+limit-of-ten = refl

@@ -2,7 +2,7 @@
 -- Assumes nothing.
 use mathlib.Core.Bool.{Bool, _||_}
 use mathlib.Core.List.{List, [], _∷_, _++_}
-use Prim.Native.Nat.{ℕ, _+_, _-_}
+use Prim.Native.Nat.{ℕ, zero, suc, _+_, _-_, _*_, min, max}
 use lib.Dec.{eqb}
 use Rattle.letters.specs.Choice.{pick}
 use Rattle.formula.specs.Limits.{limit, labelLimit}
@@ -25,6 +25,19 @@ skeletonOf (x ∷ word) = replaced x ++ skeletonOf word
 unfoldable pub isReplaced : ℕ → Bool
 isReplaced x = eqb x 0x1040 || (eqb x 0x1047 || (eqb x 0x1025 || eqb x 0x1029))
 
--- the most values of a skeleton: a word of the limit, and one value more for each syllable of a label but one
+-- the most values of the skeleton of a label with at most so many values and so many syllables that begin with 1029: such a syllable has at most six
+-- values and one more in the skeleton, any other has at most twelve, and there are no more syllables than a label's
+abbrev pub skeletonMost : ℕ → ℕ → ℕ
+skeletonMost most doubled = min most (6 * doubled + 12 * (labelLimit - doubled)) + doubled
+
+-- the largest that a function has up to a number
+abbrev pub largest : (ℕ → ℕ) → ℕ → ℕ
+largest f zero = f zero
+largest f (suc n) = max (f (suc n)) (largest f n)
+
+-- the most values of a skeleton, where a word has at most so many
+abbrev pub skeletonLimitWithin : ℕ → ℕ
+skeletonLimitWithin most = largest (skeletonMost most) labelLimit
+
 abbrev pub skeletonLimit : ℕ
-skeletonLimit = limit + labelLimit - 1
+skeletonLimit = skeletonLimitWithin limit

@@ -1,5 +1,4 @@
 // The skeleton of a label: its stored form, with the values that look like others replaced.
-use formula::Word;
 ghost use mathlib.Core.Path.{_≡_};
 ghost use Prim.Native.Nat.{_+_, _≤_, _<_};
 ghost use lib.ListN.{length};
@@ -8,7 +7,7 @@ ghost use Rattle.skeletons.specs.Skeleton.{replaced, skeletonOf};
 ghost use Rattle.skeletons.specs.Parts.{firstOf, sizeOf};
 
 // The most values of a skeleton.
-pub const LIMIT: usize = Word::LIMIT + Word::LABEL_LIMIT - 1;
+pub const LIMIT: usize = 73;
 
 // Letters and marks stand before the digits, stops and signs behind them.
 const FIRST_DIGIT: u16 = 0x1040;
