@@ -5,7 +5,7 @@ use mathlib.Core.Bool.{not}
 use mathlib.Core.List.{List, _++_}
 use Prim.Native.Nat.{ℕ}
 use lib.Dec.{T}
-use lib.ListN.{length, drop}
+use lib.ListN.{length, take, drop}
 use Rattle.formula.proofs.Lists.{every}
 use Rattle.refusals.specs.Outcome.{accepts}
 use Rattle.storage.specs.Stored.{storedForm}
@@ -13,7 +13,7 @@ use Rattle.storage.proofs.Rows.{gives-stored}
 use Rattle.normaliser.proofs.Storing.{reads-stores}
 use Rattle.label_rules.specs.Rules.{labelOf}
 use Rattle.skeletons.specs.Skeleton.{skeletonOf, isReplaced}
-use Rattle.skeletons.proofs.Laws.{own-skeleton}
+use Rattle.skeletons.proofs.Laws.{skeleton-again, own-skeleton}
 use Rattle.labelling.specs.Labelling.{IsLabel, skeleton, SkeletonRight}
 use Rattle.labelling.proofs.Given.{given}
 
@@ -32,6 +32,12 @@ module _ (word : List ℕ) (n : ℕ) (l : IsLabel word n) where
   -- a label with none of the four values is its own skeleton
   pub label-own-skeleton : T (every (λ (x : ℕ). not (isReplaced x)) (storedForm word)) → skeleton word ≡ storedForm word
   label-own-skeleton t = own-skeleton (storedForm word) t
+
+-- "The skeleton's own values, put through the same replacements again, don't change.": what was written, replaced again, is itself
+pub written-again : (word before after : List ℕ) (n : ℕ) → SkeletonRight word before after (accepts n) → skeletonOf (take n after) ≡ take n after
+written-again word before after n right =
+    let front = given word before after n right .front in
+    ap skeletonOf front ∙ skeleton-again (storedForm word) ∙ sym front
 
 -- the skeletons that are written for two words of one stored form are the same
 pub same-form-written : (first second before after final : List ℕ) (m n : ℕ) → storedForm first ≡ storedForm second

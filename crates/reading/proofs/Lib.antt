@@ -1,3 +1,4 @@
 pub mod Recorded
 pub mod Parted
 pub mod Joined
+pub mod Determined

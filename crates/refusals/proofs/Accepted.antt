@@ -1,12 +1,12 @@
 -- An accepted call that writes to an output and tells how many values it wrote: where what is handed in stands for one thing alone, its values stand
--- at the front, and the rest is untouched. Assumes nothing.
+-- at the front, and the rest is untouched. Where the output is too short, as many are needed as that thing has. Assumes nothing.
 use mathlib.Core.Path.{_≡_, refl, sym, ap, subst, _∙_}
 use mathlib.Core.List.{List, _++_}
-use Prim.Native.Nat.{ℕ, _≤_}
+use Prim.Native.Nat.{ℕ, _≤_, _<_}
 use native.Mathlib.Omega.{arith}
 use lib.ListN.{length, take, drop, length-append}
 use lib.Seq.{take-at, drop-at}
-use Rattle.refusals.specs.Outcome.{Outcome, accepts}
+use Rattle.refusals.specs.Outcome.{Outcome, accepts, refuses}
 use Rattle.refusals.specs.Output.{Writes, refused, put, too-short}
 
 -- the thing that stands, and what is written of it
@@ -48,3 +48,21 @@ module _ {A : Type 0} (Refuses : ℕ → ℕ → Type 0) (Stands : A → Type 0)
 
     pub accepted-fits : number ≤ length after
     accepted-fits = omega (arith, accepted-count, ap length accepted-written, length-append (values thing) (drop number before))
+
+-- an output that is too short for the values of the thing, and stays as it is
+pub record Short (values before after : List ℕ) (needed : ℕ) : Type 0 where
+  pub count : needed ≡ length values
+  pub room : length before < needed
+  pub same : after ≡ before
+
+module _ {A : Type 0} (Refuses : ℕ → ℕ → Type 0) (Stands : A → Type 0) (values : A → List ℕ) (tells : A → ℕ) (before after : List ℕ) (needed : ℕ)
+    (other : (number place : ℕ) → Refuses number place → number ≡ 5 → ⊥) (thing : A) (one : (a : A) → Stands a → a ≡ thing) where
+  pub short-count : Writes Refuses Stands values tells before after (refuses 5 needed) → Short (values thing) before after needed
+  short-count right = go (refuses 5 needed) refl right
+    where
+      go : (o : Outcome) → o ≡ refuses 5 needed → Writes Refuses Stands values tells before after o → Short (values thing) before after needed
+      go o e (refused {number = number} {place = place} r s) = absurd (other number place r (cc))
+      go o e (put h l s) = let z : _≡_ {A = ℕ} 0 1 = cc in let y : ⊥ = omega arith in absurd y
+      go o e (too-short {thing = a} h l s) =
+          let count : needed ≡ length (values a) = cc in
+          record { count = count ∙ ap (λ (b : A). length (values b)) (one a h); room = omega (arith, count); same = s }

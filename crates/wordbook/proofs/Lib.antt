@@ -3,6 +3,7 @@ pub mod Laws
 pub mod Determined
 pub mod Words
 pub mod Prefix
+pub mod Needed
 pub mod Searched
 pub mod Earlier
 pub mod Tidied

@@ -16,7 +16,7 @@ use Rattle.entries.specs.Outcome.{startMoved, startsMoved, finds, checkOf, find
 use Rattle.entries.proofs.Bytes.{Bytes}
 use Rattle.entries.proofs.Agree.{Sound, sound}
 use Rattle.entries.proofs.Ranked.{AllLive}
-use Rattle.entries.proofs.Tidied.{tidied-entries, bytes-tidied-book, tidied-full, tidied-twice}
+use Rattle.entries.proofs.Tidied.{live-tidied, tidied-entries, bytes-tidied-book, tidied-full, tidied-twice}
 use Rattle.entries.proofs.AnswersTidied.{check-tidied, find-tidied, remove-tidied}
 use Rattle.tidying.specs.Tidy.{tidyOf, TidyRight}
 use Rattle.book_keys.specs.Filing.{rowOf}
@@ -75,6 +75,15 @@ module _ (before after : List ℕ) (small : Bytes before) where
   -- "Tidying twice is the same as tidying once"
   pub tidy-twice : (outcome : Outcome) → TidyRight before after outcome → (final : List ℕ) (again : Outcome) → TidyRight after final again → final ≡ after
   tidy-twice outcome t final again u = u .bytes ∙ ap bytesTidied (t .bytes) ∙ tidied-twice before small ∙ sym (t .bytes)
+
+  -- and gives the same live length, or the same refusal
+  pub tidy-answers-twice : (outcome : Outcome) → TidyRight before after outcome → (final : List ℕ) (again : Outcome) → TidyRight after final again → again ≡ outcome
+  tidy-answers-twice outcome t final again u = u .answer ∙ go (entries before) refl (sound before small) ∙ sym (t .answer)
+    where
+      go : (x : Entries) → entries before ≡ x → Sound before x → tidyOf (entries after) ≡ tidyOf (entries before)
+      go (book list free) e s =
+          ap tidyOf (ap entries (t .bytes) ∙ tidied-entries before list (s .0)) ∙ ap accepts (live-tidied before list (s .0)) ∙ sym (ap tidyOf e)
+      go (wrong p) e s = ap (λ (b : List ℕ). tidyOf (entries b)) (t .bytes ∙ ap (λ (x : Entries). entriesTidied x before) e)
 
   module _ (outcome : Outcome) (t : TidyRight before after outcome) where
     abbrev move : ℕ → ℕ
