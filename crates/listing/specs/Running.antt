@@ -16,6 +16,7 @@ use Rattle.line_printing.specs.declared.Task.{Task}
 use Rattle.line_splitting.specs.Lines.{linesOf}
 use Rattle.line_splitting.specs.Taken.{heldLimit, Prints}
 use Rattle.line_splitting.specs.Following.{Follows}
+use Rattle.listing.specs.declared.running.Input.{Input}
 use Rattle.listing.specs.declared.running.OpenLine.{OpenLine}
 use Rattle.listing.specs.declared.running.Transfer.{Transfer}
 use Rattle.listing.specs.declared.running.Transfer.the-variants.{Bytes, End, Interrupted, Failed}
@@ -33,13 +34,11 @@ transferOf (pos zero) error size = End
 transferOf (pos (suc count)) error size = Bytes (clamped (pos (suc count)) size)
 transferOf (negsuc answer) error size = failureOf error
 
--- the promise of a read into a list of this length: what the answer of some read means, and of none that was interrupted
-pub record Reads (size : ℕ) (input : Transfer) : Type 0 where
-  pub answer : ℤ
-  pub error : ℤ
-  pub moved : Moved size answer
-  pub is : input ≡ transferOf answer error size
-  pub whole : input ≡ Interrupted → ⊥
+-- the promise of a read into a list of this length, which is not empty: what it brought is told by its answer and its error
+pub record Reads (size : ℕ) (input : Input) : Type 0 where
+  pub room : 0 < size
+  pub moved : Moved size (input .answer)
+  pub means : input .meaning ≡ transferOf (input .answer) (input .error) size
 
 -- what a chunk needs; it has no more lines than bytes
 pub record ChunkReady (chunk : List ℕ) (pending : List ℕ) (out : List ℕ) (current : OpenLine) : Type 0 where

@@ -8,6 +8,7 @@ use line_splitting::HELD_LIMIT;
 use line_splitting::Progress;
 use line_splitting::pass_chunk;
 ghost use mathlib.Core.Path.{_≡_};
+ghost use Prim.Native.Nat.{_<_};
 ghost use lib.ListN.{length};
 ghost use Rattle.listing.specs.Running.{transferOf, Reads, EndReady, Finishes, ChunkReady, ChunkAnswers};
 
@@ -21,6 +22,13 @@ enum Transfer {
     End,
     Interrupted,
     Failed,
+}
+
+// What a read brought: the answer of the call, the error number that it left, and what the two mean.
+struct Input {
+    answer: isize,
+    error: i32,
+    meaning: Transfer,
 }
 
 // The line that is open between two reads: how many of its bytes are held, and the number of the last line that ended. All that was
@@ -52,23 +60,37 @@ fn transfer_of(answer: isize, error: i32, bytes: &[u8]) -> Transfer
     Transfer::Failed
 }
 
-// Reads once, and again where a signal interrupted the read.
-fn read_chunk(chunk: &mut [u8]) -> Transfer
+// Reads once.
+fn read_once(chunk: &mut [u8]) -> Input
+    requires { ⌜ 0 < length (now chunk) ⌝ }
+    ensures { λ r. ⌜ Reads (length (now (chunk .exit))) r ⌝ }
+{
+    let answer = libc::read(STDIN_FILENO, chunk);
+    let error = os::errno();
+    let meaning = transfer_of(answer, error, chunk);
+    Input {
+        answer,
+        error,
+        meaning,
+    }
+}
+
+// Reads once, and again while a signal interrupts the read and calls are left.
+fn read_chunk(chunk: &mut [u8]) -> Input
+    requires { ⌜ 0 < length (now chunk) ⌝ }
     ensures { λ r. ⌜ Reads (length (now (chunk .exit))) r ⌝ }
 {
     let mut calls = CALLS;
+    let mut input = read_once(chunk);
     while 0 < calls {
-        let answer = libc::read(STDIN_FILENO, chunk);
-        let input = transfer_of(answer, os::errno(), chunk);
-        let Transfer::Interrupted = input else {
-            if let Transfer::Failed = input {
-                os::fail(b"standard input");
-            }
+        let meaning = input.meaning;
+        let Transfer::Interrupted = meaning else {
             return input;
         };
+        input = read_once(chunk);
         calls -= 1;
     }
-    Transfer::Failed
+    input
 }
 
 // Writes all bytes, going on where a write took only some of them. False where a write failed.
@@ -122,14 +144,15 @@ fn answer_chunk(
     })
 }
 
-// Prints the open line at the end of the input, where it has a byte, and answers how many bytes are ready to be written. A line that a
-// failed read broke off is not printed.
+// Prints the open line at the end of the input, where it has a byte, and answers how many bytes are ready to be written. Where the
+// input did not end, the read failed: that is said, and the line that it broke off is not printed.
 fn finish(input: Transfer, pending: &[u8], out: &mut [u8], current: OpenLine, task: Task) -> usize
     requires { ⌜ EndReady (now pending) (now out) current ⌝ }
     ensures { λ r. ⌜ Finishes task input (now (pending .entry)) (now (out .entry)) current (now (out .exit)) r ⌝ }
 {
     let held = current.held;
     let Transfer::End = input else {
+        os::fail(b"standard input");
         return 0;
     };
     if held == 0 {
@@ -143,7 +166,7 @@ fn finish(input: Transfer, pending: &[u8], out: &mut [u8], current: OpenLine, ta
 //
 // What has no promise are the two system calls, since no contract can say what a read brings or a write takes: that the bytes of the
 // reads are those that are passed on, and the bytes made ready those that are written, is to be read here, in `answer_chunk`, in
-// `read_chunk` and in `write_whole`.
+// `read_once` and in `write_whole`.
 pub fn run(task: Task) {
     let mut chunk = io::large_buffer();
     let mut pending = [0; HELD_LIMIT];
@@ -152,8 +175,9 @@ pub fn run(task: Task) {
     let mut calls = CALLS;
     while 0 < calls {
         let input = read_chunk(&mut chunk);
-        let Transfer::Bytes(count) = input else {
-            let ready = finish(input, &pending, &mut out, current, task);
+        let meaning = input.meaning;
+        let Transfer::Bytes(count) = meaning else {
+            let ready = finish(meaning, &pending, &mut out, current, task);
             write_whole(&out[..ready]);
             return;
         };

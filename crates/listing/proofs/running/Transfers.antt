@@ -1,9 +1,9 @@
 -- What the answer of a call means, from its bits and its sign as code tests them.
 -- Assumes nothing.
-use mathlib.Core.Path.{_≡_, refl, ap}
+use mathlib.Core.Path.{_≡_, refl, sym, ap, _∙_}
 use mathlib.Core.Bool.{Bool, true, false}
 use mathlib.Core.List.{List, [], _∷_}
-use mathlib.Core.Logic.{inl, inr}
+use mathlib.Core.Logic.{_⊎_, ⊎-elim, inl, inr}
 use Prim.Native.Nat.{ℕ, zero, suc, min, _≤_}
 use native.Mathlib.Omega.{arith}
 use lib.Dec.{eqb}
@@ -17,9 +17,9 @@ use mir.Val.{SFits, toZ, ofZ}
 use mir.ValLaws.{toZ-ofZ}
 use Rattle.letters.specs.Choice.{pick}
 use Rattle.io.specs.Counts.{clamped}
-use Rattle.libc.specs.Io.{Moved}
 use Rattle.line_printing.specs.declared.Task.{Task}
 use Rattle.listing.specs.Running.{failureOf, transferOf, Reads, Finished, Finishes}
+use Rattle.listing.specs.declared.running.Input.{Input}
 use Rattle.listing.specs.declared.running.OpenLine.{OpenLine}
 use Rattle.listing.specs.declared.running.Transfer.{Transfer}
 use Rattle.listing.specs.declared.running.Transfer.the-variants.{Bytes, End, Interrupted, Failed}
@@ -61,46 +61,38 @@ unfolding failureOf pick
 failure-other (pos error) other = rw (ne-eqb error 4 other) refl
 failure-other (negsuc error) other = refl
 
--- what is told by its tag to be another than an interrupted call is another
-not-interrupted : (input : Transfer) → OneOf (0 ∷ 1 ∷ 3 ∷ []) (tagOf the-type input) → input ≡ Interrupted → ⊥
-not-interrupted (Bytes count) other e = let z : _≡_ {A = ℕ} 0 1 = cc in omega arith
-not-interrupted End other e = let z : _≡_ {A = ℕ} 0 1 = cc in omega arith
-not-interrupted Failed other e = let z : _≡_ {A = ℕ} 0 1 = cc in omega arith
-not-interrupted Interrupted (inl t) e = omega arith
-not-interrupted Interrupted (inr (inl t)) e = omega arith
-not-interrupted Interrupted (inr (inr t)) e = omega arith
-
--- one read into a list, which keeps its length
-pub reads-once : (before size : ℕ) (answer error : ℤ) (input : Transfer) → SFits w64 answer → size ≡ before → Moved before answer
-    → input ≡ transferOf (toZ w64 (ofZ w64 answer)) error size → OneOf (0 ∷ 1 ∷ 3 ∷ []) (tagOf the-type input) → Reads size input
-reads-once before size answer error input fits same moved is other = record {
-  answer = answer;
-  error = error;
-  moved = rw same moved;
-  is = rw (toZ-ofZ w64 answer fits) at is;
-  whole = not-interrupted input other;
-}
-
--- a read that is interrupted again and again counts as one that failed
-pub reads-never : (size : ℕ) → Reads size Failed
-unfolding transferOf failureOf pick
-reads-never size = record { answer = negsuc 0; error = pos 0; moved = refl; is = refl; whole = not-interrupted Failed (inr (inr refl)) }
+failure-either : (error : ℤ) → (failureOf error ≡ Interrupted) ⊎ (failureOf error ≡ Failed)
+unfolding failureOf pick
+failure-either (pos error) = go (eqb error 4)
+  where
+    go : (interrupted : Bool) → (pick interrupted Interrupted Failed ≡ Interrupted) ⊎ (pick interrupted Interrupted Failed ≡ Failed)
+    go true = inl refl
+    go false = inr refl
+failure-either (negsuc error) = inr refl
 
 -- a call that failed brings no bytes
 no-bytes : (error : ℤ) (count : ℕ) → Bytes count ≡ failureOf error → ⊥
-unfolding failureOf pick
-no-bytes (pos error) count e = go (eqb error 4) e
-  where
-    go : (interrupted : Bool) → Bytes count ≡ pick interrupted Interrupted Failed → ⊥
-    go true e = let z : _≡_ {A = ℕ} 0 1 = cc in omega arith
-    go false e = let z : _≡_ {A = ℕ} 0 1 = cc in omega arith
-no-bytes (negsuc error) count e = let z : _≡_ {A = ℕ} 0 1 = cc in omega arith
+no-bytes error count e = ⊎-elim (λ w. let z : _≡_ {A = ℕ} 0 1 = cc in omega arith) (λ w. let z : _≡_ {A = ℕ} 0 1 = cc in omega arith) (failure-either error)
 
 pub bytes-within : (answer error : ℤ) (size count : ℕ) → Bytes count ≡ transferOf answer error size → count ≤ size
 unfolding transferOf
 bytes-within (pos zero) error size count e = let z : _≡_ {A = ℕ} 0 1 = cc in absurd (omega arith)
 bytes-within (pos (suc answer)) error size count e = let z : count ≡ min (suc answer) size = cc in omega arith
 bytes-within (negsuc answer) error size count e = absurd (no-bytes error count e)
+
+-- a call that failed is no end of the input
+no-end : (error : ℤ) → failureOf error ≡ End → ⊥
+no-end error e = ⊎-elim (λ w. let z : _≡_ {A = ℕ} 0 1 = cc in omega arith) (λ w. let z : _≡_ {A = ℕ} 0 1 = cc in omega arith) (failure-either error)
+
+-- a read tells the end of the input exactly where it answered 0
+pub ended-exactly : {size : ℕ} {input : Input} → Reads size input → (input .meaning ≡ End → input .answer ≡ pos 0) × (input .answer ≡ pos 0 → input .meaning ≡ End)
+unfolding transferOf
+ended-exactly {size} {input} reads = (λ ended. go (input .answer) (input .error) (sym (reads .means) ∙ ended), λ e. rw e at (reads .means))
+  where
+    go : (answer error : ℤ) → transferOf answer error size ≡ End → answer ≡ pos 0
+    go (pos zero) error e = refl
+    go (pos (suc count)) error e = let z : _≡_ {A = ℕ} 0 1 = cc in absurd (omega arith)
+    go (negsuc answer) error e = absurd (no-end error e)
 
 -- what is told by its tag to be another than the end is another
 pub finished-other : {task : Task} {input : Transfer} (pending out : List ℕ) (current : OpenLine) → OneOf (0 ∷ 2 ∷ 3 ∷ []) (tagOf the-type input)

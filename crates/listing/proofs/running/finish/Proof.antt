@@ -12,8 +12,14 @@ use Rattle.listing.proofs.running.finish.Tie as tie
 enum-told : tie.Need-enum-told
 enum-told c = search needs
 
+slice-aggregate-fail : tie.Need-slice-aggregate-fail
+slice-aggregate-fail c = search needs
+
+fail-requires : tie.Need-fail-requires
+fail-requires c κs = search needs
+
 returns : tie.Need-returns
-returns c = finished-other _ _ _ (c .match .keys2)
+returns c = finished-other _ _ _ (c .before .before .match .keys2)
 
 returns-2 : tie.Need-returns-2
 returns-2 c =
@@ -45,6 +51,8 @@ finish-spec =
     tie.close
     (tie.spec
     enum-told
+    slice-aggregate-fail
+    fail-requires
     returns
     returns-2
     add-put-line

@@ -1,54 +1,36 @@
--- `listing::running::read_chunk` meets its contract: it answers what a read means that was not interrupted. The loop's invariant: the chunk keeps its length. The measure is the number of calls that are left.
+-- `listing::running::read_chunk` meets its contract: it hands back what one read brought. The loop's invariant: that is so of the last read, and the chunk keeps its length. The measure is the number of calls that are left.
 -- Assumes nothing.
 use mathlib.Core.Path.{_≡_, refl, _∙_}
 use native.Mathlib.Omega.{arith}
 use borrow.Author.Needs.{needs}
 use lib.ListN.{length}
-use Rattle.listing.proofs.running.Transfers.{reads-once, reads-never}
+use Rattle.listing.specs.Running.{Reads}
 use Rattle.listing.proofs.running.read_chunk.Statement.{statement}
 use Rattle.listing.proofs.running.read_chunk.Tie as tie
 
 abbrev Inv-loop : tie.InvT-loop
-Inv-loop chunk₀ calls₀ t5 chunk calls = length chunk ≡ length chunk₀
+Inv-loop chunk₀ calls₀ input₀ chunk calls input = (length chunk ≡ length chunk₀) × Reads (length chunk) input
 
 abbrev μ-loop : tie.MeasureT-loop
-μ-loop chunk₀ calls₀ t5 chunk calls = calls
+μ-loop chunk₀ calls₀ input₀ chunk calls input = calls
+
+read-once-requires : tie.Need-read-once-requires Inv-loop μ-loop
+read-once-requires c κs = search needs
 
 loop-holds : tie.Need-loop-holds Inv-loop μ-loop
-loop-holds c = refl
-
-read-requires : tie.Need-read-requires Inv-loop μ-loop
-read-requires c κs = tt
-
-errno-requires : tie.Need-errno-requires Inv-loop μ-loop
-errno-requires c κs = tt
-
-transfer-of-requires : tie.Need-transfer-of-requires Inv-loop μ-loop
-transfer-of-requires c κs = tt
+loop-holds c = (refl, c .before .before .read-once .ensures)
 
 enum-told : tie.Need-enum-told Inv-loop μ-loop
 enum-told c = search needs
 
-enum-told-2 : tie.Need-enum-told-2 Inv-loop μ-loop
-enum-told-2 c = search needs
-
-slice-aggregate-fail : tie.Need-slice-aggregate-fail Inv-loop μ-loop
-slice-aggregate-fail c = search needs
-
-fail-requires : tie.Need-fail-requires Inv-loop μ-loop
-fail-requires c κs = tt
-
 same-length : tie.Need-same-length Inv-loop μ-loop
-same-length c = c .before .before .before .before .before .before .before .before .before .before .read .kept .1 .0 ∙ c .before .before .before .before .before .before .before .before .before .before .before .before .before .loop .inv
+same-length c = let l = c .before .before in l .loop .inv .0 ∙ l .before .before .before .read-once .kept .0
 
 returns : tie.Need-returns Inv-loop μ-loop
-returns c = reads-once _ _ (c .before .before .before .before .before .before .before .before .before .before .read .result) _ _ (record { sfits = c .before .before .before .before .before .before .before .before .before .before .read .ok }) (c .before .before .before .before .before .before .before .before .before .before .read .kept .1 .0) (c .before .before .before .before .before .before .before .before .before .before .read .ensures) (c .before .before .before .before .before .transfer-of .ensures) (c .before .before .before .before .match .keys2)
+returns c = c .before .before .loop .inv .1
 
-same-length-2 : tie.Need-same-length-2 Inv-loop μ-loop
-same-length-2 c = c .before .before .before .before .before .before .before .read .kept .1 .0 ∙ c .before .before .before .before .before .before .before .before .before .before .loop .inv
-
-returns-2 : tie.Need-returns-2 Inv-loop μ-loop
-returns-2 c = reads-once _ _ (c .before .before .before .before .before .before .before .read .result) _ _ (record { sfits = c .before .before .before .before .before .before .before .read .ok }) (c .before .before .before .before .before .before .before .read .kept .1 .0) (c .before .before .before .before .before .before .before .read .ensures) (c .before .before .transfer-of .ensures) (c .before .match .keys2)
+read-once-requires-2 : tie.Need-read-once-requires-2 Inv-loop μ-loop
+read-once-requires-2 c κs = c .before .before .before .before .loop .inv .1 .room
 
 sub-calls : tie.Need-sub-calls Inv-loop μ-loop
 sub-calls c = omega arith
@@ -57,13 +39,15 @@ loop-less : tie.Need-loop-less Inv-loop μ-loop
 loop-less c = omega arith
 
 loop-again : tie.Need-loop-again Inv-loop μ-loop
-loop-again c = c .before .before .before .before .before .before .before .read .kept .1 .0 ∙ c .before .before .before .before .before .before .before .before .before .before .loop .inv
+loop-again c =
+    let read = c .before .before in
+    (read .read-once2 .kept .0 ∙ read .before .before .before .before .before .loop .inv .0, read .read-once2 .ensures)
 
-same-length-3 : tie.Need-same-length-3 Inv-loop μ-loop
-same-length-3 c = c .before .loop .inv
+same-length-2 : tie.Need-same-length-2 Inv-loop μ-loop
+same-length-2 c = let l = c .before in l .loop .inv .0 ∙ l .before .before .before .read-once .kept .0
 
-returns-3 : tie.Need-returns-3 Inv-loop μ-loop
-returns-3 c = reads-never _
+returns-2 : tie.Need-returns-2 Inv-loop μ-loop
+returns-2 c = c .before .loop .inv .1
 
 pub read-chunk-spec : {M : Type 1} → statement M
 read-chunk-spec =
@@ -71,20 +55,14 @@ read-chunk-spec =
     (tie.spec
     Inv-loop
     μ-loop
+    read-once-requires
     loop-holds
-    read-requires
-    errno-requires
-    transfer-of-requires
     enum-told
-    enum-told-2
-    slice-aggregate-fail
-    fail-requires
     same-length
     returns
-    same-length-2
-    returns-2
+    read-once-requires-2
     sub-calls
     loop-less
     loop-again
-    same-length-3
-    returns-3)
+    same-length-2
+    returns-2)

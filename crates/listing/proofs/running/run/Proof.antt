@@ -42,10 +42,10 @@ slice-aggregate-read-chunk : tie.Need-slice-aggregate-read-chunk Inv-loop μ-loo
 slice-aggregate-read-chunk c = c .before .before .loop .inv .chunk-size
 
 read-chunk-requires : tie.Need-read-chunk-requires Inv-loop μ-loop
-read-chunk-requires c κs = tt
+read-chunk-requires c κs = omega (arith, c .before .before .loop .inv .chunk-size)
 
-enum-known-input : tie.Need-enum-known-input Inv-loop μ-loop
-enum-known-input c = search needs
+enum-known-meaning : tie.Need-enum-known-meaning Inv-loop μ-loop
+enum-known-meaning c = search needs
 
 slice-aggregate-finish : tie.Need-slice-aggregate-finish Inv-loop μ-loop
 slice-aggregate-finish c = c .before .before .before .before .before .before .loop .inv .pending-size
@@ -69,8 +69,8 @@ returns : tie.Need-returns Inv-loop μ-loop
 returns c = tt
 
 -- a read brings no more bytes than the chunk has
-within : (c : tie.After-input Inv-loop μ-loop) → c .input .given .0 .0 ≤ length (c .before .before .before .read-chunk .last .0)
-within c = bytes-within _ _ _ _ (sym (c .input .given .1) ∙ c .before .before .before .read-chunk .ensures .is)
+within : (c : tie.After-meaning Inv-loop μ-loop) → c .meaning .given .0 .0 ≤ length (c .before .before .before .read-chunk .last .0)
+within c = bytes-within _ _ _ _ (sym (c .meaning .given .1) ∙ c .before .before .before .read-chunk .ensures .means)
 
 array-share-prefix-chunk : tie.Need-array-share-prefix-chunk Inv-loop μ-loop
 array-share-prefix-chunk c = within (c .before)
@@ -88,7 +88,7 @@ answer-chunk-requires : tie.Need-answer-chunk-requires Inv-loop μ-loop
 answer-chunk-requires c κs =
     let brought = c .before .before .before .before in
     let read = brought .before .before .before in
-    going-ready (read .before .before .before .loop .inv) (read .read-chunk .last .0) (brought .input .given .0 .0) (read .read-chunk .kept .0) (within brought)
+    going-ready (read .before .before .before .loop .inv) (read .read-chunk .last .0) (brought .meaning .given .0 .0) (read .read-chunk .kept .0) (within brought)
 
 enum-known-passed : tie.Need-enum-known-passed Inv-loop μ-loop
 enum-known-passed c = search needs
@@ -111,7 +111,7 @@ loop-again c =
     let brought = answered .before .before .before .before .before in
     let read = brought .before .before .before in
     let l = read .before .before .before in
-    going-on (l .loop .inv) (read .read-chunk .last .0) (brought .input .given .0 .0) (read .read-chunk .kept .0) (within brought) (read .before .before .loop-test .taken)
+    going-on (l .loop .inv) (read .read-chunk .last .0) (brought .meaning .given .0 .0) (read .read-chunk .kept .0) (within brought) (read .before .before .loop-test .taken)
     (rw (c .before .passed .given .1) at (answered .answer-chunk .ensures)) (answered .answer-chunk .kept .1 .0) (answered .answer-chunk .kept .1 .1 .0)
 
 returns-3 : tie.Need-returns-3 Inv-loop μ-loop
@@ -128,7 +128,7 @@ run-spec =
     loop-holds
     slice-aggregate-read-chunk
     read-chunk-requires
-    enum-known-input
+    enum-known-meaning
     slice-aggregate-finish
     slice-aggregate-finish-2
     finish-requires
