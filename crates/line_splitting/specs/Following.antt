@@ -17,10 +17,15 @@ pub record Follows (task : Task) (bytes : List ℕ) (pending : List ℕ) (held :
   pub count : number ≡ length (cutFrom [] bytes .ended)
   pub open-line : Held pending held (cutFrom [] bytes .open-line)
 
--- one more piece of the input: what is put into the output goes on with the text
-pub record Goes (task : Task) (bytes : List ℕ) (piece : List ℕ) (text : List ℕ) (out : List ℕ) (used : ℕ) (pending-after : List ℕ) (out-after : List ℕ) (after : Progress) : Type 0 where
+-- the lines that end in a piece of the input: the first begins with what was open before it
+abbrev pub endedIn : List ℕ → List ℕ → List (List ℕ)
+endedIn bytes piece = cutFrom (cutFrom [] bytes .open-line) piece .ended
+
+-- one more piece of the input: what is put into the output is printed for the lines that end in it, and goes on with the text
+pub record Goes (task : Task) (bytes : List ℕ) (piece : List ℕ) (text : List ℕ) (out : List ℕ) (progress : Progress) (pending-after : List ℕ) (out-after : List ℕ) (after : Progress) : Type 0 where
   pub more : List ℕ
-  pub put : Put out used more out-after (after .used)
+  pub prints : Prints task (progress .number + 1) (endedIn bytes piece) more
+  pub put : Put out (progress .used) more out-after (after .used)
   pub follows : Follows task (bytes ++ piece) pending-after (after .held) (after .number) (text ++ more)
 
 -- the promise of passing lines of a chunk, whatever came before it
@@ -31,4 +36,4 @@ pub record Passes (task : Task) (chunk : List ℕ) (pending : List ℕ) (out : L
   pub room : after .used ≤ length out
   pub fewer : after .number + progress .at ≤ progress .number + after .at
   pub goes : (bytes text : List ℕ) → Follows task bytes pending (progress .held) (progress .number) text
-      → Goes task bytes (slice (progress .at) (after .at) chunk) text out (progress .used) pending-after out-after after
+      → Goes task bytes (slice (progress .at) (after .at) chunk) text out progress pending-after out-after after
