@@ -1,11 +1,11 @@
--- The running of a list: what the answer of a system call means, and the promises of a chunk and of the end of the input. What a read brings and what a
--- write takes no contract can say: that the bytes of the reads are the input, and the bytes made ready the output, is not promised.
+-- The running of a list: what the answer of a system call means, and the promises of a read, of a chunk and of the end of the input. What a read brings and
+-- what a write takes no contract can say, so the promises are told over what is handed back: the answer of the read, and how many bytes the writes took.
 -- Assumes nothing.
 use mathlib.Core.Path.{_≡_}
 use mathlib.Core.List.{List, _++_}
-use Prim.Native.Nat.{ℕ, zero, suc, _+_, _≤_, _<_, _^_}
+use Prim.Native.Nat.{ℕ, zero, suc, _+_, _*_, _≤_, _<_, _^_}
 use lib.Dec.{eqb}
-use lib.ListN.{length}
+use lib.ListN.{length, take}
 use lib.IntN.{ℤ, pos, negsuc}
 use Rattle.letters.specs.Choice.{pick}
 use Rattle.io.specs.Counts.{clamped}
@@ -15,7 +15,7 @@ use Rattle.line_printing.specs.Printed.{printedLimit}
 use Rattle.line_printing.specs.declared.Task.{Task}
 use Rattle.line_splitting.specs.Lines.{linesOf}
 use Rattle.line_splitting.specs.Taken.{heldLimit, Prints}
-use Rattle.line_splitting.specs.Following.{Follows}
+use Rattle.line_splitting.specs.Following.{endedIn, Follows}
 use Rattle.listing.specs.declared.running.Input.{Input}
 use Rattle.listing.specs.declared.running.OpenLine.{OpenLine}
 use Rattle.listing.specs.declared.running.Transfer.{Transfer}
@@ -40,29 +40,44 @@ pub record Reads (size : ℕ) (input : Input) : Type 0 where
   pub moved : Moved size (input .answer)
   pub means : input .meaning ≡ transferOf (input .answer) (input .error) size
 
--- what a chunk needs; it has no more lines than bytes
+-- what a chunk needs: it has no more lines than bytes, and the bytes that are made ready for it can be counted
 pub record ChunkReady (chunk : List ℕ) (pending : List ℕ) (out : List ℕ) (current : OpenLine) : Type 0 where
   pub fits : heldLimit ≤ length pending
   pub held : current .held ≤ heldLimit
   pub room : printedLimit ≤ length out
   pub numbers : current .number + length chunk < 2 ^ 64
+  pub countable : length chunk * length out < 2 ^ 64
 
--- one more piece of the input: what is printed for the lines that ended in it goes on with the text
-pub record Answered (task : Task) (bytes : List ℕ) (piece : List ℕ) (text : List ℕ) (pending-after : List ℕ) (held : ℕ) (number : ℕ) : Type 0 where
-  pub written : List ℕ
-  pub follows : Follows task (bytes ++ piece) pending-after held number (text ++ written)
+-- what is printed for the lines that end in a piece of the input, of which the first has the number behind this one, is so many bytes
+pub record EndedText (task : Task) (number : ℕ) (bytes : List ℕ) (piece : List ℕ) (size : ℕ) : Type 0 where
+  pub text : List ℕ
+  pub prints : Prints task (number + 1) (endedIn bytes piece) text
+  pub count : size ≡ length text
 
--- the promise of a chunk, whatever came before it
-pub record Onward (task : Task) (chunk : List ℕ) (pending : List ℕ) (current : OpenLine) (pending-after : List ℕ) (after : OpenLine) : Type 0 where
+-- one more piece of the input: what is printed for the lines that end in it goes on with the text
+pub record Answered (task : Task) (bytes : List ℕ) (piece : List ℕ) (text : List ℕ) (current : OpenLine) (pending-after : List ℕ) (after : OpenLine) (size : ℕ) : Type 0 where
+  pub ended : EndedText task (current .number) bytes piece size
+  pub follows : Follows task (bytes ++ piece) pending-after (after .held) (after .number) (text ++ ended .text)
+
+-- the promise of a chunk that was passed whole, whatever came before it: the writes took as many bytes as are printed for the lines that end in it
+pub record Onward (task : Task) (chunk : List ℕ) (pending : List ℕ) (current : OpenLine) (pending-after : List ℕ) (after : OpenLine) (taken : ℕ) : Type 0 where
   pub held : after .held ≤ heldLimit
   pub numbers : after .number ≤ current .number + length chunk
   pub answered : (bytes text : List ℕ) → Follows task bytes pending (current .held) (current .number) text
-      → Answered task bytes chunk text pending-after (after .held) (after .number)
+      → Answered task bytes chunk text current pending-after after taken
 
--- a write that failed ends the run
+-- the promise of a chunk at which a write failed: of what is printed for the lines that end before some place, the writes took all but so many bytes
+pub record Short (task : Task) (chunk : List ℕ) (pending : List ℕ) (current : OpenLine) (taken : ℕ) (missing : ℕ) : Type 0 where
+  pub place : ℕ
+  pub within : place ≤ length chunk
+  pub some : 0 < missing
+  pub answered : (bytes text : List ℕ) → Follows task bytes pending (current .held) (current .number) text
+      → EndedText task (current .number) bytes (take place chunk) (taken + missing)
+
+-- the promise of a chunk
 abbrev pub ChunkAnswers : Task → List ℕ → List ℕ → OpenLine → List ℕ → Passed → Type 0
-ChunkAnswers task chunk pending current pending-after (Whole after) = Onward task chunk pending current pending-after after
-ChunkAnswers task chunk pending current pending-after Stopped = Unit {0}
+ChunkAnswers task chunk pending current pending-after (Whole after taken) = Onward task chunk pending current pending-after after taken
+ChunkAnswers task chunk pending current pending-after (Stopped taken missing) = Short task chunk pending current taken missing
 
 -- what the end of an input needs
 pub record EndReady (pending : List ℕ) (out : List ℕ) (current : OpenLine) : Type 0 where

@@ -8,7 +8,7 @@ use line_splitting::HELD_LIMIT;
 use line_splitting::Progress;
 use line_splitting::pass_chunk;
 ghost use mathlib.Core.Path.{_≡_};
-ghost use Prim.Native.Nat.{_<_};
+ghost use Prim.Native.Nat.{_≤_, _<_};
 ghost use lib.ListN.{length};
 ghost use Rattle.listing.specs.Running.{transferOf, Reads, EndReady, Finishes, ChunkReady, ChunkAnswers};
 
@@ -38,10 +38,11 @@ struct OpenLine {
     number: u64,
 }
 
-// How a chunk ended: with all that was printed for its lines written, or with a write that failed.
+// How a chunk ended: with all that is printed for its lines written, or with a write that failed. Each tells how many bytes the writes
+// took, and the latter how many that were ready they did not.
 enum Passed {
-    Whole(OpenLine),
-    Stopped,
+    Whole { line: OpenLine, taken: usize },
+    Stopped { taken: usize, missing: usize },
 }
 
 // What the answer of a read or a write of these bytes means, where the system's error number is as it was left.
@@ -93,8 +94,11 @@ fn read_chunk(chunk: &mut [u8]) -> Input
     input
 }
 
-// Writes all bytes, going on where a write took only some of them. False where a write failed.
-fn write_whole(bytes: &[u8]) -> bool {
+// Writes all bytes, going on where a write took only some of them, and answers how many were taken: fewer than all where a write
+// failed.
+fn write_whole(bytes: &[u8]) -> usize
+    ensures { λ r. ⌜ r ≤ length (now (bytes .entry)) ⌝ }
+{
     let mut calls = CALLS;
     let mut done = 0;
     while done < bytes.len() && 0 < calls {
@@ -105,12 +109,12 @@ fn write_whole(bytes: &[u8]) -> bool {
             Transfer::Interrupted => {}
             Transfer::End | Transfer::Failed => {
                 os::fail(b"standard output");
-                return false;
+                return done;
             }
         }
         calls -= 1;
     }
-    done == bytes.len()
+    done
 }
 
 // Takes all lines of a chunk, and writes what is printed for them.
@@ -130,18 +134,23 @@ fn answer_chunk(
         number: current.number,
         used: 0,
     };
+    let mut taken = 0;
     while reached.at < chunk.len() {
         reached = pass_chunk(chunk, pending, out, reached, task);
         let used = reached.used;
-        if !write_whole(&out[..used]) {
-            return Passed::Stopped;
+        let written = write_whole(&out[..used]);
+        let missing = used - written;
+        taken += written;
+        if 0 < missing {
+            return Passed::Stopped { taken, missing };
         }
         reached.used = 0;
     }
-    Passed::Whole(OpenLine {
+    let line = OpenLine {
         held: reached.held,
         number: reached.number,
-    })
+    };
+    Passed::Whole { line, taken }
 }
 
 // Prints the open line at the end of the input, where it has a byte, and answers how many bytes are ready to be written. Where the
@@ -161,12 +170,12 @@ fn finish(input: Transfer, pending: &[u8], out: &mut [u8], current: OpenLine, ta
     put_line(out, current.number + 1, &pending[..held], task)
 }
 
-// Runs a list to its end, with the same asked of each line. What is printed for the lines of a chunk is written before the next read, so that at a terminal and at the
-// other end of a pipe each line is answered at once.
+// Runs a list to its end, with the same asked of each line. What is printed for the lines of a chunk is written before the next read, so
+// that at a terminal and at the other end of a pipe each line is answered at once.
 //
-// What has no promise are the two system calls, since no contract can say what a read brings or a write takes: that the bytes of the
-// reads are those that are passed on, and the bytes made ready those that are written, is to be read here, in `answer_chunk`, in
-// `read_once` and in `write_whole`.
+// No contract says what a read brings or what a write takes, so this is left to be read by eye: that `answer` in `read_once` is what
+// `libc::read` answered; that the bytes that are handed to `libc::write`, by `write_whole` from `answer_chunk` and from here, are those at
+// the front of the output; and that each chunk that is read is answered here, from its front, until a read brings no bytes.
 pub fn run(task: Task) {
     let mut chunk = io::large_buffer();
     let mut pending = [0; HELD_LIMIT];
@@ -182,10 +191,10 @@ pub fn run(task: Task) {
             return;
         };
         let passed = answer_chunk(&chunk[..count], &mut pending, &mut out, current, task);
-        let Passed::Whole(next) = passed else {
+        let Passed::Whole { line, taken: _ } = passed else {
             return;
         };
-        current = next;
+        current = line;
         calls -= 1;
     }
 }

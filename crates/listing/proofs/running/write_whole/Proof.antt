@@ -1,4 +1,4 @@
--- `listing::running::write_whole` is safe and ends. The loop's invariant: no more bytes are written than there are. The measure is the number of calls that are left.
+-- `listing::running::write_whole` meets its contract. The loop's invariant: no more bytes are taken than there are. The measure is the number of calls that are left.
 -- Assumes nothing.
 use mathlib.Core.Logic.{⊎-elim}
 use mathlib.Core.Path.{sym, _∙_}
@@ -68,7 +68,7 @@ fail-requires : tie.Need-fail-requires Inv-loop μ-loop
 fail-requires c κs = tt
 
 returns : tie.Need-returns Inv-loop μ-loop
-returns c = tt
+returns c = c .before .before .before .before .before .before .before .before .before .loop .inv
 
 sub-calls : tie.Need-sub-calls Inv-loop μ-loop
 sub-calls c = omega (arith, ltb-true 0 (c .before .before .before .before .before .before .before .loop .calls) (c .before .before .before .before .before .if1 .taken))
@@ -80,7 +80,10 @@ loop-again : tie.Need-loop-again Inv-loop μ-loop
 loop-again c = ⊎-elim (λ w. rw (w .3) (moved (record { before = record { before = c .before; match = w .0 }; count = w .1 }))) (λ w. rw (w .2) (c .before .before .before .before .before .before .before .loop .inv)) (c .match .came)
 
 returns-2 : tie.Need-returns-2 Inv-loop μ-loop
-returns-2 c = tt
+returns-2 c = c .before .before .loop .inv
+
+returns-3 : tie.Need-returns-3 Inv-loop μ-loop
+returns-3 c = c .before .loop .inv
 
 pub write-whole-spec : {M : Type 1} → statement M
 write-whole-spec =
@@ -104,4 +107,5 @@ write-whole-spec =
     sub-calls
     loop-less
     loop-again
-    returns-2)
+    returns-2
+    returns-3)
