@@ -2,3 +2,4 @@ pub mod Cutting
 pub mod Holding
 pub mod Taking
 pub mod Following
+pub mod Determined

@@ -1,2 +1,3 @@
 pub mod Passing
 pub mod Ending
+pub mod Determined
