@@ -203,7 +203,7 @@ of-heads heads head-weights =
       spell = map (λ (h : ℕ). h ∷ []) heads;
     }
 
--- the digits that look like a letter: alone, beside each other, beside a letter, and beside another digit alone; and with a stop
+-- the digits that look like a letter: alone, beside each other, beside a letter, beside another digit alone, before a letter and behind a mark; and with a stop
 abbrev pub zero-alone : Example
 zero-alone = of-heads (0x1040 ∷ []) (3 ∷ [])
 
@@ -216,8 +216,37 @@ letter-zero = of-heads (0x1000 ∷ 0x1040 ∷ []) (13 ∷ 3 ∷ [])
 abbrev pub letter-one-zero : Example
 letter-one-zero = of-heads (0x1000 ∷ 0x1041 ∷ 0x1040 ∷ []) (13 ∷ 4 ∷ 3 ∷ [])
 
+abbrev pub zero-letter : Example
+zero-letter = of-heads (0x1040 ∷ 0x1000 ∷ []) (3 ∷ 13 ∷ [])
+
+abbrev pub toned-seven : Example
+toned-seven =
+    record {
+      word = 0x1000 ∷ 0x1038 ∷ 0x1047 ∷ [];
+      row = syllable 0x1000 no-medial no-vowel no-final visarga ∷ bare 0x1047 ∷ [];
+      records = (0x00 ∷ 0 ∷ 0 ∷ 0 ∷ 0 ∷ 0 ∷ 0 ∷ 2 ∷ []) ∷ (0x47 ∷ 0 ∷ 0 ∷ 0 ∷ 0 ∷ 0 ∷ 0 ∷ 0 ∷ []) ∷ [];
+      weigh = (13 ∷ 0 ∷ 0 ∷ 0 ∷ 0 ∷ 2 ∷ []) ∷ (10 ∷ 0 ∷ 0 ∷ 0 ∷ 0 ∷ 0 ∷ []) ∷ [];
+      spell = (0x1000 ∷ 0x1038 ∷ []) ∷ (0x1047 ∷ []) ∷ [];
+    }
+
 abbrev pub zero-stop : Example
 zero-stop = of-heads (0x1000 ∷ 0x1040 ∷ 0x104B ∷ []) (13 ∷ 3 ∷ 2 ∷ [])
+
+-- a letter and then the other stop, or a sign that carries nothing
+abbrev letter-then : ℕ → ℕ → Example
+letter-then head weight = of-heads (0x1000 ∷ head ∷ []) (13 ∷ weight ∷ [])
+
+abbrev pub letter-stop : Example
+letter-stop = letter-then 0x104A 1
+
+abbrev pub letter-first-sign : Example
+letter-first-sign = letter-then 0x104C 47
+
+abbrev pub letter-second-sign : Example
+letter-second-sign = letter-then 0x104D 48
+
+abbrev pub letter-last-sign : Example
+letter-last-sign = letter-then 0x104F 50
 
 -- the letters that they look like, and as many syllables as a label may have, and one more
 abbrev pub wa-ra : Example
@@ -403,7 +432,13 @@ baseExamples =
     ∷ zero-seven
     ∷ letter-zero
     ∷ letter-one-zero
+    ∷ zero-letter
+    ∷ toned-seven
     ∷ zero-stop
+    ∷ letter-stop
+    ∷ letter-first-sign
+    ∷ letter-second-sign
+    ∷ letter-last-sign
     ∷ wa-ra
     ∷ ten-syllables
     ∷ eleven-syllables

@@ -10,7 +10,7 @@ use Rattle.letters.specs.Choice.{pick}
 use Rattle.formula.specs.Syllable.{carriesMarks, carriesFinal}
 use Rattle.formula.specs.Row.{Row, join}
 use Rattle.formula.proofs.Lists.{both-left, both-right, every, All, every-all, sameList, sameList-equal}
-use Rattle.formula.proofs.Words.{Example, letter, zero-alone, zero-seven, letter-zero, letter-one-zero, zero-stop, wa-ra, ten-syllables, eleven-syllables, o-alone, sa-ra, uu-alone, plain-i, plain-nya, plain-sign, ukka}
+use Rattle.formula.proofs.Words.{Example, letter, zero-alone, zero-seven, letter-zero, letter-one-zero, zero-letter, toned-seven, zero-stop, letter-stop, letter-first-sign, letter-second-sign, letter-last-sign, wa-ra, ten-syllables, eleven-syllables, o-alone, sa-ra, uu-alone, plain-i, plain-nya, plain-sign, ukka}
 use Rattle.refusals.specs.Outcome.{Outcome, accepts, refuses}
 use Rattle.refusals.proofs.Same.{sameOutcome, same-outcome}
 use Rattle.storage.specs.Stored.{isRunMark, rank, goesBehind, makesLongVowel, makesLetter, storedForm}
@@ -66,12 +66,18 @@ table =
     ∷ zero
     ∷ digits
     ∷ letters
-    -- "next to a value that isn't a digit"; another digit stands between in the second
+    -- "next to a value that isn't a digit", on either side, a letter or a mark; another digit stands between in the second
     ∷ worked letter-zero (refuses 22 1) (0x1000 ∷ 0x101D ∷ [])
     ∷ worked letter-one-zero (accepts 3) (0x1000 ∷ 0x1041 ∷ 0x101D ∷ [])
+    ∷ worked zero-letter (refuses 22 0) (0x101D ∷ 0x1000 ∷ [])
+    ∷ worked toned-seven (refuses 22 2) (0x1000 ∷ 0x1038 ∷ 0x101B ∷ [])
     -- the stop comes first, wherever it stands; 104E is a sign with a final too
     ∷ worked zero-stop (refuses 21 2) (0x1000 ∷ 0x101D ∷ 0x104B ∷ [])
     ∷ worked plain-sign (refuses 21 0) (0x104E ∷ 0x1004 ∷ 0x103A ∷ [])
+    ∷ worked letter-stop (refuses 21 1) (letter-stop .word)
+    ∷ worked letter-first-sign (refuses 21 1) (letter-first-sign .word)
+    ∷ worked letter-second-sign (refuses 21 1) (letter-second-sign .word)
+    ∷ worked letter-last-sign (refuses 21 1) (letter-last-sign .word)
     ∷ o
     ∷ sa
     -- 1025 102E is 1026, which is not replaced, and a place is one of the stored form
