@@ -2,13 +2,14 @@
 -- table each, computed.
 -- Assumes nothing.
 use mathlib.Core.Path.{_≡_}
-use mathlib.Core.Bool.{Bool, false, not, _&&_}
+use mathlib.Core.Bool.{Bool, true, false, not, _&&_}
 use mathlib.Core.List.{List, [], _∷_, _++_, map}
 use Prim.Native.Nat.{ℕ, _-_}
 use lib.Dec.{T}
 use lib.ListN.{replicate}
 use Rattle.letters.specs.Choice.{pick}
-use Rattle.letters.specs.Marks.{ya, ra, MedialGroup, group, medialGroups, no-medial, medialText, Vowel, vowels, no-vowel, vowel-aa, vowel-ii, vowel-e-aa-killer, vowel-i-u, vowelText, ToneMark, toneMarks, no-tone, dot, visarga, toneText}
+use Rattle.letters.specs.Counting.{upFrom}
+use Rattle.letters.specs.Marks.{neither, ya, ra, MedialGroup, group, medialGroups, no-medial, medialText, Vowel, vowels, no-vowel, vowel-aa, vowel-i, vowel-ii, vowel-u, vowel-uu, vowel-e, vowel-ai, vowel-e-aa, vowel-e-aa-killer, vowel-am, vowel-i-u, vowel-u-am, vowelText, ToneMark, toneMarks, no-tone, dot, visarga, toneText}
 use Rattle.formula.specs.Limits.{limit}
 use Rattle.formula.specs.Syllable.{no-final, plain, plain-pair, stacked, kinzi, great-sa, syllable, bare, carriesMarks, carriesFinal}
 use Rattle.formula.specs.Row.{Row, isRowOf, isRowAfter, join, Gives}
@@ -192,6 +193,121 @@ range-ends =
       spell = map (λ (h : ℕ). h ∷ []) range-heads;
     }
 
+-- "Y 1, R 2, W 3, H 4, YW 5, RW 6, YH 7, RH 8, WH 9, YWH 10, RWH 11": a syllable with each medial group
+abbrev every-medial : Example
+every-medial =
+    record {
+      word =
+          0x1000 ∷ 0x103B ∷ 0x1000 ∷ 0x103C ∷ 0x1000 ∷ 0x103D ∷ 0x1000 ∷ 0x103E ∷ 0x1000 ∷ 0x103B ∷ 0x103D ∷ 0x1000 ∷ 0x103C ∷ 0x103D
+          ∷ 0x1000 ∷ 0x103B ∷ 0x103E ∷ 0x1000 ∷ 0x103C ∷ 0x103E ∷ 0x1000 ∷ 0x103D ∷ 0x103E ∷ 0x1000 ∷ 0x103B ∷ 0x103D ∷ 0x103E ∷ 0x1000 ∷ 0x103C ∷ 0x103D ∷ 0x103E ∷ [];
+      row =
+          map (λ (g : MedialGroup). syllable 0x1000 g no-vowel no-final no-tone)
+          (group ya false false
+          ∷ group ra false false
+          ∷ group neither true false
+          ∷ group neither false true
+          ∷ group ya true false
+          ∷ group ra true false
+          ∷ group ya false true
+          ∷ group ra false true
+          ∷ group neither true true
+          ∷ group ya true true
+          ∷ group ra true true
+          ∷ []);
+      records = map (λ (n : ℕ). 0x00 ∷ n ∷ 0 ∷ 0 ∷ 0 ∷ 0 ∷ 0 ∷ 0 ∷ []) (upFrom 1 11);
+      weigh = map (λ (n : ℕ). 13 ∷ n ∷ 0 ∷ 0 ∷ 0 ∷ 0 ∷ []) (upFrom 1 11);
+      spell =
+          (0x1000 ∷ 0x103B ∷ [])
+          ∷ (0x1000 ∷ 0x103C ∷ [])
+          ∷ (0x1000 ∷ 0x103D ∷ [])
+          ∷ (0x1000 ∷ 0x103E ∷ [])
+          ∷ (0x1000 ∷ 0x103B ∷ 0x103D ∷ [])
+          ∷ (0x1000 ∷ 0x103C ∷ 0x103D ∷ [])
+          ∷ (0x1000 ∷ 0x103B ∷ 0x103E ∷ [])
+          ∷ (0x1000 ∷ 0x103C ∷ 0x103E ∷ [])
+          ∷ (0x1000 ∷ 0x103D ∷ 0x103E ∷ [])
+          ∷ (0x1000 ∷ 0x103B ∷ 0x103D ∷ 0x103E ∷ [])
+          ∷ (0x1000 ∷ 0x103C ∷ 0x103D ∷ 0x103E ∷ [])
+          ∷ [];
+    }
+
+-- "AA (102B or 102C) 1, 102D 2, 102E 3, 102F 4, 1030 5, 1031 6, 1032 7, 1031 AA 8, 1031 AA 103A 9, 1036 10, 102D 102F 11, 102F 1036 12": a syllable
+-- with each vowel, those with AA first with 102C and then with 102B, which is "1 for a tall AA"
+abbrev every-vowel : Example
+every-vowel =
+    record {
+      word =
+          0x1000 ∷ 0x102C ∷ 0x1000 ∷ 0x102B ∷ 0x1000 ∷ 0x102D ∷ 0x1000 ∷ 0x102E ∷ 0x1000 ∷ 0x102F ∷ 0x1000 ∷ 0x1030 ∷ 0x1000 ∷ 0x1031 ∷ 0x1000 ∷ 0x1032
+          ∷ 0x1000 ∷ 0x1031 ∷ 0x102C ∷ 0x1000 ∷ 0x1031 ∷ 0x102B ∷ 0x1000 ∷ 0x1031 ∷ 0x102C ∷ 0x103A ∷ 0x1000 ∷ 0x1031 ∷ 0x102B ∷ 0x103A
+          ∷ 0x1000 ∷ 0x1036 ∷ 0x1000 ∷ 0x102D ∷ 0x102F ∷ 0x1000 ∷ 0x102F ∷ 0x1036 ∷ [];
+      row =
+          map (λ (v : Vowel). syllable 0x1000 no-medial v no-final no-tone)
+          (vowel-aa false
+          ∷ vowel-aa true
+          ∷ vowel-i
+          ∷ vowel-ii
+          ∷ vowel-u
+          ∷ vowel-uu
+          ∷ vowel-e
+          ∷ vowel-ai
+          ∷ vowel-e-aa false
+          ∷ vowel-e-aa true
+          ∷ vowel-e-aa-killer false
+          ∷ vowel-e-aa-killer true
+          ∷ vowel-am
+          ∷ vowel-i-u
+          ∷ vowel-u-am
+          ∷ []);
+      records =
+          (0x00 ∷ 0 ∷ 1 ∷ 0 ∷ 0 ∷ 0 ∷ 0 ∷ 0 ∷ [])
+          ∷ (0x00 ∷ 0 ∷ 1 ∷ 1 ∷ 0 ∷ 0 ∷ 0 ∷ 0 ∷ [])
+          ∷ (0x00 ∷ 0 ∷ 2 ∷ 0 ∷ 0 ∷ 0 ∷ 0 ∷ 0 ∷ [])
+          ∷ (0x00 ∷ 0 ∷ 3 ∷ 0 ∷ 0 ∷ 0 ∷ 0 ∷ 0 ∷ [])
+          ∷ (0x00 ∷ 0 ∷ 4 ∷ 0 ∷ 0 ∷ 0 ∷ 0 ∷ 0 ∷ [])
+          ∷ (0x00 ∷ 0 ∷ 5 ∷ 0 ∷ 0 ∷ 0 ∷ 0 ∷ 0 ∷ [])
+          ∷ (0x00 ∷ 0 ∷ 6 ∷ 0 ∷ 0 ∷ 0 ∷ 0 ∷ 0 ∷ [])
+          ∷ (0x00 ∷ 0 ∷ 7 ∷ 0 ∷ 0 ∷ 0 ∷ 0 ∷ 0 ∷ [])
+          ∷ (0x00 ∷ 0 ∷ 8 ∷ 0 ∷ 0 ∷ 0 ∷ 0 ∷ 0 ∷ [])
+          ∷ (0x00 ∷ 0 ∷ 8 ∷ 1 ∷ 0 ∷ 0 ∷ 0 ∷ 0 ∷ [])
+          ∷ (0x00 ∷ 0 ∷ 9 ∷ 0 ∷ 0 ∷ 0 ∷ 0 ∷ 0 ∷ [])
+          ∷ (0x00 ∷ 0 ∷ 9 ∷ 1 ∷ 0 ∷ 0 ∷ 0 ∷ 0 ∷ [])
+          ∷ (0x00 ∷ 0 ∷ 10 ∷ 0 ∷ 0 ∷ 0 ∷ 0 ∷ 0 ∷ [])
+          ∷ (0x00 ∷ 0 ∷ 11 ∷ 0 ∷ 0 ∷ 0 ∷ 0 ∷ 0 ∷ [])
+          ∷ (0x00 ∷ 0 ∷ 12 ∷ 0 ∷ 0 ∷ 0 ∷ 0 ∷ 0 ∷ [])
+          ∷ [];
+      weigh =
+          map (λ (v : ℕ). 13 ∷ 0 ∷ 0 ∷ 0 ∷ v ∷ 0 ∷ [])
+          (1 ∷ 1 ∷ 2 ∷ 3 ∷ 4 ∷ 5 ∷ 6 ∷ 7 ∷ 8 ∷ 8 ∷ 9 ∷ 9 ∷ 10 ∷ 11 ∷ 12 ∷ []);
+      spell =
+          (0x1000 ∷ 0x102C ∷ [])
+          ∷ (0x1000 ∷ 0x102B ∷ [])
+          ∷ (0x1000 ∷ 0x102D ∷ [])
+          ∷ (0x1000 ∷ 0x102E ∷ [])
+          ∷ (0x1000 ∷ 0x102F ∷ [])
+          ∷ (0x1000 ∷ 0x1030 ∷ [])
+          ∷ (0x1000 ∷ 0x1031 ∷ [])
+          ∷ (0x1000 ∷ 0x1032 ∷ [])
+          ∷ (0x1000 ∷ 0x1031 ∷ 0x102C ∷ [])
+          ∷ (0x1000 ∷ 0x1031 ∷ 0x102B ∷ [])
+          ∷ (0x1000 ∷ 0x1031 ∷ 0x102C ∷ 0x103A ∷ [])
+          ∷ (0x1000 ∷ 0x1031 ∷ 0x102B ∷ 0x103A ∷ [])
+          ∷ (0x1000 ∷ 0x1036 ∷ [])
+          ∷ (0x1000 ∷ 0x102D ∷ 0x102F ∷ [])
+          ∷ (0x1000 ∷ 0x102F ∷ 0x1036 ∷ [])
+          ∷ [];
+    }
+
+-- the last final letter, stacked, below itself and plain
+abbrev last-final : Example
+last-final =
+    record {
+      word = 0x1000 ∷ 0x1020 ∷ 0x1039 ∷ 0x1020 ∷ 0x1020 ∷ 0x103A ∷ [];
+      row = syllable 0x1000 no-medial no-vowel (stacked 0x1020) no-tone ∷ syllable 0x1020 no-medial no-vowel (plain 0x1020) no-tone ∷ [];
+      records = (0x00 ∷ 0 ∷ 0 ∷ 0 ∷ 33 ∷ 0 ∷ 2 ∷ 0 ∷ []) ∷ (0x20 ∷ 0 ∷ 0 ∷ 0 ∷ 33 ∷ 0 ∷ 1 ∷ 0 ∷ []) ∷ [];
+      weigh = (13 ∷ 0 ∷ 33 ∷ 0 ∷ 0 ∷ 0 ∷ []) ∷ (45 ∷ 0 ∷ 33 ∷ 0 ∷ 0 ∷ 0 ∷ []) ∷ [];
+      spell = (0x1000 ∷ 0x1020 ∷ 0x103A ∷ []) ∷ (0x1020 ∷ 0x1020 ∷ 0x103A ∷ []) ∷ [];
+    }
+
 -- heads alone, each with its weight, of which none has a vowel weight
 abbrev of-heads : List ℕ → List ℕ → Example
 of-heads heads head-weights =
@@ -203,7 +319,8 @@ of-heads heads head-weights =
       spell = map (λ (h : ℕ). h ∷ []) heads;
     }
 
--- the digits that look like a letter: alone, beside each other, beside a letter, beside another digit alone, before a letter and behind a mark; and with a stop
+-- the digits that look like a letter: alone, beside each other, beside a letter, beside another digit alone, beside the last
+-- one, before a letter and behind a mark; and with a stop
 abbrev pub zero-alone : Example
 zero-alone = of-heads (0x1040 ∷ []) (3 ∷ [])
 
@@ -215,6 +332,9 @@ letter-zero = of-heads (0x1000 ∷ 0x1040 ∷ []) (13 ∷ 3 ∷ [])
 
 abbrev pub letter-one-zero : Example
 letter-one-zero = of-heads (0x1000 ∷ 0x1041 ∷ 0x1040 ∷ []) (13 ∷ 4 ∷ 3 ∷ [])
+
+abbrev pub nine-zero : Example
+nine-zero = of-heads (0x1049 ∷ 0x1040 ∷ []) (12 ∷ 3 ∷ [])
 
 abbrev pub zero-letter : Example
 zero-letter = of-heads (0x1040 ∷ 0x1000 ∷ []) (3 ∷ 13 ∷ [])
@@ -424,6 +544,9 @@ baseExamples =
     }
     ∷ great-sa-alone
     ∷ range-ends
+    ∷ every-medial
+    ∷ every-vowel
+    ∷ last-final
     ∷ plain-ka
     ∷ plain-nga
     ∷ plain-sa
@@ -432,6 +555,7 @@ baseExamples =
     ∷ zero-seven
     ∷ letter-zero
     ∷ letter-one-zero
+    ∷ nine-zero
     ∷ zero-letter
     ∷ toned-seven
     ∷ zero-stop

@@ -10,7 +10,7 @@ use Rattle.letters.specs.Choice.{pick}
 use Rattle.formula.specs.Syllable.{carriesMarks, carriesFinal}
 use Rattle.formula.specs.Row.{Row, join}
 use Rattle.formula.proofs.Lists.{both-left, both-right, every, All, every-all, sameList, sameList-equal}
-use Rattle.formula.proofs.Words.{Example, letter, zero-alone, zero-seven, letter-zero, letter-one-zero, zero-letter, toned-seven, zero-stop, letter-stop, letter-first-sign, letter-second-sign, letter-last-sign, wa-ra, ten-syllables, eleven-syllables, o-alone, sa-ra, uu-alone, plain-i, plain-nya, plain-sign, ukka}
+use Rattle.formula.proofs.Words.{Example, letter, zero-alone, zero-seven, letter-zero, letter-one-zero, nine-zero, zero-letter, toned-seven, zero-stop, letter-stop, letter-first-sign, letter-second-sign, letter-last-sign, wa-ra, ten-syllables, eleven-syllables, o-alone, sa-ra, uu-alone, plain-i, plain-nya, plain-sign, ukka}
 use Rattle.refusals.specs.Outcome.{Outcome, accepts, refuses}
 use Rattle.refusals.proofs.Same.{sameOutcome, same-outcome}
 use Rattle.storage.specs.Stored.{isRunMark, rank, goesBehind, makesLongVowel, makesLetter, storedForm}
@@ -66,9 +66,11 @@ table =
     ∷ zero
     ∷ digits
     ∷ letters
-    -- "next to a value that isn't a digit", on either side, a letter or a mark; another digit stands between in the second
+    -- "next to a value that isn't a digit", on either side, a letter or a mark; another digit stands between in the second, and alone in the
+    -- third
     ∷ worked letter-zero (refuses 22 1) (0x1000 ∷ 0x101D ∷ [])
     ∷ worked letter-one-zero (accepts 3) (0x1000 ∷ 0x1041 ∷ 0x101D ∷ [])
+    ∷ worked nine-zero (accepts 2) (0x1049 ∷ 0x101D ∷ [])
     ∷ worked zero-letter (refuses 22 0) (0x101D ∷ 0x1000 ∷ [])
     ∷ worked toned-seven (refuses 22 2) (0x1000 ∷ 0x1038 ∷ 0x101B ∷ [])
     -- the stop comes first, wherever it stands; 104E is a sign with a final too
