@@ -2,10 +2,9 @@
 -- Assumes nothing.
 use mathlib.Core.Path.{_≡_, refl}
 use mathlib.Core.List.{List, [], _∷_, map}
-use Prim.Native.Nat.{ℕ, suc}
+use Prim.Native.Nat.{ℕ}
 use lib.ListN.{replicate}
 use Rattle.letters.specs.Choice.{pick}
-use Rattle.formula.specs.Limits.{limit, lineLimit}
 use Rattle.refusals.specs.declared.Refusal.the-variants.{TooLong, FaultyLine}
 use Rattle.lines.specs.Line.{isThree, values, after, encode, refusedLine}
 use Rattle.lines.specs.declared.Decoded.{Decoded}
@@ -36,10 +35,14 @@ words =
     ∷ (0xE1 ∷ 0x80 ∷ 0x80 ∷ 0x0D ∷ [], refusedLine (FaultyLine 3))
     -- two faulty threes: the first counts
     ∷ (0xE1 ∷ 0x80 ∷ 0x80 ∷ 0xE1 ∷ 0x80 ∷ 0xC0 ∷ 0xE1 ∷ 0x82 ∷ 0x80 ∷ [], refusedLine (FaultyLine 3))
-    -- as many values as the limit are a word; one more, and a longer line that is no UTF-8, are refusal 1
-    ∷ (encode (replicate limit 0x1000), word (replicate limit 0x1000))
-    ∷ (encode (replicate (suc limit) 0x1000), refusedLine TooLong)
-    ∷ (replicate (suc lineLimit) 0x61, refusedLine TooLong)
+    -- a second byte below 80, and a third
+    ∷ (0xE1 ∷ 0x7F ∷ 0x80 ∷ [], refusedLine (FaultyLine 0))
+    ∷ (0xE1 ∷ 0x80 ∷ 0x7F ∷ [], refusedLine (FaultyLine 0))
+    -- 64 values are a word, and one more is refusal 1; 192 bytes that are no UTF-8 are refusal 7, and one more is 1
+    ∷ (encode (replicate 64 0x1000), word (replicate 64 0x1000))
+    ∷ (encode (replicate 65 0x1000), refusedLine TooLong)
+    ∷ (replicate 192 0x61, refusedLine (FaultyLine 0))
+    ∷ (replicate 193 0x61, refusedLine TooLong)
     ∷ []
 
 -- each line of the table has its answer
