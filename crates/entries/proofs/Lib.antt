@@ -18,3 +18,4 @@ pub mod Full
 pub mod AnswersTidied
 pub mod Passed
 pub mod Narrowed
+pub mod Worked
