@@ -3,3 +3,4 @@ pub mod Holding
 pub mod Taking
 pub mod Following
 pub mod Determined
+pub mod Words
