@@ -5,9 +5,9 @@ use crate::case::Case;
 use crate::lent::Lent;
 use crate::library::Library;
 use crate::outcome::{Answer, Outcome};
-use oracle::book::{self, BOOK_LIMIT};
-use oracle::word::{hand_out, WORD_LIMIT};
-use oracle::{Refusal, Which};
+use oracle::limits::{BOOK_LIMIT, WORD_LIMIT};
+use oracle::word::hand_out;
+use oracle::{book, Refusal, Which};
 
 /// The other implementation.
 pub struct Reference;

@@ -3,7 +3,7 @@
 use crate::call::Call;
 use crate::case::Case;
 use jogcairn::RECORD_SIZE;
-use oracle::word::WORD_LIMIT;
+use oracle::limits::WORD_LIMIT;
 use std::iter::successors;
 use std::ops::Range;
 

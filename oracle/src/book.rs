@@ -5,14 +5,12 @@
 //! list. A tidied book is built anew from the live ones. A preview adds to a copy.
 
 use crate::collation::{begins_with, compare};
+use crate::limits::{BOOK_LIMIT, BOOK_RECORD_HEAD, WORD_LIMIT};
 use crate::reading::read;
 use crate::refusal::Refusal;
 use crate::storage::{store, StoredWord};
-use crate::word::{hand_out, WORD_LIMIT};
+use crate::word::hand_out;
 use std::collections::BTreeMap;
-
-/// "A book is a lent buffer of at most 16,384 bytes".
-pub const BOOK_LIMIT: usize = 16_384;
 
 /// "Each record starts with the two bytes 4D 57 (hexadecimal)".
 const LIVE: [u8; 2] = [0x4D, 0x57];
@@ -120,7 +118,7 @@ pub fn order(buffer: &[u8], starts: &mut [u16]) -> Result<usize, Refusal> {
     hand_out(&starts_of(book.in_order().into_iter()), starts)
 }
 
-/// Where the records start, as 16-bit numbers: no book is longer than 16,384 bytes.
+/// Where the records start, as 16-bit numbers: no book is longer than [`BOOK_LIMIT`].
 fn starts_of<'b>(records: impl Iterator<Item = &'b Record>) -> Vec<u16> {
     records.map(|record| record.entry.start as u16).collect()
 }
@@ -251,9 +249,8 @@ impl Book {
     }
 }
 
-/// The bytes of a live record: "Then come the count n of code values (one byte, 1 to
-/// 64), the stock number (four bytes, low byte first) and n bytes, each a value minus
-/// 1000."
+/// The bytes of a live record: "Then come the count n of code values (one byte, …), the
+/// stock number (four bytes, low byte first) and n bytes, each a value minus 1000."
 fn live_record(word: &[u16], stock: u32) -> Vec<u8> {
     let mut bytes = Vec::from(LIVE);
     bytes.push(word.len() as u8);
@@ -264,7 +261,8 @@ fn live_record(word: &[u16], stock: u32) -> Vec<u8> {
 
 /// Cuts the record at the front off, if one stands there.
 fn cut(bytes: &[u8], start: usize) -> Option<(Record, &[u8])> {
-    let (&[first, second, count, ref stock @ ..], rest) = bytes.split_first_chunk::<7>()?;
+    let (&[first, second, count, ref stock @ ..], rest) =
+        bytes.split_first_chunk::<BOOK_RECORD_HEAD>()?;
     let live = match [first, second] {
         LIVE => true,
         REMOVED => false,

@@ -1,32 +1,29 @@
 //! Document 01, "Weights": keys and comparison.
 
 use crate::letters::{class_of, Class};
+use crate::limits::{KEY_SIZE, WEIGHTS};
 use crate::reading::Reading;
 use crate::refusal::Refusal;
 use crate::storage::store;
 use crate::syllable::Record;
-use crate::word::WORD_LIMIT;
 use std::cmp::Ordering;
 
 /// Weights of a syllable, "compared in this order: head, medial, final, vowel, tone."
 /// Document 02: "A key gains a sixth weight, which stands and is compared straight after
 /// the first final".
-pub type Weights = [u8; 6];
+pub type Weights = [u8; WEIGHTS];
 
-/// Document 02: "A key then needs 384 bytes", of which six a syllable are used. "The
-/// rest are zero, and the syllable count comes with it."
+/// A key of [`KEY_SIZE`] bytes, of which [`WEIGHTS`] a syllable are used. "The rest are
+/// zero, and the syllable count comes with it."
 #[derive(Clone, Copy, Debug, PartialEq, Eq)]
 pub struct Key {
-    bytes: [u8; Key::SIZE],
+    bytes: [u8; KEY_SIZE],
     count: usize,
 }
 
 impl Key {
-    /// The bytes of a key, used or not.
-    pub const SIZE: usize = 6 * WORD_LIMIT;
-
     /// "a key, its count or a record handed back with [a refusal] is all zeros."
-    pub const ZERO: Key = Key { bytes: [0; Key::SIZE], count: 0 };
+    pub const ZERO: Key = Key { bytes: [0; KEY_SIZE], count: 0 };
 
     /// The number of syllables.
     pub fn count(&self) -> usize {
@@ -34,7 +31,7 @@ impl Key {
     }
 
     /// All bytes.
-    pub fn bytes(&self) -> &[u8; Key::SIZE] {
+    pub fn bytes(&self) -> &[u8; KEY_SIZE] {
         &self.bytes
     }
 

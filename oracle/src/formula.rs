@@ -3,6 +3,7 @@
 //! found by first value.
 
 use crate::letters::*;
+use crate::limits::RECORD_SIZE;
 use crate::syllable::*;
 
 /// How many writings the formula has: 57 + 33 + 1 heads, 12 medial groups, 16
@@ -17,7 +18,7 @@ struct Listing {
 
 impl Listing {
     const fn new() -> Listing {
-        let nothing = Writing::new(Piece::Head, &[], [0; 8], Piece::Head);
+        let nothing = Writing::new(Piece::Head, &[], [0; RECORD_SIZE], Piece::Head);
         let mut listing = Listing { writings: [nothing; WRITING_COUNT], count: 0 };
         listing.put_heads();
         listing.put_medial_groups();
@@ -95,7 +96,7 @@ impl Listing {
         const fn record(letter: u16, link: u8) -> Record {
             [0, 0, 0, 0, final_weight(letter), 0, link, 0]
         }
-        self.put(Piece::Final, &[], [0; 8], Piece::Tone);
+        self.put(Piece::Final, &[], [0; RECORD_SIZE], Piece::Tone);
         self.put(Piece::Final, &[], record(SA, link::GREAT_SA), Piece::GreatSaHead);
         let mut letter = 0x1000;
         while letter <= LAST_FINAL_LETTER {
@@ -110,7 +111,7 @@ impl Listing {
 
     /// "a second plain final": none that is stacked, no kinzi and no 103F.
     const fn put_second_finals(&mut self) {
-        self.put(Piece::SecondFinal, &[], [0; 8], Piece::Tone);
+        self.put(Piece::SecondFinal, &[], [0; RECORD_SIZE], Piece::Tone);
         let mut letter = 0x1000;
         while letter <= LAST_FINAL_LETTER {
             let record = [0, 0, 0, 0, 0, final_weight(letter), 0, 0];
@@ -250,14 +251,14 @@ mod tests {
     fn each_byte_of_a_record_is_decided_by_one_piece() {
         for piece in Piece::ALL {
             for writing in writings(piece) {
-                let others = (0..8).filter(|byte| !piece.record_bytes().contains(byte));
+                let others = (0..RECORD_SIZE).filter(|byte| !piece.record_bytes().contains(byte));
                 assert!(others.into_iter().all(|byte| writing.record[byte] == 0));
             }
         }
         let decided = Piece::ALL[2..].iter().flat_map(|piece| piece.record_bytes());
         let mut decided: Vec<usize> = decided.copied().collect();
         decided.sort_unstable();
-        assert!(decided.into_iter().eq(0..8));
+        assert!(decided.into_iter().eq(0..RECORD_SIZE));
     }
 
     #[test]

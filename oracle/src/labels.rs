@@ -6,13 +6,11 @@
 
 use crate::collation::{of_both, Which};
 use crate::letters::*;
+use crate::limits::LABEL_LIMIT;
 use crate::reading::{Reading, Syllable};
 use crate::refusal::Refusal;
 use crate::storage::{store, StoredWord};
 use crate::word::{hand_out, Word};
-
-/// "It has at most ten syllables."
-pub const LABEL_LIMIT: usize = 10;
 
 /// The digits of which no one "stands next to a value that isn't a digit".
 const CONFUSABLE_DIGITS: [u16; 2] = [DIGIT_ZERO, DIGIT_SEVEN];

@@ -16,6 +16,7 @@ pub mod collation;
 pub mod formula;
 pub mod labels;
 pub mod letters;
+pub mod limits;
 pub mod line;
 pub mod lists;
 pub mod program;

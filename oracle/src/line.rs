@@ -1,10 +1,8 @@
 //! Lines of UTF-8.
 
+use crate::limits::LINE_LIMIT;
 use crate::refusal::Refusal;
-use crate::word::{Word, WORD_LIMIT};
-
-/// "a line over 192 bytes": three bytes a value.
-pub const LINE_LIMIT: usize = 3 * WORD_LIMIT;
+use crate::word::Word;
 
 /// The values of a line. Refusal 1 comes first, whatever the bytes are, then 7:
 /// "a line is cut from its start in threes; some three isn't E1, then 80 or 81,

@@ -1,17 +1,18 @@
 //! The reader: document 01, "Syllable records", and a syllable's part.
 
 use crate::letters::class_of;
+use crate::limits::{RECORD_SIZE, WORD_LIMIT};
 use crate::refusal::Refusal;
 use crate::rows::row_or_refusal;
 use crate::syllable::Record;
-use crate::word::{hand_out, WORD_LIMIT};
+use crate::word::hand_out;
 
 /// One syllable of a word that was read.
 #[derive(Clone, Copy, Debug, PartialEq, Eq)]
 pub struct Syllable {
     /// Where its part begins: "at its head or at 103F".
     pub start: usize,
-    /// Its eight bytes.
+    /// Its bytes.
     pub record: Record,
 }
 
@@ -26,7 +27,8 @@ pub struct Reading {
 impl Reading {
     /// The reading of the word without values.
     pub const fn empty() -> Reading {
-        Reading { syllables: [Syllable { start: 0, record: [0; 8] }; WORD_LIMIT], count: 0 }
+        let none = Syllable { start: 0, record: [0; RECORD_SIZE] };
+        Reading { syllables: [none; WORD_LIMIT], count: 0 }
     }
 
     /// The syllables, in their order.
@@ -79,7 +81,7 @@ pub struct RecordAnswer {
 
 /// The record of the syllable with this number, from 0.
 pub fn record(word: &[u16], number: usize) -> RecordAnswer {
-    let none = RecordAnswer { refusal: None, present: false, record: [0; 8] };
+    let none = RecordAnswer { refusal: None, present: false, record: [0; RECORD_SIZE] };
     match read(word) {
         Err(refusal) => RecordAnswer { refusal: Some(refusal), ..none },
         Ok(reading) => match reading.syllables().get(number) {

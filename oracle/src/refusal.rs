@@ -1,8 +1,7 @@
 //! Document 01, "Refused because of what is handed in" and "Refused because of
 //! what the book holds", and the refusals of document 02.
 
-use crate::labels::LABEL_LIMIT;
-use crate::word::WORD_LIMIT;
+use crate::limits::{LABEL_LIMIT, WORD_LIMIT};
 
 /// "A refusal gives number and place and writes nothing."
 #[derive(Clone, Copy, Debug, PartialEq, Eq)]
@@ -14,10 +13,11 @@ pub struct Refusal {
 }
 
 impl Refusal {
-    /// 1: "more than 64 values, or a line over 192 bytes"; place 64.
+    /// 1: more than [`WORD_LIMIT`] values, or a line over
+    /// [`LINE_LIMIT`](crate::limits::LINE_LIMIT) bytes; place [`WORD_LIMIT`].
     pub const TOO_LONG: Refusal = Refusal { number: 1, place: WORD_LIMIT };
 
-    /// 6: "records no reader yields, or over 64 values when written"; place 0.
+    /// 6: "records no reader yields", or over [`WORD_LIMIT`] values "when written"; place 0.
     pub const NO_SUCH_ROW: Refusal = Refusal { number: 6, place: 0 };
 
     /// 2: "a foreign value"; place "the first, in the word as handed in".
@@ -55,7 +55,8 @@ impl Refusal {
     pub const NOT_LIVE: Refusal = Refusal { number: 13, place: 0 };
 
     /// 11: "not a book"; place "start of the first wrong record or first stray
-    /// byte; for an overlong buffer 16,384; of two equal words, the later".
+    /// byte", "for an overlong buffer" [`BOOK_LIMIT`](crate::limits::BOOK_LIMIT),
+    /// "of two equal words, the later".
     pub const fn not_a_book(place: usize) -> Refusal {
         Refusal { number: 11, place }
     }
@@ -88,6 +89,6 @@ impl Refusal {
         Refusal { number: 22, place }
     }
 
-    /// 23: document 02, "with place 10, the limit, for too many syllables".
+    /// 23: document 02, "for too many syllables"; place "the limit", [`LABEL_LIMIT`].
     pub const TOO_MANY_SYLLABLES: Refusal = Refusal { number: 23, place: LABEL_LIMIT };
 }

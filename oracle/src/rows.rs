@@ -6,10 +6,10 @@
 //! for the longest beginning.
 
 use crate::formula::{beginning_like, empty};
+use crate::limits::WORD_LIMIT;
 use crate::reading::Reading;
 use crate::refusal::Refusal;
 use crate::syllable::{Piece, Writing};
-use crate::word::WORD_LIMIT;
 
 /// Something for each place of a list, its end included, and each piece that may
 /// stand there.

@@ -2,13 +2,11 @@
 
 use crate::formula::writing_of;
 use crate::letters::KILLER;
+use crate::limits::{SPELLED_LIMIT, WORD_LIMIT};
 use crate::reading::read;
 use crate::refusal::Refusal;
 use crate::syllable::{Piece, Record};
-use crate::word::{hand_out, WORD_LIMIT};
-
-/// "The longest spelled word has 190 values."
-pub const SPELLED_LIMIT: usize = 190;
+use crate::word::hand_out;
 
 /// How much was written to each of the two lists.
 #[derive(Clone, Copy, Debug, PartialEq, Eq)]

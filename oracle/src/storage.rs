@@ -128,6 +128,7 @@ fn join_letter_u(word: &mut Word) {
 #[cfg(test)]
 mod tests {
     use super::*;
+    use crate::limits::WORD_LIMIT;
 
     #[test]
     fn the_order_holds_every_mark_once() {
@@ -168,8 +169,8 @@ mod tests {
         let short = stored_form(&[0x1025, 0x102E, 0x103A], &mut output[..1]);
         assert_eq!(short, Err(Refusal::output_too_short(2)));
         assert_eq!(stored_form(&[0x1039, 0x1022], &mut []), Err(Refusal::foreign(1)));
-        assert_eq!(stored_form(&[0; 65], &mut []), Err(Refusal::TOO_LONG));
+        assert_eq!(stored_form(&[0; WORD_LIMIT + 1], &mut []), Err(Refusal::TOO_LONG));
         assert_eq!(typed_place(&[0x1039, 0x1022], 9), Err(Refusal::foreign(1)));
-        assert_eq!(typed_place(&[0; 65], 0), Err(Refusal::TOO_LONG));
+        assert_eq!(typed_place(&[0; WORD_LIMIT + 1], 0), Err(Refusal::TOO_LONG));
     }
 }

@@ -6,6 +6,7 @@
 //! once".
 
 use crate::letters::*;
+use crate::limits::RECORD_SIZE;
 
 /// What stands next in a row of syllables.
 #[derive(Clone, Copy, Debug, PartialEq, Eq)]
@@ -64,7 +65,7 @@ impl Piece {
 /// "head minus 1000; medial weight; vowel weight; 1 for a tall AA, else 0; final
 /// weight; link; tone weight." Document 02: "A record gains a second final weight after
 /// the first, eight bytes in all, and its link stays 1".
-pub type Record = [u8; 8];
+pub type Record = [u8; RECORD_SIZE];
 
 /// "Link is 0 none, 1 plain, 2 stacked or kinzi, 3 great sa."
 pub mod link {

@@ -1,10 +1,8 @@
 //! A word held by value.
 
+use crate::limits::WORD_LIMIT;
 use crate::refusal::Refusal;
 use std::ops::Deref;
-
-/// "At most 64 code values make a word."
-pub const WORD_LIMIT: usize = 64;
 
 /// A list of at most [`WORD_LIMIT`] code values; it reads like a slice.
 #[derive(Clone, Copy, Debug)]

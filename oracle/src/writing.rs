@@ -1,6 +1,7 @@
 //! The writer: from records to a word.
 
 use crate::formula::writing_of;
+use crate::limits::RECORD_SIZE;
 use crate::refusal::Refusal;
 use crate::syllable::{Piece, Record};
 use crate::word::{hand_out, Word};
@@ -29,7 +30,7 @@ fn join(records: &[u8]) -> Option<Word> {
 /// nothing if the formula has no such syllable or the word gets too long.
 fn write_syllable(word: &mut Word, head: Piece, record: &Record) -> Option<Piece> {
     let mut piece = head;
-    let mut written: Record = [0; 8];
+    let mut written: Record = [0; RECORD_SIZE];
     loop {
         let writing = writing_of(piece, record)?;
         word.extend(writing.values())?;

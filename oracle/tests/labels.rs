@@ -1,13 +1,13 @@
 //! Labels: the examples of document 02, and the cases that the page of readings names.
 
 use oracle::formula::writings;
-use oracle::labels::{replaced, LABEL_LIMIT, REPLACEMENTS};
+use oracle::labels::{replaced, REPLACEMENTS};
 use oracle::letters::admitted_values;
+use oracle::limits::{LABEL_LIMIT, WORD_LIMIT};
 use oracle::lists::{likely_label, long_skeleton, with_longest_skeleton};
 use oracle::program::Program;
 use oracle::random::Random;
 use oracle::syllable::Piece;
-use oracle::word::WORD_LIMIT;
 use oracle::{label, look_alike, normalise, put_skeleton, skeleton, Refusal, Which};
 use std::collections::BTreeMap;
 

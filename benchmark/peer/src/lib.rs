@@ -1,6 +1,7 @@
 //! C names for the other implementation, so that the benchmark calls it beside the proved library in one program. Each answers with one
 //! number that depends on the whole answer, or with `REFUSED`.
 
+use oracle::limits::{SPELLED_LIMIT, WORD_LIMIT};
 use oracle::{book, collation, labels, reading, spelling, storage, writing};
 use std::slice;
 
@@ -31,9 +32,10 @@ pub unsafe extern "C" fn peer_read(word: *const u16, count: usize) -> u64 {
 /// As for [`part`].
 #[no_mangle]
 pub unsafe extern "C" fn peer_spell(word: *const u16, count: usize) -> u64 {
-    let (mut values, mut starts) = ([0; 190], [0; 64]);
-    spelling::spell_out(unsafe { part(word, count) }, &mut values, &mut starts)
-        .map_or(REFUSED, |_| u64::from(values[count % 190]) + starts[count % 64] as u64)
+    let (mut values, mut starts) = ([0; SPELLED_LIMIT], [0; WORD_LIMIT]);
+    let lengths = spelling::spell_out(unsafe { part(word, count) }, &mut values, &mut starts);
+    let (value, start) = (values[count % SPELLED_LIMIT], starts[count % WORD_LIMIT]);
+    lengths.map_or(REFUSED, |_| u64::from(value) + start as u64)
 }
 
 /// # Safety

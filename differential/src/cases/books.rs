@@ -6,10 +6,9 @@ use super::shelf::{letters, Shelf};
 use super::words::{self, valid};
 use crate::call::Call;
 use crate::case::Case;
-use oracle::book::BOOK_LIMIT;
+use oracle::limits::{BOOK_LIMIT, WORD_LIMIT};
 use oracle::lists::{crowded, row_of_length, shuffle_runs};
 use oracle::random::Random;
-use oracle::word::WORD_LIMIT;
 
 /// The calls, each as often as it stands here.
 const CALLS: [Call; 30] = [

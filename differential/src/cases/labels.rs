@@ -3,10 +3,9 @@
 use super::{near, needed, words};
 use crate::call::Call;
 use crate::case::Case;
-use oracle::labels::LABEL_LIMIT;
+use oracle::limits::{LABEL_LIMIT, WORD_LIMIT};
 use oracle::lists::{exchanged, likely_label, long_skeleton};
 use oracle::random::Random;
-use oracle::word::WORD_LIMIT;
 use std::mem::swap;
 
 /// A call on labels.

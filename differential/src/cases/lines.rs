@@ -1,7 +1,7 @@
 //! Lines: words as UTF-8, whole and damaged, and bytes by chance.
 
 use super::words::word;
-use oracle::line::LINE_LIMIT;
+use oracle::limits::LINE_LIMIT;
 use oracle::lists::encode;
 use oracle::random::Random;
 

@@ -2,9 +2,9 @@
 
 use super::shelf::Shelf;
 use super::words::{self, valid};
+use oracle::limits::WORD_LIMIT;
 use oracle::lists::shuffle_runs;
 use oracle::random::Random;
-use oracle::word::WORD_LIMIT;
 
 /// A query: the first syllables of a word of the book, perhaps typed otherwise, or any word.
 pub fn query(random: &mut Random, shelf: &Shelf) -> Vec<u16> {

@@ -1,9 +1,9 @@
 //! Records for the writer: of rows, of rows that were changed, and bytes by chance.
 
 use oracle::letters::{admitted_values, carries_marks, is_head};
+use oracle::limits::WORD_LIMIT;
 use oracle::lists::{random_row, row_of_length};
 use oracle::random::Random;
-use oracle::word::WORD_LIMIT;
 
 /// Records of any kind, eight bytes each but for faults.
 pub fn records(random: &mut Random) -> Vec<u8> {

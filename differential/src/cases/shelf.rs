@@ -6,7 +6,7 @@ use crate::case::Case;
 use crate::lent::{Memory, MARGIN};
 use crate::outcome::{Answer, Outcome};
 use crate::Call;
-use oracle::book::BOOK_LIMIT;
+use oracle::limits::BOOK_LIMIT;
 use oracle::random::Random;
 use oracle::storage::store;
 use std::collections::BTreeSet;

@@ -2,10 +2,10 @@
 
 use oracle::formula::writings;
 use oracle::letters::{admitted_values, class_of, Class};
+use oracle::limits::WORD_LIMIT;
 use oracle::lists::{crowded, random_row, row_of_length, shuffle_runs, WITH_LETTER_U};
 use oracle::random::Random;
 use oracle::syllable::Piece;
-use oracle::word::WORD_LIMIT;
 use std::sync::LazyLock;
 
 static ADMITTED: LazyLock<Vec<u16>> = LazyLock::new(|| admitted_values().collect());

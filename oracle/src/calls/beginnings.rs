@@ -2,6 +2,7 @@
 
 use super::play::Play;
 use super::words::{refused, respelled, short, stock};
+use crate::limits::{BOOK_RECORD_HEAD, WORD_LIMIT};
 use crate::random::Random;
 
 /// Words that continue one another, some by a final in another form, and words beside
@@ -69,7 +70,7 @@ pub fn beginnings(play: &mut Play, random: &mut Random) {
     for round in 0..4 {
         let mut words = FAMILY;
         random.shuffle(&mut words);
-        play.new_book(FAMILY.iter().map(|word| 7 + word.len()).sum());
+        play.new_book(FAMILY.iter().map(|word| BOOK_RECORD_HEAD + word.len()).sum());
         for word in words {
             let _ = play.add(word, stock(random));
         }
@@ -89,13 +90,13 @@ pub fn beginnings(play: &mut Play, random: &mut Random) {
 
 /// Words as long as they may be, and all but as long.
 pub fn long_beginnings(play: &mut Play, random: &mut Random) {
-    play.new_book(5 * 71);
-    for length in [62, 64, 60, 63, 61] {
-        let _ = play.add(&vec![0x1000; length], stock(random));
+    play.new_book(5 * (BOOK_RECORD_HEAD + WORD_LIMIT));
+    for shorter in [2, 0, 4, 1, 3] {
+        let _ = play.add(&vec![0x1000; WORD_LIMIT - shorter], stock(random));
     }
-    let _ = play.remove(&[0x1000; 61]);
-    for length in 60..=65 {
-        let _ = play.find_prefix(&vec![0x1000; length], 64 - length.min(64));
+    let _ = play.remove(&[0x1000; WORD_LIMIT - 3]);
+    for length in WORD_LIMIT - 4..=WORD_LIMIT + 1 {
+        let _ = play.find_prefix(&vec![0x1000; length], WORD_LIMIT.saturating_sub(length));
     }
     let _ = play.find_prefix(&[0x1000], 5);
 }
@@ -123,7 +124,7 @@ pub fn changed_beginnings(play: &mut Play, random: &mut Random) {
         let word = short(random);
         play.new_book(40);
         let _ = play.add(&word, stock(random));
-        let place = random.below(9 + word.len());
+        let place = random.below(BOOK_RECORD_HEAD + word.len() + 2);
         play.poke(place, random.pick(&[0x00, 0x01, 0x2D, 0x39, 0x4D, 0x57, 0xFF]));
         let _ = play.find_prefix(&word, random.below(2));
     }

@@ -3,6 +3,7 @@
 
 use super::play::Play;
 use super::words::{respelled, short, stock};
+use crate::limits::{BOOK_RECORD_HEAD, WORD_LIMIT};
 use crate::random::Random;
 
 /// Each byte of a small book, changed and put back.
@@ -23,13 +24,15 @@ pub fn damaged_bytes(play: &mut Play, random: &mut Random) {
             changed(play, random, start + 1, byte);
         }
         let count = play.byte(start + 2);
-        for byte in [0, 1, 2, 3, 4, 5, 64, 65, 128, 255, count + 8, count + 9] {
+        let most = WORD_LIMIT as u8;
+        for byte in [0, 1, 2, 3, 4, 5, most, most + 1, 128, 255, count + 8, count + 9] {
             changed(play, random, start + 2, byte);
         }
-        for place in start + 3..start + 7 {
+        let letters = start + BOOK_RECORD_HEAD;
+        for place in start + 3..letters {
             changed(play, random, place, 0x57);
         }
-        for place in start + 7..start + 7 + usize::from(count) {
+        for place in letters..letters + usize::from(count) {
             for byte in [0x00, 0x14, 0x21, 0x22, 0x2C, 0x37, 0x39, 0x3A, 0x3F, 0x40, 0x50, 0xFF] {
                 changed(play, random, place, byte);
             }
@@ -92,8 +95,8 @@ pub fn made_by_hand(play: &mut Play, random: &mut Random) {
     }
 }
 
-fn record(mark: &[u8; 2], count: u8, values: &[u8]) -> Vec<u8> {
-    [&mark[..], &[count, 1, 2, 3, 4], values].concat()
+fn record(mark: &[u8; 2], count: usize, values: &[u8]) -> Vec<u8> {
+    [&mark[..], &[count as u8, 1, 2, 3, 4], values].concat()
 }
 
 fn hand_made() -> Vec<Vec<u8>> {
@@ -134,9 +137,9 @@ fn hand_made() -> Vec<Vec<u8>> {
         record(b"M-", 0, &[]),
         record(b"MW", 2, &[0x00]),
         record(b"M-", 2, &[0x00]),
-        record(b"MW", 64, &[0x00; 64]),
-        record(b"MW", 64, &[0x00; 63]),
-        record(b"MW", 65, &[0x00; 65]),
+        record(b"MW", WORD_LIMIT, &[0x00; WORD_LIMIT]),
+        record(b"MW", WORD_LIMIT, &[0x00; WORD_LIMIT - 1]),
+        record(b"MW", WORD_LIMIT + 1, &[0x00; WORD_LIMIT + 1]),
         record(b"MW", 255, &[0x00; 255]),
         record(b"MW", 1, &[]),
         // Words: not readable, not in storage order, or open at their end.

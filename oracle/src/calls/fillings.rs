@@ -2,9 +2,12 @@
 
 use super::play::{Adding, Play};
 use super::words::{of_length, short, stock};
-use crate::book::BOOK_LIMIT;
+use crate::limits::{BOOK_LIMIT, BOOK_RECORD_HEAD, WORD_LIMIT};
 use crate::random::Random;
-use crate::word::WORD_LIMIT;
+
+/// The bytes of the longest record, and of the shortest.
+const LONGEST: usize = BOOK_RECORD_HEAD + WORD_LIMIT;
+const SHORTEST: usize = BOOK_RECORD_HEAD + 1;
 
 /// Every length near nothing and near the limit.
 pub fn lengths(play: &mut Play, random: &mut Random) {
@@ -43,7 +46,8 @@ fn ask_all(play: &mut Play, word: &[u16]) {
 pub fn exact_fits(play: &mut Play, random: &mut Random) {
     for length in (1..=WORD_LIMIT).filter(|length| length % 7 < 2 || length % 16 == 0) {
         let word = of_length(random, length);
-        for size in [length + 6, length + 7, length + 8] {
+        let exact = BOOK_RECORD_HEAD + length;
+        for size in [exact - 1, exact, exact + 1] {
             play.new_book(size);
             let _ = play.add(&word, stock(random));
             let _ = play.check();
@@ -54,7 +58,9 @@ pub fn exact_fits(play: &mut Play, random: &mut Random) {
 
 /// Books of several sizes, filled with short words and then to the last byte.
 pub fn filled(play: &mut Play, random: &mut Random) {
-    for size in [9, 20, 71, 72, 79, 100, 142, 200, 300, 500, 900] {
+    let about_the_longest = [LONGEST, LONGEST + 1, LONGEST + SHORTEST];
+    let sizes = [&[9, 20][..], &about_the_longest, &[100, 2 * LONGEST, 200, 300, 500, 900]];
+    for size in sizes.concat() {
         for _ in 0..3 {
             play.new_book(size);
             fill(play, random, size, short);
@@ -68,7 +74,9 @@ pub fn filled(play: &mut Play, random: &mut Random) {
 pub fn filled_to_the_limit(play: &mut Play, random: &mut Random) {
     play.new_book(BOOK_LIMIT);
     fill(play, random, BOOK_LIMIT, |random| of_length(random, WORD_LIMIT));
-    for rank in [1, 2, 100, 200, 227, 229, 230, 231, 232] {
+    let longest = (BOOK_LIMIT / LONGEST) as u32;
+    let about_the_last = [longest - 3, longest - 1, longest, longest + 1, longest + 2];
+    for rank in [&[1, 2, 100, 200][..], &about_the_last].concat() {
         let _ = play.rank(rank);
     }
     let mut starts = play.starts();
@@ -152,10 +160,10 @@ pub fn add_until_full(
 fn fill(play: &mut Play, random: &mut Random, size: usize, make: fn(&mut Random) -> Vec<u16>) {
     let (words, live_length) = add_until_full(play, random, make, Play::add);
     let room = size - live_length;
-    if room < 8 {
+    if room < SHORTEST {
         let _ = play.add(&[0x1020], 1);
-    } else if room <= 7 + WORD_LIMIT {
-        fill_exactly(play, random, room - 7);
+    } else if room <= LONGEST {
+        fill_exactly(play, random, room - BOOK_RECORD_HEAD);
     }
     let _ = play.check();
     for word in words.iter().take(4) {

@@ -2,8 +2,8 @@
 
 use super::play::Play;
 use super::words::{of_length, short, stock};
+use crate::limits::WORD_LIMIT;
 use crate::random::Random;
-use crate::word::WORD_LIMIT;
 
 /// Books of some words, some of them removed: the order with every room that is near
 /// enough, and every byte asked for as a start.
@@ -30,7 +30,7 @@ pub fn listings(play: &mut Play, random: &mut Random) {
 
 /// Words of many lengths, each with room for it and without.
 pub fn rooms(play: &mut Play, random: &mut Random) {
-    for length in [1, 2, 3, 7, 30, 63, 64] {
+    for length in [1, 2, 3, 7, 30, WORD_LIMIT - 1, WORD_LIMIT] {
         let word = of_length(random, length);
         play.new_book(length + 20);
         let _ = play.add(&word, stock(random));

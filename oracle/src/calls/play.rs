@@ -1,13 +1,14 @@
 //! Calls played one after the other, each noted with what must be printed for it.
 
 use crate::book::{self, Added, Entry};
+use crate::limits::{BOOK_LIMIT, BOOK_RECORD_HEAD};
 use crate::random::Random;
 use crate::refusal::Refusal;
 use std::collections::BTreeMap;
 use std::fmt::Write;
 
-/// The bytes of the array whose front is the book.
-pub const ARRAY_SIZE: usize = 16_400;
+/// The bytes of the array whose front is the book: enough for one that is too long.
+pub const ARRAY_SIZE: usize = BOOK_LIMIT + 16;
 
 /// A call on a book, or a change of the array around it.
 #[derive(Clone, Debug)]
@@ -118,7 +119,7 @@ impl Play {
         let mut next = 0;
         while next < self.length && self.byte(next) != 0 {
             starts.push(next);
-            next += 7 + usize::from(self.byte(next + 2));
+            next += BOOK_RECORD_HEAD + usize::from(self.byte(next + 2));
         }
         starts
     }

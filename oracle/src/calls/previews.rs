@@ -5,8 +5,8 @@ use super::fillings::add_until_full;
 use super::play::{Answer, Play};
 use super::tidyings::add_to_the_last_byte;
 use super::words::{of_length, refused, respelled, short, stock};
+use crate::limits::{BOOK_RECORD_HEAD, WORD_LIMIT};
 use crate::random::Random;
-use crate::word::WORD_LIMIT;
 
 /// Previews an add, and then adds: "the answer that add gives on a copy of the book".
 fn previewed(play: &mut Play, word: &[u16], stock: u32) -> Answer {
@@ -62,14 +62,15 @@ pub fn turns(play: &mut Play, random: &mut Random) {
 /// that fits behind them to the last byte and one with a value more; then a live one.
 pub fn limits(play: &mut Play, random: &mut Random) {
     const RECORDS: usize = 40;
-    let (record, free) = (7 + WORD_LIMIT, 15);
+    let (record, free) = (BOOK_RECORD_HEAD + WORD_LIMIT, 15);
     play.new_book(RECORDS * record + free);
     for number in 0..RECORDS {
-        // The word is 1000, 64 times, with another value at a place of its own.
-        play.poke_all(number * record, b"MW\x40");
-        play.poke(number * record + 7 + number, 0x05);
+        // The word is 1000 alone, but for another value at a place of its own.
+        play.poke_all(number * record, &[b'M', b'W', WORD_LIMIT as u8]);
+        play.poke(number * record + BOOK_RECORD_HEAD + number, 0x05);
     }
-    let words = [free - 7, free - 6].map(|length| of_length(random, length));
+    let fitting = free - BOOK_RECORD_HEAD;
+    let words = [fitting, fitting + 1].map(|length| of_length(random, length));
     for first_removed in [RECORDS, RECORDS - 1, RECORDS / 2] {
         for number in first_removed..RECORDS {
             play.poke(number * record + 1, b'-');

@@ -2,6 +2,7 @@
 
 use super::play::Play;
 use super::words::{short, stock};
+use crate::limits::{BOOK_RECORD_HEAD, WORD_LIMIT};
 use crate::random::Random;
 
 /// Words in word order, of which neighbours have the same weights, begin with one
@@ -72,11 +73,12 @@ pub fn ranks(play: &mut Play, random: &mut Random) {
 /// Long words that differ only at their ends, or in their length.
 pub fn deep_ranks(play: &mut Play, random: &mut Random) {
     let ends = CLOSE.iter().filter(|end| end.len() <= 2 && end[0] != 0x1000);
-    let mut words: Vec<Vec<u16>> = ends.map(|end| [&[0x1000; 62], *end].concat()).collect();
-    words.extend([0x102B, 0x102C].map(|mark| [&[0x1000; 62][..], &[mark]].concat()));
-    words.extend((60..=64).map(|length| vec![0x1000; length]));
+    let front = [0x1000; WORD_LIMIT - 2];
+    let mut words: Vec<Vec<u16>> = ends.map(|end| [&front, *end].concat()).collect();
+    words.extend([0x102B, 0x102C].map(|mark| [&front[..], &[mark]].concat()));
+    words.extend((WORD_LIMIT - 4..=WORD_LIMIT).map(|length| vec![0x1000; length]));
     random.shuffle(&mut words);
-    play.new_book(71 * words.len());
+    play.new_book((BOOK_RECORD_HEAD + WORD_LIMIT) * words.len());
     for word in &words {
         let _ = play.add(word, stock(random));
     }

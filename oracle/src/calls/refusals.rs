@@ -2,7 +2,7 @@
 
 use super::play::Play;
 use super::words::{refused, stock};
-use crate::book::BOOK_LIMIT;
+use crate::limits::BOOK_LIMIT;
 use crate::random::Random;
 
 /// Each refused word on a book with two records.

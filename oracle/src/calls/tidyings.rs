@@ -3,8 +3,8 @@
 use super::fillings::add_until_full;
 use super::play::{Adding, Play};
 use super::words::{of_length, respelled, short, stock};
+use crate::limits::{BOOK_RECORD_HEAD, WORD_LIMIT};
 use crate::random::Random;
-use crate::word::WORD_LIMIT;
 
 /// Words of several lengths, which are not added in their order.
 const MIXED: [&[u16]; 4] =
@@ -13,7 +13,7 @@ const MIXED: [&[u16]; 4] =
 /// A book of four records, of which none, some or all are removed, each choice once.
 /// Tidied, it is put in order, and tidied again.
 pub fn tidied(play: &mut Play, random: &mut Random) {
-    let records: usize = MIXED.iter().map(|word| 7 + word.len()).sum();
+    let records: usize = MIXED.iter().map(|word| BOOK_RECORD_HEAD + word.len()).sum();
     for removed in 0..1 << MIXED.len() {
         play.new_book(records + removed % 3);
         for word in MIXED {
@@ -71,7 +71,8 @@ fn rename(play: &mut Play, random: &mut Random, words: &mut Vec<Vec<u16>>) {
 
 /// Books in which a byte decides, with removed records of several lengths.
 pub fn by_one_byte(play: &mut Play, random: &mut Random) {
-    for (removed, free) in [(8, 8), (8, 9), (10, 0), (15, 7), (16, 20), (37, 12), (71, 0)] {
+    let longest = BOOK_RECORD_HEAD + WORD_LIMIT;
+    for (removed, free) in [(8, 8), (8, 9), (10, 0), (15, 7), (16, 20), (37, 12), (longest, 0)] {
         add_to_the_last_byte(play, random, removed, free, Play::add);
     }
 }
@@ -87,12 +88,13 @@ pub fn add_to_the_last_byte(
 ) {
     let sizes = [free, free + 1, free + removed, free + removed + 1];
     for (size, outcome) in sizes.into_iter().zip([Ok(0), Ok(1), Ok(1), Err(14)]) {
-        if !(8..=7 + WORD_LIMIT).contains(&size) {
+        let length = size.saturating_sub(BOOK_RECORD_HEAD);
+        if !(1..=WORD_LIMIT).contains(&length) {
             continue;
         }
         for removed_first in [true, false] {
             half_removed(play, random, removed, free, removed_first);
-            let answer = add(play, &of_length(random, size - 7), stock(random));
+            let answer = add(play, &of_length(random, length), stock(random));
             let answer = answer.map(|(_, tidied)| tidied).map_err(|refusal| refusal.number);
             assert_eq!(answer, outcome);
             let _ = play.order(2);
@@ -110,8 +112,8 @@ fn half_removed(
     removed_first: bool,
 ) {
     let kept = [0x1021, 0x102D];
-    let gone = of_length(random, removed - 7);
-    play.new_book(7 + kept.len() + removed + free);
+    let gone = of_length(random, removed - BOOK_RECORD_HEAD);
+    play.new_book(BOOK_RECORD_HEAD + kept.len() + removed + free);
     let words = if removed_first { [&gone[..], &kept] } else { [&kept, &gone[..]] };
     for word in words {
         let _ = play.add(word, stock(random));

@@ -2,6 +2,7 @@
 
 use super::play::Play;
 use super::words::{respelled, short, stock, STOCKS};
+use crate::limits::BOOK_RECORD_HEAD;
 use crate::random::Random;
 
 /// A few words that come and go: in books too short for all of them, in books that add
@@ -41,7 +42,7 @@ pub fn spellings(play: &mut Play, random: &mut Random) {
         &[0x1015, 0x103C, 0x103F, 0x1014, 0x102C],
     ];
     for word in words {
-        play.new_book(7 + word.len());
+        play.new_book(BOOK_RECORD_HEAD + word.len());
         let _ = play.add(&respelled(random, word), stock(random));
         for _ in 0..8 {
             let _ = play.find(&respelled(random, word));
@@ -86,4 +87,4 @@ pub fn stock_numbers(play: &mut Play, _: &mut Random) {
 }
 
 /// Room for each stock number with a word of two values.
-const BOOKED: usize = 9 * STOCKS.len();
+const BOOKED: usize = (BOOK_RECORD_HEAD + 2) * STOCKS.len();

@@ -1,5 +1,6 @@
 //! Words for the calls.
 
+use crate::limits::WORD_LIMIT;
 use crate::lists::{random_row, row_of_length, shuffle_runs};
 use crate::random::Random;
 
@@ -59,12 +60,12 @@ pub fn refused() -> Vec<(u8, Vec<u16>)> {
     let many = |count: usize, value: u16| vec![value; count];
     let joined = |first: Vec<u16>, second: &[u16]| [&first, second].concat();
     vec![
-        (1, many(65, 0x1000)),
-        (1, many(66, 0x1000)),
-        // It would be stored as 64 values.
-        (1, joined(many(63, 0x1000), &[0x1025, 0x102E])),
-        (1, joined(many(64, 0x1000), &[0x1022])),
-        (1, joined(many(64, 0x1000), &[0x1039])),
+        (1, many(WORD_LIMIT + 1, 0x1000)),
+        (1, many(WORD_LIMIT + 2, 0x1000)),
+        // Stored, it would be no longer than a word may be.
+        (1, joined(many(WORD_LIMIT - 1, 0x1000), &[0x1025, 0x102E])),
+        (1, joined(many(WORD_LIMIT, 0x1000), &[0x1022])),
+        (1, joined(many(WORD_LIMIT, 0x1000), &[0x1039])),
         (8, vec![]),
         (2, vec![0x1022]),
         (2, vec![0x1000, 0x0041]),
@@ -72,7 +73,7 @@ pub fn refused() -> Vec<(u8, Vec<u16>)> {
         (2, vec![0xFFFF, 0x1000]),
         (2, vec![0x1000, 0x0000]),
         (2, vec![0x103A, 0x1028, 0x1033]),
-        (2, joined(many(63, 0x1000), &[0x10FF])),
+        (2, joined(many(WORD_LIMIT - 1, 0x1000), &[0x10FF])),
         (3, vec![0x1000, 0x1039]),
         (3, vec![0x103F]),
         (3, vec![0x1000, 0x103B, 0x103C]),
@@ -82,16 +83,16 @@ pub fn refused() -> Vec<(u8, Vec<u16>)> {
         (3, vec![0x1025, 0x1031, 0x102E]),
         (3, vec![0x104C, 0x1000, 0x103A]),
         (3, vec![0x1023, 0x103B, 0x1038]),
-        (3, joined(many(62, 0x1000), &[0x1038, 0x1037])),
+        (3, joined(many(WORD_LIMIT - 2, 0x1000), &[0x1038, 0x1037])),
         // A third final, a stacked second one, kinzi as one, and a tone between two.
         (3, vec![0x1000, 0x1000, 0x103A, 0x1005, 0x103A, 0x1019, 0x103A]),
         (3, vec![0x1000, 0x1000, 0x103A, 0x1005, 0x1039]),
         (3, vec![0x1000, 0x1000, 0x103A, 0x1004, 0x103A, 0x1039]),
         (3, vec![0x1000, 0x1010, 0x1037, 0x103A, 0x1005, 0x103A]),
-        (3, joined(many(58, 0x1000), &[0x103A, 0x1005, 0x103A, 0x1005, 0x103A])),
+        (3, joined(many(WORD_LIMIT - 6, 0x1000), &[0x103A, 0x1005, 0x103A, 0x1005, 0x103A])),
         (4, vec![0x1000, 0x1000, 0x1039]),
         (4, vec![0x1000, 0x1004, 0x103A, 0x1039]),
         (4, vec![0x1023, 0x1000, 0x1039]),
-        (4, joined(many(63, 0x1000), &[0x1039])),
+        (4, joined(many(WORD_LIMIT - 1, 0x1000), &[0x1039])),
     ]
 }

@@ -3,6 +3,7 @@
 use super::picked_rows::{random_row, row_of_length};
 use crate::formula::writings;
 use crate::letters::{admitted_values, class_of, Class, STACKER};
+use crate::limits::WORD_LIMIT;
 use crate::random::Random;
 use crate::syllable::Piece;
 
@@ -12,9 +13,9 @@ pub fn valid(random: &mut Random) -> Vec<u16> {
     random_row(random, syllables).values
 }
 
-/// A row of 33 to 64 values.
+/// A row of more than half as many values as a word may have.
 pub fn long(random: &mut Random) -> Vec<u16> {
-    let length = random.between(33, 64);
+    let length = random.between(WORD_LIMIT / 2 + 1, WORD_LIMIT);
     row_of_length(random, length).values
 }
 

@@ -1,7 +1,7 @@
 //! Lines with labels of every kind, and with what is refused beside them.
 
 use super::encode;
-use crate::word::WORD_LIMIT;
+use crate::limits::{LABEL_LIMIT, WORD_LIMIT};
 
 /// The examples of document 02 and of what is decided beside it: digits alone and beside
 /// others, stops and signs, letters that are replaced, and what is refused before them.
@@ -71,29 +71,30 @@ const FAULTY_LINES: [&[u8]; 7] = [
     b"\xE1\x81\x8A\xE1\x80",
 ];
 
-/// The word with the longest skeleton: 64 values in ten syllables, nine of which begin with 1029.
+/// The word with the longest skeleton: it has as many values and syllables as a label may
+/// have, and each syllable but the last begins with 1029.
 pub fn with_longest_skeleton() -> Vec<u16> {
-    let nine = [0x1029, 0x1014, 0x103A, 0x1005, 0x103A, 0x1038].repeat(9);
+    let first = [0x1029, 0x1014, 0x103A, 0x1005, 0x103A, 0x1038].repeat(LABEL_LIMIT - 1);
     let last = [0x1000, 0x103B, 0x1031, 0x102C, 0x103A, 0x1014, 0x103A, 0x1005, 0x103A, 0x1038];
-    [nine, last.to_vec()].concat()
+    [first, last.to_vec()].concat()
 }
 
 /// The words above, words with as many syllables or values as may be or one more, and lines
 /// without a word. The first and the last line are empty.
 pub fn examples() -> impl Iterator<Item = Vec<u8>> {
-    let ten_or_more = [
-        vec![0x1000; 10],
-        vec![0x1000; 11],
-        [&[0x1000; 10][..], &[0x104A]].concat(),
-        [&[0x1000; 10][..], &[0x1040]].concat(),
-        vec![0x1040; 10],
-        vec![0x1047; 11],
+    let long = [
+        vec![0x1000; LABEL_LIMIT],
+        vec![0x1000; LABEL_LIMIT + 1],
+        [&[0x1000; LABEL_LIMIT][..], &[0x104A]].concat(),
+        [&[0x1000; LABEL_LIMIT][..], &[0x1040]].concat(),
+        vec![0x1040; LABEL_LIMIT],
+        vec![0x1047; LABEL_LIMIT + 1],
         with_longest_skeleton(),
         vec![0x1000; WORD_LIMIT],
         vec![0x104A; WORD_LIMIT],
         vec![0x1000; WORD_LIMIT + 1],
     ];
-    let words = WORDS_TO_TRY.iter().map(|word| word.to_vec()).chain(ten_or_more);
+    let words = WORDS_TO_TRY.iter().map(|word| word.to_vec()).chain(long);
     let faulty = FAULTY_LINES.iter().map(|line| line.to_vec());
     words.map(|word| encode(&word)).chain(faulty).chain([Vec::new()])
 }

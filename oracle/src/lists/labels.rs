@@ -5,6 +5,7 @@ use super::changes::shuffle_runs;
 use super::products::{after_final, joined, of, Words};
 use crate::labels::REPLACEMENTS;
 use crate::letters::{admitted_values, is_head, KILLER, LETTER_O, VISARGA};
+use crate::limits::LABEL_LIMIT;
 use crate::random::Random;
 use crate::rows::row_of;
 use crate::syllable::Piece;
@@ -59,9 +60,9 @@ const INTERRUPTED: [&[u16]; 8] = [
     &[0x1010, 0x1000, 0x1039, 0x1000],
     &[0x1040, 0x1047],
     &[0x1000, 0x1040],
-    &[0x1000; 9],
-    &[0x1000; 10],
-    &[0x1000; 11],
+    &[0x1000; LABEL_LIMIT - 1],
+    &[0x1000; LABEL_LIMIT],
+    &[0x1000; LABEL_LIMIT + 1],
 ];
 
 /// Each of those words with each stop and sign at each place.
@@ -124,10 +125,11 @@ const LETTERS: [&[u16]; 18] = [
     &[0x1018, 0x1010, 0x103A, 0x1005, 0x103A],
 ];
 
-/// A row of letters, of digits or of both, often of about ten syllables; sometimes a stop or a
-/// sign is among them.
+/// A row of letters, of digits or of both, often of about as many syllables as may be; sometimes
+/// a stop or a sign is among them.
 pub fn likely_label(random: &mut Random) -> Vec<u16> {
-    let syllables = random.pick(&[0, 1, 1, 2, 2, 3, 4, 5, 8, 9, 10, 10, 11, 12]);
+    let near_the_limit = [0, 1, 2, 2, 3, 4].map(|more| LABEL_LIMIT - 2 + more);
+    let syllables = random.pick(&[&[0, 1, 1, 2, 2, 3, 4, 5][..], &near_the_limit].concat());
     let of_digits = random.pick(&[0, 0, 25, 100]);
     let of_stops = random.pick(&[0, 0, 0, 0, 10]);
     let mut word = Vec::new();
@@ -180,11 +182,11 @@ pub fn pairs() -> impl Iterator<Item = Vec<u16>> {
     })
 }
 
-/// About ten syllables and about 64 values, with 1029 in most of them.
+/// About as many syllables and values as a label may have, with 1029 in most of the syllables.
 pub fn long_skeleton(random: &mut Random) -> Vec<u16> {
     let final_letter = |random: &mut Random| random.between(0x1000, 0x1020) as u16;
     let mut word = Vec::new();
-    for _ in 0..random.pick(&[8, 9, 9, 9, 10]) {
+    for _ in 0..LABEL_LIMIT - random.pick(&[2, 1, 1, 1, 0]) {
         let (first, second) = (final_letter(random), final_letter(random));
         word.extend([LETTER_O, first, KILLER, second, KILLER]);
         word.extend(Some(VISARGA).filter(|_| random.chance(90)));

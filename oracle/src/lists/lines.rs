@@ -4,9 +4,8 @@ use super::changes::{any_foreign, damage, long, shuffle_runs, valid};
 use super::encode;
 use super::picked_rows::row_of_length;
 use crate::letters::{KILLER, LETTER_U, MARK_II, NGA, STACKER};
-use crate::line::LINE_LIMIT;
+use crate::limits::{LINE_LIMIT, WORD_LIMIT};
 use crate::random::Random;
-use crate::word::WORD_LIMIT;
 
 /// A byte of any value but that which ends a line.
 fn any_byte(random: &mut Random) -> u8 {
@@ -67,7 +66,7 @@ fn insert(line: &mut Vec<u8>, place: usize, bytes: &[u8]) {
     line.splice(place..place, bytes.iter().copied());
 }
 
-/// A line of about 192 bytes or a word of about 64 values.
+/// A line of about [`LINE_LIMIT`] bytes or a word of about [`WORD_LIMIT`] values.
 pub fn near_the_limit(random: &mut Random) -> Vec<u8> {
     match random.below(5) {
         0..3 => encode(&word_near_the_limit(random)),
@@ -97,7 +96,7 @@ fn word_near_the_limit(random: &mut Random) -> Vec<u16> {
         6 => ended_by(row(random, WORD_LIMIT - 3), &[0x1000, 0x1010, STACKER]),
         7 => ended_by(row(random, WORD_LIMIT - 4), &[0x1000, NGA, KILLER, STACKER]),
         8 => {
-            // Stored with one value less, 65 of them are still too many.
+            // Stored with one value less, a word that is too long by one is refused too.
             let length = random.between(WORD_LIMIT - 3, WORD_LIMIT - 1);
             ended_by(row(random, length), &[LETTER_U, MARK_II])
         }

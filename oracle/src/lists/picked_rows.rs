@@ -1,6 +1,7 @@
 //! Rows of syllables picked at random from the formula.
 
 use crate::formula::writings;
+use crate::limits::RECORD_SIZE;
 use crate::random::Random;
 use crate::syllable::{link, Piece, Record, Writing};
 
@@ -22,7 +23,7 @@ impl RowUnderWay {
     /// Puts a writing of the piece that stands next at the end.
     pub fn put(&mut self, writing: &Writing) {
         if self.next.begins_syllable() {
-            self.records.push([0; 8]);
+            self.records.push([0; RECORD_SIZE]);
         }
         self.values.extend(writing.values());
         if let Some(record) = self.records.last_mut() {
@@ -39,7 +40,7 @@ impl RowUnderWay {
         self.put(random.pick(&heads));
         while !self.next.begins_syllable() {
             let empty = writings(self.next)
-                .find(|writing| writing.values().is_empty() && writing.record == [0; 8]);
+                .find(|writing| writing.values().is_empty() && writing.record == [0; RECORD_SIZE]);
             self.put(empty.expect("every piece but the head may be absent"));
         }
     }

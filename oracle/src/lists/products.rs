@@ -1,6 +1,7 @@
 //! Every writing of every piece, each with every writing of another piece.
 
 use crate::formula::writings;
+use crate::limits::WORD_LIMIT;
 use crate::syllable::{link, Piece, Writing, TONES};
 
 /// What a product gives.
@@ -169,5 +170,5 @@ fn great_sa_by_medials_by_vowels() -> Words {
 }
 
 fn great_sa_chains() -> Words {
-    (1..=63).map(|length| joined(&[&head_in_turn(length), &vec![0x103F; length]])).collect()
+    (1..WORD_LIMIT).map(|length| joined(&[&head_in_turn(length), &vec![0x103F; length]])).collect()
 }
