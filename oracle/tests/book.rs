@@ -6,6 +6,7 @@ mod records;
 use oracle::book::{
     add, check, find, find_prefix, order, rank, remove, tidy, word_at, Added, Entry, Told,
 };
+use oracle::limits::{BOOK_LIMIT, BOOK_RECORDS_LIMIT, BOOK_RECORD_HEAD, WORD_LIMIT};
 use oracle::Refusal;
 use records::{KA, KAA, KHA, REMOVED_KA, REMOVED_KAA, REMOVED_KHA};
 
@@ -37,8 +38,8 @@ fn no_bytes_are_a_book() {
     assert_eq!(remove(&mut [], &[0x1000]), refusal(13, 0));
 }
 
-/// "Then come the count n of code values (one byte, 1 to 64), the stock number (four
-/// bytes, low byte first) and n bytes, each a value minus 1000."
+/// "Then come the count n of code values (one byte, …), the stock number (four bytes, low
+/// byte first) and n bytes, each a value minus 1000."
 #[test]
 fn a_record_is_written_byte_for_byte() {
     let mut book = [0; 20];
@@ -147,9 +148,9 @@ fn a_removed_word_is_added_anew_at_the_end() {
 /// "Tests run in the order 1, 7, 8, 2, 3 or 4": the word before the book.
 #[test]
 fn a_refused_word_comes_before_a_wrong_book() {
-    let long = [0x1000; 65];
+    let long = [0x1000; WORD_LIMIT + 1];
     let cases: [(&[u16], u8, usize); 10] = [
-        (&long, 1, 64),
+        (&long, 1, WORD_LIMIT),
         (&[], 8, 0),
         (&[0x1000, 0x1022], 2, 1),
         (&[0x103A, 0x0041], 2, 1),
@@ -162,7 +163,7 @@ fn a_refused_word_comes_before_a_wrong_book() {
         (&[0x104C, 0x1000, 0x103A], 3, 2),
     ];
     for (word, number, place) in cases {
-        for mut book in [vec![], vec![0; 20], vec![1; 20], vec![0; 16_385]] {
+        for mut book in [vec![], vec![0; 20], vec![1; 20], vec![0; BOOK_LIMIT + 1]] {
             let before = book.clone();
             assert_eq!(find(&book, word), refusal(number, place));
             assert_eq!(add(&mut book, word, 1), refusal(number, place));
@@ -172,16 +173,16 @@ fn a_refused_word_comes_before_a_wrong_book() {
     }
 }
 
-/// "for an overlong buffer 16,384", which "is tested first".
+/// "for an overlong buffer" the limit is the place, and "an overlong buffer is tested first".
 #[test]
 fn an_overlong_buffer_is_no_book() {
-    assert_eq!(check(&[0; 16_384]), Ok(0));
+    assert_eq!(check(&[0; BOOK_LIMIT]), Ok(0));
     for first in [0x00, 0x01, 0x4D] {
-        let mut book = vec![0; 16_385];
+        let mut book = vec![0; BOOK_LIMIT + 1];
         book[0] = first;
-        assert_eq!(check(&book), refusal(11, 16_384));
-        assert_eq!(rank(&book, 0), refusal(11, 16_384));
-        assert_eq!(add(&mut book, &[0x1000], 1), refusal(11, 16_384));
+        assert_eq!(check(&book), refusal(11, BOOK_LIMIT));
+        assert_eq!(rank(&book, 0), refusal(11, BOOK_LIMIT));
+        assert_eq!(add(&mut book, &[0x1000], 1), refusal(11, BOOK_LIMIT));
     }
 }
 
@@ -214,12 +215,12 @@ fn wrong_records_are_placed_at_their_start() {
         assert_eq!(find(&behind, &[0x1001]), refusal(11, 8));
         assert_eq!(rank(&behind, 0), refusal(11, 8));
     }
-    let full = |count: u8, values: usize| {
-        [&[0x4D, 0x57, count, 0, 0, 0, 0][..], &vec![0x00; values]].concat()
+    let full = |count: usize, values: usize| {
+        [&[0x4D, 0x57, count as u8, 0, 0, 0, 0][..], &vec![0x00; values]].concat()
     };
-    assert_eq!(check(&full(64, 64)), Ok(1));
-    assert_eq!(check(&full(64, 63)), refusal(11, 0));
-    assert_eq!(check(&full(65, 65)), refusal(11, 0));
+    assert_eq!(check(&full(WORD_LIMIT, WORD_LIMIT)), Ok(1));
+    assert_eq!(check(&full(WORD_LIMIT, WORD_LIMIT - 1)), refusal(11, 0));
+    assert_eq!(check(&full(WORD_LIMIT + 1, WORD_LIMIT + 1)), refusal(11, 0));
     assert_eq!(check(&full(255, 255)), refusal(11, 0));
 }
 
@@ -408,8 +409,8 @@ fn what_is_no_book_is_not_tidied() {
         (&[&REMOVED_KA, &KHA, &KA, &KHA], 24),
         (&[&REMOVED_KA, &KHA, &REMOVED_KAA[..8]], 16),
         (&[&REMOVED_KA, &KHA, &[0x4D, 0x2D, 1, 0, 0, 0, 0, 0x22]], 16),
-        (&[&REMOVED_KA, &[0; 16_377]], 16_384),
-        (&[&[0; 16_385]], 16_384),
+        (&[&REMOVED_KA, &[0; BOOK_LIMIT + 1 - REMOVED_KA.len()]], BOOK_LIMIT),
+        (&[&[0; BOOK_LIMIT + 1]], BOOK_LIMIT),
     ];
     for (parts, place) in wrong {
         let mut book = parts.concat();
@@ -492,8 +493,12 @@ fn a_live_word_comes_before_a_full_book() {
 /// A refused word comes before tidying, and moves nothing.
 #[test]
 fn no_refused_word_tidies() {
-    let words: [(&[u16], u8, usize); 4] =
-        [(&[0x1000; 65], 1, 64), (&[], 8, 0), (&[0x1022], 2, 0), (&[0x1000, 0x1039], 3, 1)];
+    let words: [(&[u16], u8, usize); 4] = [
+        (&[0x1000; WORD_LIMIT + 1], 1, WORD_LIMIT),
+        (&[], 8, 0),
+        (&[0x1022], 2, 0),
+        (&[0x1000, 0x1039], 3, 1),
+    ];
     for (word, number, place) in words {
         let mut book = [REMOVED_KA, KHA].as_flattened().to_vec();
         assert_eq!(add(&mut book, word, 1), refusal(number, place));
@@ -504,17 +509,19 @@ fn no_refused_word_tidies() {
 /// The longest book, full of removed records but for its last eight bytes.
 #[test]
 fn the_longest_book_is_tidied() {
-    let before = [[REMOVED_KA; 2_047].as_flattened(), &KHA].concat();
+    const LAST: usize = BOOK_LIMIT - KHA.len();
+    let before = [[REMOVED_KA; BOOK_RECORDS_LIMIT - 1].as_flattened(), &KHA].concat();
     let mut book = before.clone();
     assert_eq!(tidy(&mut book), Ok(8));
     assert_eq!(book[..8], KHA);
-    assert_eq!(book[8..], [0; 16_376]);
+    assert_eq!(book[8..], [0; LAST]);
     let mut book = before.clone();
-    assert_eq!(remove(&mut book, &[0x1001]), Ok(16_376));
+    assert_eq!(remove(&mut book, &[0x1001]), Ok(LAST));
     // Remove does not tidy.
-    assert_eq!(book[..16_376], before[..16_376]);
-    assert_eq!(book[16_376..], REMOVED_KHA);
-    assert_eq!(add(&mut book, &[0x1000; 64], 0x0403_0201), added_tidied(0));
-    assert_eq!(book[..7], [0x4D, 0x57, 64, 1, 2, 3, 4]);
-    assert_eq!(book[7..], [0; 16_377]);
+    assert_eq!(book[..LAST], before[..LAST]);
+    assert_eq!(book[LAST..], REMOVED_KHA);
+    assert_eq!(add(&mut book, &[0x1000; WORD_LIMIT], 0x0403_0201), added_tidied(0));
+    let (head, rest) = book.split_at(BOOK_RECORD_HEAD);
+    assert_eq!(head, [0x4D, 0x57, WORD_LIMIT as u8, 1, 2, 3, 4]);
+    assert_eq!(rest, [0; BOOK_LIMIT - BOOK_RECORD_HEAD]);
 }

@@ -2,7 +2,7 @@
 
 mod markless;
 
-use oracle::calls::{all, checksum, Play};
+use oracle::calls::{all, checksum, Play, ARRAY_SIZE};
 use std::collections::BTreeSet;
 use std::sync::LazyLock;
 
@@ -116,7 +116,7 @@ fn the_checksum_of_a_preview_has_its_start_and_whether_it_tidies() {
     play.new_book(17);
     let ka = [0x4D, 0x57, 1, 5, 0, 0, 0, 0x00];
     let removed_kha = [0x4D, 0x2D, 1, 6, 0, 0, 0, 0x01];
-    let array = [&ka[..], &removed_kha, &[0, 0x4D, 0x57], &[0; 16_380], &[0xA5]].concat();
+    let array = [&ka[..], &removed_kha, &[0, 0x4D, 0x57], &[0; ARRAY_SIZE - 20], &[0xA5]].concat();
     play.poke_all(0, &array[..16]);
     play.preview(&[0x1002, 0x102C], 7).unwrap();
     play.preview(&[0x1000], 7).unwrap_err();

@@ -1,12 +1,15 @@
 //! All examples of document 01, in its order, and those of document 02 on independent
 //! letters that carry finals and on two finals.
 
+use oracle::collation::Weights;
+use oracle::limits::{SPELLED_LIMIT, WORD_LIMIT};
 use oracle::program::Program;
 use oracle::spelling::SpelledLengths;
+use oracle::syllable::Record;
 use oracle::{compare, key, normalise, part, read, record, spell_out, stored_form, write, Refusal};
 use std::cmp::Ordering;
 
-fn weights(word: &[u16]) -> Vec<[u8; 6]> {
+fn weights(word: &[u16]) -> Vec<Weights> {
     key(word).unwrap().row().to_vec()
 }
 
@@ -17,13 +20,13 @@ fn refused(word: &[u16]) -> (u8, usize) {
 }
 
 fn stored(word: &[u16]) -> Vec<u16> {
-    let mut output = [0; 64];
+    let mut output = [0; WORD_LIMIT];
     let length = normalise(word, &mut output).unwrap();
     output[..length].to_vec()
 }
 
 fn spelled(word: &[u16]) -> Vec<Vec<u16>> {
-    let (mut values, mut starts) = ([0; 190], [0; 64]);
+    let (mut values, mut starts) = ([0; SPELLED_LIMIT], [0; WORD_LIMIT]);
     let lengths = spell_out(word, &mut values, &mut starts).unwrap();
     let mut ends = starts[..lengths.starts].to_vec();
     ends.push(lengths.values);
@@ -34,14 +37,14 @@ fn spelled(word: &[u16]) -> Vec<Vec<u16>> {
 fn written_back(word: &[u16]) -> Vec<u16> {
     let reading = read(word).unwrap();
     let records: Vec<u8> = reading.syllables().iter().flat_map(|one| one.record).collect();
-    let mut output = [0; 64];
+    let mut output = [0; WORD_LIMIT];
     let length = write(&records, &mut output).unwrap();
     output[..length].to_vec()
 }
 
 #[test]
 fn words_to_try_that_are_readable() {
-    assert_eq!(weights(&[]), Vec::<[u8; 6]>::new());
+    assert_eq!(weights(&[]), Vec::<Weights>::new());
     assert_eq!(read(&[]).unwrap().syllables().len(), 0);
     assert_eq!(weights(&[0x1000]), [[13, 0, 0, 0, 0, 0]]);
     assert_eq!(
@@ -98,10 +101,11 @@ fn words_to_try_that_are_normalised() {
 }
 
 #[test]
-fn the_limit_is_sixty_four_values() {
-    assert_eq!(read(&[0x1000; 64]).unwrap().syllables().len(), 64);
-    assert_eq!(key(&[0x1000; 64]).unwrap().count(), 64);
-    assert_eq!(refused(&[0x1000; 65]), (1, 64));
+fn a_word_has_as_many_values_as_the_limit_and_no_more() {
+    let longest = [0x1000; WORD_LIMIT];
+    assert_eq!(read(&longest).unwrap().syllables().len(), WORD_LIMIT);
+    assert_eq!(key(&longest).unwrap().count(), WORD_LIMIT);
+    assert_eq!(refused(&[0x1000; WORD_LIMIT + 1]), (1, WORD_LIMIT));
 }
 
 #[test]
@@ -131,12 +135,12 @@ fn the_program_prints_the_three_lines() {
 }
 
 #[test]
-fn the_longest_spelled_word_has_190_values() {
-    let mut word = [0x103F; 64];
+fn the_longest_spelled_word_has_as_many_values_as_its_limit() {
+    let mut word = [0x103F; WORD_LIMIT];
     word[0] = 0x1000;
-    let (mut values, mut starts) = ([0; 190], [0; 64]);
+    let (mut values, mut starts) = ([0; SPELLED_LIMIT], [0; WORD_LIMIT]);
     let lengths = spell_out(&word, &mut values, &mut starts);
-    assert_eq!(lengths, Ok(SpelledLengths { values: 190, starts: 64 }));
+    assert_eq!(lengths, Ok(SpelledLengths { values: SPELLED_LIMIT, starts: WORD_LIMIT }));
 }
 
 #[test]
@@ -228,8 +232,8 @@ fn every_weight_of_the_page() {
 /// A word of document 02, with what it is read to: records, weights and spelled syllables.
 struct Worked {
     word: &'static [u16],
-    records: &'static [[u8; 8]],
-    weights: &'static [[u8; 6]],
+    records: &'static [Record],
+    weights: &'static [Weights],
     spelled: &'static [&'static [u16]],
 }
 

@@ -1,7 +1,9 @@
 //! The formula taken literally: rows are put together from syllables, joined,
 //! and every short list is compared with them.
 
+use oracle::limits::WORD_LIMIT;
 use oracle::rows::longest_viable_beginning;
+use oracle::syllable::Record;
 use oracle::{read, write};
 use std::collections::{HashMap, HashSet};
 
@@ -15,7 +17,7 @@ enum Next {
 
 struct Part {
     values: Vec<u16>,
-    record: [u8; 8],
+    record: Record,
     begun_by: Next,
     next: Next,
 }
@@ -287,7 +289,7 @@ fn every_single_syllable_is_read_and_written_back() {
         assert_eq!(reading.syllables()[number].start, before.len());
         assert_eq!(reading.syllables().len(), number + 1 + usize::from(!after.is_empty()));
         let records: Vec<u8> = reading.syllables().iter().flat_map(|one| one.record).collect();
-        let mut output = [0; 64];
+        let mut output = [0; WORD_LIMIT];
         assert_eq!(write(&records, &mut output), Ok(word.len()));
         assert_eq!(output[..word.len()], word);
     }
@@ -320,7 +322,7 @@ fn taken_by_the_writer(head: u8) -> usize {
         };
         let ending = [final_weight as u8, second, link as u8, tone as u8];
         let records = [&[head, 0, 0, 0], &ending[..], next].concat();
-        let mut output = [0; 64];
+        let mut output = [0; WORD_LIMIT];
         let Ok(length) = write(&records, &mut output) else { continue };
         let reading = read(&output[..length]).unwrap();
         let read: Vec<u8> = reading.syllables().iter().flat_map(|one| one.record).collect();
@@ -356,7 +358,7 @@ fn the_writer_takes_marks_on_a_letter_alone() {
         let all = (0..13).flat_map(|medial| (0..14).map(move |vowel| (medial, vowel)));
         let all = all.flat_map(|(medial, vowel)| (0..3).map(move |tall| [medial, vowel, tall]));
         let records = all.map(|marks| [&[head][..], &marks, &ending].concat());
-        records.filter(|record| write(record, &mut [0; 64]).is_ok()).count()
+        records.filter(|record| write(record, &mut [0; WORD_LIMIT]).is_ok()).count()
     };
     for ending in [[0; 4], [1, 0, 1, 2], [1, 33, 1, 0]] {
         assert_eq!(taken_marks(0x21, ending), 12 * (13 + 3));

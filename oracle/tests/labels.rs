@@ -3,7 +3,7 @@
 use oracle::formula::writings;
 use oracle::labels::{replaced, REPLACEMENTS};
 use oracle::letters::admitted_values;
-use oracle::limits::{LABEL_LIMIT, WORD_LIMIT};
+use oracle::limits::{LABEL_LIMIT, SKELETON_LIMIT, WORD_LIMIT};
 use oracle::lists::{likely_label, long_skeleton, with_longest_skeleton};
 use oracle::program::Program;
 use oracle::random::Random;
@@ -24,7 +24,7 @@ fn refused(word: &[u16]) -> (u8, usize) {
 /// The number of syllables and the skeleton.
 fn accepted(word: &[u16]) -> (usize, Vec<u16>) {
     let skeleton = skeleton(word).unwrap();
-    let mut output = [7; 80];
+    let mut output = [7; SKELETON_LIMIT + 7];
     assert_eq!(put_skeleton(word, &mut output), Ok(skeleton.len()));
     let (written, rest) = output.split_at(skeleton.len());
     assert!(written == skeleton && rest.iter().all(|&value| value == 7));
@@ -110,15 +110,16 @@ fn the_word_is_normalised_first() {
 }
 
 #[test]
-fn ten_syllables_are_the_most() {
-    assert_eq!(accepted(&[0x1000; 10]), (10, vec![0x1000; 10]));
-    assert_eq!(refused(&[0x1000; 11]), (23, 10));
-    assert_eq!(refused(&[0x1000; WORD_LIMIT]), (23, 10));
-    assert_eq!(refused(&[0x1040; 11]), (23, 10));
-    let with_last = |value| [&[0x1000; 10][..], &[value]].concat();
-    assert_eq!(refused(&with_last(0x104A)), (21, 10));
-    assert_eq!(refused(&with_last(0x1047)), (22, 10));
-    assert_eq!(label(&with_last(0x102C)), Ok(10));
+fn a_label_has_as_many_syllables_as_the_limit_and_no_more() {
+    assert_eq!(accepted(&[0x1000; LABEL_LIMIT]), (LABEL_LIMIT, vec![0x1000; LABEL_LIMIT]));
+    assert_eq!(refused(&[0x1000; LABEL_LIMIT + 1]), (23, LABEL_LIMIT));
+    assert_eq!(refused(&[0x1000; WORD_LIMIT]), (23, LABEL_LIMIT));
+    assert_eq!(refused(&[0x1040; LABEL_LIMIT + 1]), (23, LABEL_LIMIT));
+    // Behind as many syllables as may be, the value has their number for its place.
+    let with_last = |value| [&[0x1000; LABEL_LIMIT][..], &[value]].concat();
+    assert_eq!(refused(&with_last(0x104A)), (21, LABEL_LIMIT));
+    assert_eq!(refused(&with_last(0x1047)), (22, LABEL_LIMIT));
+    assert_eq!(label(&with_last(0x102C)), Ok(LABEL_LIMIT));
 }
 
 #[test]
@@ -130,12 +131,13 @@ fn the_empty_word_is_a_label() {
 
 #[test]
 fn what_is_no_word_is_refused_before_what_is_no_label() {
-    assert_eq!(refused(&[0x104A; 65]), (1, 64));
+    assert_eq!(refused(&[0x104A; WORD_LIMIT + 1]), (1, WORD_LIMIT));
     assert_eq!(refused(&[0x104A, 0x1022]), (2, 1));
     assert_eq!(refused(&[0x1025, 0x102E, 0x1040, 0x1022]), (2, 3));
     assert_eq!(refused(&[0x104B, 0x103A]), (3, 1));
     assert_eq!(refused(&[0x1000, 0x1040, 0x1000, 0x1000, 0x1039]), (4, 5));
-    assert_eq!(refused(&[&[0x1000; 11][..], &[0x1039]].concat()), (4, 12));
+    let open = [&[0x1000; LABEL_LIMIT + 1][..], &[0x1039]].concat();
+    assert_eq!(refused(&open), (4, open.len()));
 }
 
 #[test]
@@ -171,12 +173,13 @@ fn longest_skeleton() -> usize {
 }
 
 #[test]
-fn no_skeleton_is_longer_than_73_values() {
+fn no_skeleton_is_longer_than_its_limit() {
     let word = with_longest_skeleton();
     assert_eq!(word[..6], [0x1029, 0x1014, 0x103A, 0x1005, 0x103A, 0x1038]);
     let (syllables, skeleton) = accepted(&word);
-    assert_eq!((word.len(), syllables, skeleton.len()), (64, 10, 73));
-    assert_eq!(longest_skeleton(), 73);
+    assert_eq!((word.len(), syllables), (WORD_LIMIT, LABEL_LIMIT));
+    assert_eq!(skeleton.len(), SKELETON_LIMIT);
+    assert_eq!(longest_skeleton(), SKELETON_LIMIT);
 }
 
 /// Every label of up to three values of those that are replaced, those that they become, and

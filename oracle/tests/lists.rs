@@ -2,6 +2,7 @@
 
 mod markless;
 
+use oracle::limits::{LABEL_LIMIT, LINE_LIMIT, SKELETON_LIMIT, WEIGHTS, WORD_LIMIT};
 use oracle::lists::{all, random_row, row_of_length, shuffle_runs, List};
 use oracle::program::Program;
 use oracle::random::Random;
@@ -53,7 +54,7 @@ fn rows_are_read_as_they_were_put_together() {
         let row = if round % 2 == 0 {
             random_row(&mut random, round / 2 % 6)
         } else {
-            row_of_length(&mut random, round / 2 % 65)
+            row_of_length(&mut random, round / 2 % (WORD_LIMIT + 1))
         };
         let reading = read(&row.values).unwrap();
         assert!(reading.syllables().iter().map(|syllable| syllable.record).eq(row.records));
@@ -65,10 +66,10 @@ fn rows_are_read_as_they_were_put_together() {
 fn shuffled_rows_are_stored_as_they_were() {
     let mut random = Random::of("shuffled_rows_are_stored_as_they_were");
     for round in 0..2_000 {
-        let row = row_of_length(&mut random, round % 65).values;
+        let row = row_of_length(&mut random, round % (WORD_LIMIT + 1)).values;
         let mut shuffled = row.clone();
         shuffle_runs(&mut random, &mut shuffled);
-        let mut output = [0; 64];
+        let mut output = [0; WORD_LIMIT];
         let length = normalise(&shuffled, &mut output).unwrap();
         assert_eq!(output[..length], row);
         assert_eq!(compare(&shuffled, &row), Ok(Ordering::Equal));
@@ -77,7 +78,7 @@ fn shuffled_rows_are_stored_as_they_were() {
 
 #[test]
 fn every_weight_occurs() {
-    let mut seen = [(); 6].map(|()| BTreeSet::new());
+    let mut seen = [(); WEIGHTS].map(|()| BTreeSet::new());
     for name in ["products", "two_finals", "valid"] {
         for answer in answers(list(name)) {
             for syllable in answer.rsplit(' ').next().unwrap().split('-') {
@@ -179,8 +180,10 @@ fn every_refusal_of_a_line_occurs() {
     assert_eq!(refusals("bytes"), named(&["2", "3", "7"]));
     assert_eq!(refusals("limits"), named(&["1", "2", "3", "4", "7"]));
     let limits = answers(list("limits"));
-    assert!(limits.iter().any(|answer| answer.ends_with(" NO 4 64")));
-    assert!(limits.iter().any(|answer| answer.ends_with(" NO 7 189")));
+    let occurs = |ending: String| limits.iter().any(|answer| answer.ends_with(&ending));
+    assert!(occurs(format!(" NO 4 {WORD_LIMIT}")));
+    // The last three of the longest line.
+    assert!(occurs(format!(" NO 7 {}", LINE_LIMIT - 3)));
 }
 
 fn label_list(name: &str) -> &'static List {
@@ -211,14 +214,15 @@ fn every_refusal_of_a_label_occurs() {
 }
 
 #[test]
-fn labels_have_up_to_ten_syllables_and_73_values_in_a_skeleton() {
+fn labels_have_up_to_as_many_syllables_and_values_of_a_skeleton_as_may_be() {
     let words = LABEL_LISTS.iter().flat_map(words_of);
     let counts: BTreeSet<usize> = words.filter_map(|word| oracle::label(&word).ok()).collect();
-    assert!(counts.into_iter().eq(0..=10));
+    assert!(counts.into_iter().eq(0..=LABEL_LIMIT));
     let words = words_of(label_list("long_skeletons"));
     let lengths: BTreeSet<usize> =
         words.filter_map(|word| oracle::skeleton(&word).ok()).map(|it| it.len()).collect();
-    assert!((70..=73).all(|length| lengths.contains(&length)), "{lengths:?}");
+    let mut longest = SKELETON_LIMIT - 3..=SKELETON_LIMIT;
+    assert!(longest.all(|length| lengths.contains(&length)), "{lengths:?}");
 }
 
 /// Two words in a row that are spelled otherwise.

@@ -1,6 +1,8 @@
 //! Document 02, "Find by the first syllables", with starts and places worked out by hand.
 
 use oracle::book::{add, find_prefix, remove, Added};
+use oracle::collation::Weights;
+use oracle::limits::{BOOK_LIMIT, BOOK_RECORD_HEAD, SPELLED_LIMIT, WORD_LIMIT};
 use oracle::{compare, key, read, spell_out, Refusal};
 
 /// တက္ကသိုလ်
@@ -19,7 +21,7 @@ fn refusal<T>(number: u8, place: usize) -> Result<T, Refusal> {
 
 /// A book of these words, and where the record of each starts.
 fn book_of(words: &[&[u16]]) -> (Vec<u8>, Vec<u16>) {
-    let mut book = vec![0; words.iter().map(|word| 7 + word.len()).sum()];
+    let mut book = vec![0; words.iter().map(|word| BOOK_RECORD_HEAD + word.len()).sum()];
     let starts = words.iter().map(|word| add(&mut book, word, 7).unwrap().start as u16).collect();
     (book, starts)
 }
@@ -99,8 +101,9 @@ fn words_are_found_in_word_order() {
     assert_eq!(found(&words, &[0x1000]), [3, 5, 6, 1, 0]);
     assert_eq!(found(&words, &[0x1000, 0x1000]), [6, 1]);
     assert_eq!(found(&words, &[0x1000, 0x1000, 0x1000]), [1]);
-    assert_eq!(found(&[&[0x1000; 64], &[0x1000; 63]], &[0x1000; 63]), [1, 0]);
-    assert_eq!(found(&[&[0x1000; 64], &[0x1000; 63]], &[0x1000; 64]), [0]);
+    let (longest, shorter) = ([0x1000; WORD_LIMIT], [0x1000; WORD_LIMIT - 1]);
+    assert_eq!(found(&[&longest, &shorter], &shorter), [1, 0]);
+    assert_eq!(found(&[&longest, &shorter], &longest), [0]);
 }
 
 /// "equal rows compare by code values in storage order"
@@ -222,8 +225,8 @@ fn the_list_may_have_any_length() {
 #[test]
 fn the_query_is_tested_before_the_book_and_the_book_before_the_list() {
     let cases: [(&[u16], u8, usize); 14] = [
-        (&[0x1000; 65], 1, 64),
-        (&[0; 65], 1, 64),
+        (&[0x1000; WORD_LIMIT + 1], 1, WORD_LIMIT),
+        (&[0; WORD_LIMIT + 1], 1, WORD_LIMIT),
         (&[], 8, 0),
         (&[0x1000, 0x1022], 2, 1),
         (&[0x103A, 0x0041], 2, 1),
@@ -243,21 +246,22 @@ fn the_query_is_tested_before_the_book_and_the_book_before_the_list() {
     let wrong = [&right[..], &[7]].concat();
     let mut list = [9; 3];
     for (query, number, place) in cases {
-        for book in [&right, &wrong, &vec![0; 16_385]] {
+        for book in [&right, &wrong, &vec![0; BOOK_LIMIT + 1]] {
             assert_eq!(find_prefix(book, query, &mut list), refusal(number, place));
             assert_eq!(find_prefix(book, query, &mut []), refusal(number, place));
         }
     }
     assert_eq!(find_prefix(&wrong, &[0x1000], &mut list), refusal(11, 17));
     assert_eq!(find_prefix(&wrong, &[0x1000], &mut []), refusal(11, 17));
-    assert_eq!(find_prefix(&[0; 16_385], &[0x1000], &mut list), refusal(11, 16_384));
+    let overlong = [0; BOOK_LIMIT + 1];
+    assert_eq!(find_prefix(&overlong, &[0x1000], &mut list), refusal(11, BOOK_LIMIT));
     assert_eq!(find_prefix(&right, &[0x1000], &mut list[..1]), refusal(5, 2));
     assert_eq!(list, [9; 3]);
 }
 
 /// The keys of the syllables of a word, each spelled out and read by itself.
-fn keys_of_spelled(word: &[u16]) -> Vec<[u8; 6]> {
-    let (mut values, mut starts) = ([0; 190], [0; 65]);
+fn keys_of_spelled(word: &[u16]) -> Vec<Weights> {
+    let (mut values, mut starts) = ([0; SPELLED_LIMIT], [0; WORD_LIMIT + 1]);
     let lengths = spell_out(word, &mut values, &mut starts).unwrap();
     starts[lengths.starts] = lengths.values;
     let ends = starts[..=lengths.starts].windows(2);

@@ -3,6 +3,7 @@
 mod records;
 
 use oracle::book::{add, preview, Added, Preview};
+use oracle::limits::{BOOK_LIMIT, BOOK_RECORDS_LIMIT, WORD_LIMIT};
 use oracle::Refusal;
 use records::{KA, KAA, KHA, REMOVED_KA, REMOVED_KAA, REMOVED_KHA};
 
@@ -90,12 +91,13 @@ fn a_live_word_is_refused_at_its_start() {
 /// record.
 #[test]
 fn what_is_no_book_is_refused() {
-    for word in [&[0x1000][..], &[0x1001], &[0x1002; 64]] {
+    for word in [&[0x1000][..], &[0x1001], &[0x1002; WORD_LIMIT]] {
         demand(&[&[1]], word, refused(11, 0));
         demand(&[&REMOVED_KA, &KHA, &[0x4D]], word, refused(11, 16));
         demand(&[&REMOVED_KA, &KHA, &[0, 0, 1]], word, refused(11, 18));
         demand(&[&REMOVED_KA, &KHA, &KA, &KHA], word, refused(11, 24));
-        demand(&[&REMOVED_KA, &[0; 16_377]], word, refused(11, 16_384));
+        let overlong = [0; BOOK_LIMIT + 1 - REMOVED_KA.len()];
+        demand(&[&REMOVED_KA, &overlong], word, refused(11, BOOK_LIMIT));
     }
 }
 
@@ -103,7 +105,7 @@ fn what_is_no_book_is_refused() {
 #[test]
 fn a_refused_word_comes_before_a_wrong_book() {
     let words: [(&[u16], u8, usize); 7] = [
-        (&[0x1000; 65], 1, 64),
+        (&[0x1000; WORD_LIMIT + 1], 1, WORD_LIMIT),
         (&[], 8, 0),
         (&[0x1000, 0x1022], 2, 1),
         (&[0x103A, 0x0041], 2, 1),
@@ -113,8 +115,14 @@ fn a_refused_word_comes_before_a_wrong_book() {
         (&[0x1000, 0x103C, 0x103B], 3, 2),
     ];
     for (word, number, place) in words {
-        let books: [&[&[u8]]; 6] =
-            [&[], &[&[0; 20]], &[&REMOVED_KA, &KHA], &[&[1; 20]], &[&KA, &KA], &[&[0; 16_385]]];
+        let books: [&[&[u8]]; 6] = [
+            &[],
+            &[&[0; 20]],
+            &[&REMOVED_KA, &KHA],
+            &[&[1; 20]],
+            &[&KA, &KA],
+            &[&[0; BOOK_LIMIT + 1]],
+        ];
         for parts in books {
             demand(parts, word, refused(number, place));
         }
@@ -124,10 +132,11 @@ fn a_refused_word_comes_before_a_wrong_book() {
 /// Starts and places up to the end of the longest book.
 #[test]
 fn the_longest_book_is_previewed() {
-    let removed = [REMOVED_KA; 2_047];
+    let removed = [REMOVED_KA; BOOK_RECORDS_LIMIT - 1];
     let removed = removed.as_flattened();
-    demand(&[removed, &[0; 8]], &[0x1000], accepted(16_376, false));
-    demand(&[removed, &[0; 8]], &[0x1000; 64], accepted(0, true));
-    demand(&[removed, &KHA], &[0x1000; 64], accepted(8, true));
-    demand(&[removed, &KA], &[0x1000], refused(12, 16_376));
+    let last = BOOK_LIMIT - KA.len();
+    demand(&[removed, &[0; 8]], &[0x1000], accepted(last, false));
+    demand(&[removed, &[0; 8]], &[0x1000; WORD_LIMIT], accepted(0, true));
+    demand(&[removed, &KHA], &[0x1000; WORD_LIMIT], accepted(8, true));
+    demand(&[removed, &KA], &[0x1000], refused(12, last));
 }

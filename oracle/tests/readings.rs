@@ -1,6 +1,8 @@
 //! The cases that the page of readings names, where they concern no book.
 
+use oracle::limits::{KEY_SIZE, LINE_LIMIT, RECORD_SIZE, WEIGHTS, WORD_LIMIT};
 use oracle::program::Program;
+use oracle::syllable::Record;
 use oracle::{compare, decode, key, normalise, part, put_record, read, record, spell_out, write};
 use oracle::{Key, Refusal, Which};
 use std::cmp::Ordering;
@@ -21,12 +23,12 @@ fn refused_line(line: &[u8]) -> (u8, usize) {
 }
 
 fn refused_writing(records: &[u8]) -> (u8, usize) {
-    let Refusal { number, place } = write(records, &mut [0; 64]).unwrap_err();
+    let Refusal { number, place } = write(records, &mut [0; WORD_LIMIT]).unwrap_err();
     (number, place)
 }
 
 fn written(records: &[u8]) -> Vec<u16> {
-    let mut output = [0; 64];
+    let mut output = [0; WORD_LIMIT];
     let length = write(records, &mut output).unwrap();
     output[..length].to_vec()
 }
@@ -68,9 +70,9 @@ fn any_vowel_goes_with_any_final() {
 fn records_and_parts_of_refused_words_and_beyond_the_count() {
     let answer = record(&[0x1000, 0x1039], 0);
     assert_eq!(answer.refusal, Some(Refusal { number: 3, place: 1 }));
-    assert!(!answer.present && answer.record == [0; 8]);
+    assert!(!answer.present && answer.record == [0; RECORD_SIZE]);
     let answer = record(&[0x1000], 1);
-    assert!(answer.refusal.is_none() && !answer.present && answer.record == [0; 8]);
+    assert!(answer.refusal.is_none() && !answer.present && answer.record == [0; RECORD_SIZE]);
     let answer = record(&[0x1000], 0);
     assert!(answer.refusal.is_none() && answer.present);
     assert_eq!(part(&[0x1000, 0x1039], 0), &[] as &[u16]);
@@ -79,32 +81,32 @@ fn records_and_parts_of_refused_words_and_beyond_the_count() {
 
 /// Tests 1, 2, 3 or 4 come first, then that there is such a syllable, then the output.
 #[test]
-fn a_record_is_put_where_there_is_room_for_eight_bytes() {
+fn a_record_is_put_where_there_is_room_for_it() {
     let word = [0x1000, 0x1018, 0x1010, 0x103A, 0x1005, 0x103A];
-    let mut output = [7; 10];
-    assert_eq!(put_record(&word, 1, &mut output), Ok(Some(8)));
+    let mut output = [7; RECORD_SIZE + 2];
+    assert_eq!(put_record(&word, 1, &mut output), Ok(Some(RECORD_SIZE)));
     assert_eq!(output, [0x18, 0, 0, 0, 17, 6, 1, 0, 7, 7]);
-    assert_eq!(put_record(&word, 0, &mut output[..8]), Ok(Some(8)));
+    assert_eq!(put_record(&word, 0, &mut output[..RECORD_SIZE]), Ok(Some(RECORD_SIZE)));
     assert_eq!(output, [0, 0, 0, 0, 0, 0, 0, 0, 7, 7]);
-    let mut short = [7; 7];
-    assert_eq!(put_record(&word, 1, &mut short), Err(Refusal { number: 5, place: 8 }));
+    let mut short = [7; RECORD_SIZE - 1];
+    assert_eq!(put_record(&word, 1, &mut short), Err(Refusal { number: 5, place: RECORD_SIZE }));
     assert_eq!(put_record(&word, 2, &mut short), Ok(None));
     assert_eq!(put_record(&[0x103F], 0, &mut short), Err(Refusal { number: 3, place: 0 }));
     assert_eq!(put_record(&[], 0, &mut []), Ok(None));
-    assert_eq!(short, [7; 7], "a refusal writes nothing");
+    assert_eq!(short, [7; RECORD_SIZE - 1], "a refusal writes nothing");
 }
 
 #[test]
 fn too_long_comes_first() {
-    assert_eq!(refused_line(&[b'a'; 193]), (1, 64));
-    assert_eq!(refused_line(&[b'a'; 192]), (7, 0));
-    let mut word = [0x1000; 65];
+    assert_eq!(refused_line(&[b'a'; LINE_LIMIT + 1]), (1, WORD_LIMIT));
+    assert_eq!(refused_line(&[b'a'; LINE_LIMIT]), (7, 0));
+    let mut word = [0x1000; WORD_LIMIT + 1];
     word[3] = 0x1022;
-    assert_eq!(refused(&word), (1, 64));
+    assert_eq!(refused(&word), (1, WORD_LIMIT));
     word[3] = 0x1025;
     word[4] = 0x102E;
-    assert_eq!(refused_normalising(&word), (1, 64));
-    assert_eq!(key(&word[..64]).unwrap().count(), 63);
+    assert_eq!(refused_normalising(&word), (1, WORD_LIMIT));
+    assert_eq!(key(&word[..WORD_LIMIT]).unwrap().count(), WORD_LIMIT - 1);
 }
 
 #[test]
@@ -135,9 +137,9 @@ fn faulty_threes_are_placed_by_bytes() {
 
 #[test]
 fn open_ends_are_unfinished() {
-    let mut word = [0x1000; 64];
-    word[63] = 0x1039;
-    assert_eq!(refused(&word), (4, 64));
+    let mut word = [0x1000; WORD_LIMIT];
+    word[WORD_LIMIT - 1] = 0x1039;
+    assert_eq!(refused(&word), (4, WORD_LIMIT));
     assert_eq!(refused(&[0x1000, 0x1004, 0x103A, 0x1039]), (4, 4));
     assert_eq!(refused(&[0x1004, 0x103A, 0x1039, 0x1000]), (3, 1));
     assert_eq!(refused(&[0x1000, 0x1014, 0x1037, 0x103A]), (3, 3));
@@ -159,7 +161,7 @@ fn only_a_final_letter_follows_the_stacker() {
 
 #[test]
 fn great_sa_needs_a_syllable_before_it_that_takes_a_final() {
-    let records = |word: &[u16]| -> Vec<[u8; 8]> {
+    let records = |word: &[u16]| -> Vec<Record> {
         read(word).unwrap().syllables().iter().map(|syllable| syllable.record).collect()
     };
     assert_eq!(
@@ -332,13 +334,14 @@ fn the_writer_takes_what_a_reader_yields() {
 #[test]
 fn the_writer_counts_joined_values_and_tests_them_before_the_output() {
     let great_sa = [0x1E, 0, 0, 0, 31, 0, 3, 0];
-    let mut records = [great_sa; 64].concat();
-    records[8 * 63..].copy_from_slice(&[0x1E, 0, 0, 0, 0, 0, 0, 0]);
-    assert_eq!(written(&records).len(), 64);
+    let mut records = [great_sa; WORD_LIMIT];
+    records[WORD_LIMIT - 1] = [0x1E, 0, 0, 0, 0, 0, 0, 0];
+    let records = records.concat();
+    assert_eq!(written(&records).len(), WORD_LIMIT);
     let longer = [&great_sa[..], &records].concat();
     let too_short = &mut [0; 3];
     assert_eq!(write(&longer, too_short).unwrap_err(), Refusal { number: 6, place: 0 });
-    assert_eq!(write(&records, too_short).unwrap_err(), Refusal { number: 5, place: 64 });
+    assert_eq!(write(&records, too_short).unwrap_err(), Refusal { number: 5, place: WORD_LIMIT });
     assert_eq!(*too_short, [0; 3], "a refusal writes nothing");
 }
 
@@ -405,7 +408,7 @@ fn ties_go_by_the_stored_forms() {
 fn the_first_of_two_words_is_tested_whole() {
     let unfinished = [0x1000, 0x1000, 0x1039];
     let refusal = Refusal { number: 4, place: 3 };
-    assert_eq!(compare(&unfinished, &[0x1000; 65]), Err((Which::First, refusal)));
+    assert_eq!(compare(&unfinished, &[0x1000; WORD_LIMIT + 1]), Err((Which::First, refusal)));
     assert_eq!(compare(&[0x1000], &unfinished), Err((Which::Second, refusal)));
 }
 
@@ -414,8 +417,8 @@ fn the_unused_bytes_of_a_key_are_zero() {
     let key = key(&[0x1000, 0x104F]).unwrap();
     assert_eq!(key.count(), 2);
     assert_eq!(key.bytes()[..12], [13, 0, 0, 0, 0, 0, 50, 0, 0, 0, 0, 0]);
-    assert_eq!(key.bytes()[12..], [0; 372]);
-    assert_eq!(Key::ZERO.bytes(), &[0; 384]);
+    assert_eq!(key.bytes()[12..], [0; KEY_SIZE - 12]);
+    assert_eq!(Key::ZERO.bytes(), &[0; KEY_SIZE]);
 }
 
 #[test]
@@ -426,10 +429,12 @@ fn what_the_program_prints_for_no_lines_and_empty_ones() {
     assert_eq!(printed(b"\xE1\x80\x80"), "1 OK 1 0D0000000000\n");
     assert_eq!(printed(b"\n\xE1"), "1 OK 0 -\n2 NO 7 0\n");
     assert_eq!(printed("က\r\n".as_bytes()), "1 NO 7 3\n");
-    let mut long = "က".repeat(64).into_bytes();
-    assert_eq!(printed(&long).len(), "1 OK 64 ".len() + 64 * 13);
+    let mut long = "က".repeat(WORD_LIMIT).into_bytes();
+    // Two digits a weight, and a hyphen or the line's end behind those of a syllable.
+    let length = format!("1 OK {WORD_LIMIT} ").len() + WORD_LIMIT * (2 * WEIGHTS + 1);
+    assert_eq!(printed(&long).len(), length);
     long.push(b'\n');
-    assert_eq!(printed(&long).len(), "1 OK 64 ".len() + 64 * 13);
+    assert_eq!(printed(&long).len(), length);
     long.insert(0, b' ');
-    assert_eq!(printed(&long), "1 NO 1 64\n");
+    assert_eq!(printed(&long), format!("1 NO 1 {WORD_LIMIT}\n"));
 }
