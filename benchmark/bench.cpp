@@ -350,7 +350,7 @@ static void time_book(const std::vector<Word> &names, size_t live, size_t record
     size_t turns = 1 + 20000 / (records + 20);
     uint8_t *bytes = book.data();
     size_t length = book.size();
-    static uint16_t starts[JOGCAIRN_BOOK_LIMIT / 8], values[JOGCAIRN_WORD_LIMIT];
+    static uint16_t starts[JOGCAIRN_BOOK_RECORDS_LIMIT], values[JOGCAIRN_WORD_LIMIT];
     size_t room = sizeof starts / sizeof starts[0];
     size_t start = jogcairn_second(jogcairn_book_find(bytes, length, name.data(), name.size()));
     std::vector<Case> cases = {
@@ -368,7 +368,7 @@ static void time_book(const std::vector<Word> &names, size_t live, size_t record
                   uint64_t answer = jogcairn_book_add(bytes, length, absent.data(), absent.size(), 7);
                   if (jogcairn_accepted(answer)) {
                       need(jogcairn_second(answer) == 0, "an add of the table of calls tidied its book");
-                      std::memset(bytes + jogcairn_first(answer), 0, 7 + absent.size());
+                      std::memset(bytes + jogcairn_first(answer), 0, JOGCAIRN_BOOK_RECORD_HEAD + absent.size());
                   }
                   return answer;
               }),
@@ -411,8 +411,8 @@ static std::vector<Word> names_behind(const std::vector<Word> &names, size_t ste
 // How many live records of a book begin with the query's syllables.
 static size_t fitting(const std::vector<uint8_t> &book, const Word &query)
 {
-    static uint16_t starts[JOGCAIRN_BOOK_LIMIT / 8];
-    uint64_t answer = jogcairn_book_find_prefix(book.data(), book.size(), query.data(), query.size(), starts, JOGCAIRN_BOOK_LIMIT / 8);
+    static uint16_t starts[JOGCAIRN_BOOK_RECORDS_LIMIT];
+    uint64_t answer = jogcairn_book_find_prefix(book.data(), book.size(), query.data(), query.size(), starts, JOGCAIRN_BOOK_RECORDS_LIMIT);
     need(jogcairn_accepted(answer), "a query is refused");
     return jogcairn_first(answer);
 }
@@ -435,7 +435,7 @@ static Word query_finding(const std::vector<uint8_t> &book, const std::vector<Wo
 // The search by first syllables in a full book, beside find, rank and order in the same one and beside the other implementation's search.
 static void time_prefix(const char *what, const std::vector<uint8_t> &book, const Word &name, const Word &query)
 {
-    static uint16_t starts[JOGCAIRN_BOOK_LIMIT / 8];
+    static uint16_t starts[JOGCAIRN_BOOK_RECORDS_LIMIT];
     const uint8_t *bytes = book.data();
     size_t length = book.size(), room = sizeof starts / sizeof starts[0], turns = 20;
     size_t lives = jogcairn_first(jogcairn_book_check(bytes, length));
@@ -482,7 +482,7 @@ static void time_prefixes(const std::vector<Word> &names)
 // The book with every `step`th record removed, from the first on; none where it is 0.
 static std::vector<uint8_t> with_removed(std::vector<uint8_t> book, size_t step)
 {
-    for (size_t start = 0, number = 0; start < book.size() && book[start] != 0; start += 7 + book[start + 2], number++)
+    for (size_t start = 0, number = 0; start < book.size() && book[start] != 0; start += JOGCAIRN_BOOK_RECORD_HEAD + book[start + 2], number++)
         if (step != 0 && number % step == 0)
             book[start + 1] = 0x2D;
     return book;
@@ -492,8 +492,8 @@ static std::vector<uint8_t> with_removed(std::vector<uint8_t> book, size_t step)
 static std::vector<uint8_t> with_room(std::vector<uint8_t> book, size_t room)
 {
     size_t end = 0;
-    while (book[end] != 0 && end + 7 + book[end + 2] + room <= book.size())
-        end += 7 + book[end + 2];
+    while (book[end] != 0 && end + JOGCAIRN_BOOK_RECORD_HEAD + book[end + 2] + room <= book.size())
+        end += JOGCAIRN_BOOK_RECORD_HEAD + book[end + 2];
     std::fill(book.begin() + ptrdiff_t(end), book.end(), 0);
     return book;
 }
@@ -505,7 +505,7 @@ static const Word longer_name(3, 0x1000);
 // Each call that changes the book has a copy of it made anew, and the time of the copy alone is taken off.
 static void time_tidying(const char *removed, const std::vector<uint8_t> &full)
 {
-    const std::vector<uint8_t> roomy = with_room(full, 7 + longer_name.size());
+    const std::vector<uint8_t> roomy = with_room(full, JOGCAIRN_BOOK_RECORD_HEAD + longer_name.size());
     std::vector<uint8_t> book(full.size());
     size_t length = book.size(), turns = 20, lives = jogcairn_first(jogcairn_book_check(full.data(), length));
     auto copy_of = [&](const std::vector<uint8_t> &from) { return static_cast<uint8_t *>(std::memcpy(book.data(), from.data(), length)); };
@@ -602,7 +602,7 @@ static void time_previews(const std::vector<Word> &names)
     fill_book(book, names, 10, 10);
     time_preview("ten records", book);
     fill_book(book, names, names.size(), names.size());
-    time_preview("with room for one more", with_room(book, 7 + longer_name.size()));
+    time_preview("with room for one more", with_room(book, JOGCAIRN_BOOK_RECORD_HEAD + longer_name.size()));
     time_preview("full", book);
     time_preview("every second removed", with_removed(book, 2));
 }
@@ -648,7 +648,7 @@ static std::vector<Case> word_cases(const Words &list)
     return {
         timed("read", count, [&words](size_t i) { return jogcairn_read(words[i].data(), words[i].size()); }),
         timed("record of the last syllable", count,
-              [&words, last](size_t i) { return jogcairn_record(words[i].data(), words[i].size(), last(i), record, JOGCAIRN_RECORD_SIZE) + record[i % 8]; }),
+              [&words, last](size_t i) { return jogcairn_record(words[i].data(), words[i].size(), last(i), record, JOGCAIRN_RECORD_SIZE) + record[i % JOGCAIRN_RECORD_SIZE]; }),
         timed("spell", count,
               [&words](size_t i) {
                   return jogcairn_spell(words[i].data(), words[i].size(), spelled, JOGCAIRN_SPELLED_LIMIT, starts, JOGCAIRN_WORD_LIMIT) + spelled[i % 8];
@@ -728,7 +728,7 @@ static void time_second_final_books()
 {
     std::printf("\n  a full book of %d bytes, in microseconds; words of one syllable and five values\n", JOGCAIRN_BOOK_LIMIT);
     std::printf("  %-22s %6s %8s %8s %8s %8s\n", "finals of a syllable", "live", "check", "find", "rank", "order");
-    static uint16_t starts[JOGCAIRN_BOOK_LIMIT / 8];
+    static uint16_t starts[JOGCAIRN_BOOK_RECORDS_LIMIT];
     for (bool twice : {false, true}) {
         std::vector<Word> names = syllable_names(twice);
         std::vector<uint8_t> book(JOGCAIRN_BOOK_LIMIT);

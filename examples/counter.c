@@ -59,6 +59,9 @@ static size_t registered;
 /* The parts that are accepted fill the book to its last byte. */
 static uint8_t book[121];
 
+/* The most records that it has room for: no word is without a value. */
+enum { RECORDS = sizeof book / (JOGCAIRN_BOOK_RECORD_HEAD + 1) };
+
 /* Prints values as UTF-8: each is 1000 to 107F, which takes three bytes. */
 static void print_values(const uint16_t *values, size_t count)
 {
@@ -229,8 +232,8 @@ static void print_records(const uint16_t *starts, size_t count)
 /* Lists the book in dictionary order. */
 static void list_parts(void)
 {
-    uint16_t starts[sizeof book / 8];
-    uint64_t answer = jogcairn_book_order(book, sizeof book, starts, sizeof starts / sizeof starts[0]);
+    uint16_t starts[RECORDS];
+    uint64_t answer = jogcairn_book_order(book, sizeof book, starts, RECORDS);
     if (!jogcairn_accepted(answer)) {
         print_refusal(answer, NULL);
         return;
@@ -243,11 +246,11 @@ static void list_parts(void)
 static void list_continued(const char *text)
 {
     struct name name;
-    uint16_t starts[sizeof book / 8];
+    uint16_t starts[RECORDS];
     printf("continue %s: ", text);
     if (!decode(text, &name))
         return;
-    uint64_t answer = jogcairn_book_find_prefix(book, sizeof book, name.values, name.count, starts, sizeof starts / sizeof starts[0]);
+    uint64_t answer = jogcairn_book_find_prefix(book, sizeof book, name.values, name.count, starts, RECORDS);
     if (!jogcairn_accepted(answer)) {
         print_refusal(answer, &name);
         return;
@@ -319,7 +322,6 @@ static int both_accepted(uint64_t answer, const struct pair *pair)
 /* How two names compare, and the used bytes of the first one's key. */
 static void print_order(const char *one, const char *other)
 {
-    enum { WEIGHTS = JOGCAIRN_KEY_SIZE / JOGCAIRN_WORD_LIMIT }; /* the used bytes of a syllable */
     static const char *const orders[] = {"before", "the same as", "after"};
     struct pair pair;
     uint8_t key[JOGCAIRN_KEY_SIZE];
@@ -330,8 +332,8 @@ static void print_order(const char *one, const char *other)
         return;
     uint64_t keyed = jogcairn_key(pair.first.values, pair.first.count, key, sizeof key);
     printf("the first is %s the second, its key", orders[jogcairn_first(order)]);
-    for (size_t byte = 0; byte < WEIGHTS * jogcairn_first(keyed); byte++)
-        printf(byte % WEIGHTS == 0 ? " %02X" : "%02X", key[byte]);
+    for (size_t byte = 0; byte < JOGCAIRN_WEIGHTS * jogcairn_first(keyed); byte++)
+        printf(byte % JOGCAIRN_WEIGHTS == 0 ? " %02X" : "%02X", key[byte]);
     printf("\n");
 }
 

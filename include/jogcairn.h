@@ -38,13 +38,19 @@ extern "C" {
 #endif
 
 #define JOGCAIRN_WORD_LIMIT 64      /* the most values of a word: room for any normalised, written or decoded word */
-#define JOGCAIRN_LINE_LIMIT 192     /* the most bytes of a line */
 #define JOGCAIRN_SPELLED_LIMIT 190  /* the most values of a spelled word; it has at most JOGCAIRN_WORD_LIMIT syllables */
 #define JOGCAIRN_LABEL_LIMIT 10     /* the most syllables of a label */
 #define JOGCAIRN_SKELETON_LIMIT 73  /* the most values of a skeleton */
 #define JOGCAIRN_RECORD_SIZE 8      /* the bytes of a syllable's record */
-#define JOGCAIRN_KEY_SIZE 384       /* the bytes of a key, of which six a syllable are used */
+#define JOGCAIRN_WEIGHTS 6          /* the weights of a syllable, a byte of a key each */
 #define JOGCAIRN_BOOK_LIMIT 16384   /* the most bytes of a book */
+#define JOGCAIRN_BOOK_RECORD_HEAD 7 /* the bytes of a book's record before its word, which takes a byte a value */
+
+/* What follows from them: the most bytes of a line, three a value; the bytes of a key, of which those of the word's syllables are used; and the most records
+   of a book, none of which is without a value. */
+#define JOGCAIRN_LINE_LIMIT (3 * JOGCAIRN_WORD_LIMIT)
+#define JOGCAIRN_KEY_SIZE (JOGCAIRN_WEIGHTS * JOGCAIRN_WORD_LIMIT)
+#define JOGCAIRN_BOOK_RECORDS_LIMIT (JOGCAIRN_BOOK_LIMIT / (JOGCAIRN_BOOK_RECORD_HEAD + 1))
 
 /* The most stack that a call needs, in bytes; tests/stack.c measures it. */
 #define JOGCAIRN_STACK_WORD 4096
@@ -56,22 +62,22 @@ extern "C" {
 
 /* The refusals. Each has a place, which is the first number of the answer. */
 enum jogcairn_refusal {
-    JOGCAIRN_TOO_LONG = 1,          /* more than 64 values, or a line over 192 bytes; place 64 */
+    JOGCAIRN_TOO_LONG = 1,          /* more than JOGCAIRN_WORD_LIMIT values, or a line over JOGCAIRN_LINE_LIMIT bytes; place: JOGCAIRN_WORD_LIMIT */
     JOGCAIRN_FOREIGN = 2,           /* a foreign value; place: the first, in the word as handed in */
     JOGCAIRN_NO_CONTINUATION = 3,   /* no continuation makes it a word; place: the length of its longest beginning that has one */
     JOGCAIRN_UNFINISHED = 4,        /* no word, but some continuation makes it one; place: its length */
     JOGCAIRN_OUTPUT_TOO_SHORT = 5,  /* an output is too short; place: the elements needed */
-    JOGCAIRN_NO_SUCH_ROW = 6,       /* records that no word has, or of a word over 64 values; place 0 */
+    JOGCAIRN_NO_SUCH_ROW = 6,       /* records that no word has, or of a word over JOGCAIRN_WORD_LIMIT values; place 0 */
     JOGCAIRN_FAULTY_LINE = 7,       /* bytes that are no Myanmar value in UTF-8; place: the first such byte */
     JOGCAIRN_EMPTY_WORD = 8,        /* the empty word, in calls on a book; place 0 */
-    JOGCAIRN_NOT_A_BOOK = 11,       /* place: the first byte where the buffer stops being a book; 16384 where it is too long */
+    JOGCAIRN_NOT_A_BOOK = 11,       /* place: the first byte where the buffer stops being a book; JOGCAIRN_BOOK_LIMIT where it is too long */
     JOGCAIRN_ALREADY_LIVE = 12,     /* add, preview: the word is there already; place: the start of its record */
     JOGCAIRN_NOT_LIVE = 13,         /* find, remove: the word is not there; place 0 */
     JOGCAIRN_BOOK_FULL = 14,        /* add, preview: the live records and the new one together pass the buffer's end; place: the live length */
     JOGCAIRN_RANK_TOO_HIGH = 15,    /* rank: so many live records there are not; place: how many there are */
     JOGCAIRN_STOP_OR_SIGN = 21,     /* no label, by a stop or a sign; place: the first, in the stored spelling */
     JOGCAIRN_CONFUSABLE_DIGIT = 22, /* no label, by a 1040 or 1047 next to a value that is no digit; place: the first such, in the stored spelling */
-    JOGCAIRN_TOO_MANY_SYLLABLES = 23 /* no label, by more than ten syllables; place 10 */
+    JOGCAIRN_TOO_MANY_SYLLABLES = 23 /* no label, by more than JOGCAIRN_LABEL_LIMIT syllables; place: JOGCAIRN_LABEL_LIMIT */
 };
 
 static inline unsigned jogcairn_tag(uint64_t answer)
@@ -152,9 +158,9 @@ uint64_t jogcairn_stored_form(const uint16_t *word, size_t count, uint16_t *outp
    typed as 1025 102E is pointed at by its 1025. None where the stored spelling ends before the place. [1, 2, none] */
 uint64_t jogcairn_typed_place(const uint16_t *word, size_t count, size_t place);
 
-/* Writes the collation key of a word, normalised, always JOGCAIRN_KEY_SIZE bytes: six a syllable (head, medial, final, second final, vowel, tone), then
-   zeros. memcmp orders keys as the dictionary files words; words that weigh the same have the same key, and jogcairn_compare tells them apart. An
-   independent vowel weighs as its mark on 1021, whatever finals and tone it has. First: the syllables. [1 to 5] */
+/* Writes the collation key of a word, normalised, always JOGCAIRN_KEY_SIZE bytes: JOGCAIRN_WEIGHTS a syllable (head, medial, final, second final, vowel,
+   tone), then zeros. memcmp orders keys as the dictionary files words; words that weigh the same have the same key, and jogcairn_compare tells them apart.
+   An independent vowel weighs as its mark on 1021, whatever finals and tone it has. First: the syllables. [1 to 5] */
 uint64_t jogcairn_key(const uint16_t *word, size_t count, uint8_t *key, size_t room);
 
 /* Compares two words, normalised. First: 0 where the first comes before the second, 1 where they are one word, 2 where it comes after.
@@ -222,14 +228,14 @@ uint64_t jogcairn_book_find(const uint8_t *book, size_t bytes, const uint16_t *w
 /* Finds by the first syllables: writes the starts of all live records whose words begin with the syllables of `query`, in word order. First: how
    many they are; 0 is no refusal. Whole syllables are compared, by their weights: a word begins with itself, a plain final finds a stacked one, kinzi
    and great sa too, and a syllable does not find one that has a mark or a final more. Tested in the order 1, 8, 2, 3 or 4, 11, 5; the place
-   of 5 is how many they are, at most JOGCAIRN_BOOK_LIMIT / 8. [1 to 5, 8, 11] */
+   of 5 is how many they are, at most JOGCAIRN_BOOK_RECORDS_LIMIT. [1 to 5, 8, 11] */
 uint64_t jogcairn_book_find_prefix(const uint8_t *book, size_t bytes, const uint16_t *query, size_t count, uint16_t *starts, size_t room);
 
 /* The live record with exactly `rank` live records before it in word order. First: its stock number; second: its start. [11, 15] */
 uint64_t jogcairn_book_rank(const uint8_t *book, size_t bytes, size_t rank);
 
 /* The whole book: writes the starts of all live records, in word order. First: how many there are. A book has at most
-   JOGCAIRN_BOOK_LIMIT / 8 records. [5, 11] */
+   JOGCAIRN_BOOK_RECORDS_LIMIT records. [5, 11] */
 uint64_t jogcairn_book_order(const uint8_t *book, size_t bytes, uint16_t *starts, size_t room);
 
 /* The record that starts at a byte, live or removed: writes its word. First: its stock number; second: jogcairn_word_count and

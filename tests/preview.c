@@ -28,7 +28,7 @@ static const struct {
     {full, sizeof full, {0x1015, 0x102B}, 2, JOGCAIRN_BOOK_FULL, 8, 0, 0},
     {full, sizeof full, {0x1015}, 1, JOGCAIRN_ALREADY_LIVE, 8, 0, 0},
     {stray, sizeof stray, {0x1015}, 1, JOGCAIRN_NOT_A_BOOK, 18, 0, 0},
-    {stray, sizeof stray, {0}, JOGCAIRN_WORD_LIMIT + 1, JOGCAIRN_TOO_LONG, 64, 0, 0},
+    {stray, sizeof stray, {0}, JOGCAIRN_WORD_LIMIT + 1, JOGCAIRN_TOO_LONG, JOGCAIRN_WORD_LIMIT, 0, 0},
     {stray, sizeof stray, {0}, 0, JOGCAIRN_EMPTY_WORD, 0, 0, 0},
     {stray, sizeof stray, {0x1000, 0x1022, 0x1039}, 3, JOGCAIRN_FOREIGN, 1, 0, 0},
     {stray, sizeof stray, {0x1000, 0x1039}, 2, JOGCAIRN_NO_CONTINUATION, 1, 0, 0},
