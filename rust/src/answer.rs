@@ -119,6 +119,7 @@ impl Answer {
 #[cfg(test)]
 mod tests {
     use super::*;
+    use crate::BOOK_LIMIT;
 
     fn packed(tag: u64, second: u64, first: u64) -> Answer {
         Answer::new((tag << 56) + (second << 32) + first)
@@ -139,9 +140,9 @@ mod tests {
 
     #[test]
     fn a_refusal_has_its_number_and_place() {
-        let refusal = Refusal { reason: Reason::NotABook, place: 16_384 };
-        assert_eq!(packed(11, 0, 16_384).one(), Err(refusal));
-        assert_eq!(packed(11, 2, 16_384).refused_word(), Some((2, refusal)));
+        let refusal = Refusal { reason: Reason::NotABook, place: BOOK_LIMIT };
+        assert_eq!(packed(11, 0, BOOK_LIMIT as u64).one(), Err(refusal));
+        assert_eq!(packed(11, 2, BOOK_LIMIT as u64).refused_word(), Some((2, refusal)));
         assert_eq!(packed(0, 0, 2).refused_word(), None);
         assert_eq!(packed(0, 0, 2).ordering(), Ordering::Greater);
         assert!(packed(0, 0, 1).whether() && !packed(0, 0, 0).whether());

@@ -1,4 +1,5 @@
-//! The word book: a buffer of at most 16,384 bytes that gives each word a stock number.
+//! The word book: a buffer of at most [`BOOK_LIMIT`](crate::BOOK_LIMIT) bytes that gives each word a
+//! stock number.
 //!
 //! [`Book`] keeps a book in bytes that it may change; the functions of this module look into bytes
 //! that are shared. Each call tests the word first and then the whole book, and changes nothing
@@ -13,7 +14,7 @@ use crate::collecting::collected;
 use crate::entries::{Entries, Entry, Listing};
 use crate::ffi;
 use crate::refusal::Refusal;
-use crate::{BOOK_LIMIT, WORD_LIMIT};
+use crate::{BOOK_RECORDS_LIMIT, WORD_LIMIT};
 
 /// Where a live record starts, and its stock number.
 #[derive(Clone, Copy, Debug, PartialEq, Eq, Hash)]
@@ -72,9 +73,6 @@ pub struct Told {
     /// Whether the record is live; a removed one keeps its word and its stock number.
     pub live: bool,
 }
-
-/// The most live records that a book has: each has eight bytes or more.
-const MOST_LIVE: usize = BOOK_LIMIT / 8;
 
 /// Tells whether the bytes are a book, and gives the number of live records.
 ///
@@ -165,7 +163,7 @@ pub fn order_into(book: &[u8], starts: &mut [u16]) -> Result<usize, Refusal> {
 /// # Ok::<(), jogcairn::Refusal>(())
 /// ```
 pub fn order(book: &[u8]) -> Result<Vec<u16>, Refusal> {
-    collected::<MOST_LIVE>(|starts| order_into(book, starts))
+    collected::<BOOK_RECORDS_LIMIT>(|starts| order_into(book, starts))
 }
 
 /// Writes the starts of all live records whose words begin with the syllables of the query, in
@@ -207,7 +205,7 @@ pub fn find_prefix_into(book: &[u8], query: &[u16], starts: &mut [u16]) -> Resul
 /// # Ok::<(), jogcairn::Refusal>(())
 /// ```
 pub fn find_prefix(book: &[u8], query: &[u16]) -> Result<Vec<u16>, Refusal> {
-    collected::<MOST_LIVE>(|starts| find_prefix_into(book, query, starts))
+    collected::<BOOK_RECORDS_LIMIT>(|starts| find_prefix_into(book, query, starts))
 }
 
 /// Writes the word of the record that starts at a byte to the front of `output`, be it live or

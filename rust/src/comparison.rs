@@ -20,7 +20,7 @@ pub enum Which {
 /// tested whole before the second.
 ///
 /// ```
-/// use jogcairn::{compare, look_alike, Which};
+/// use jogcairn::{compare, look_alike, Which, LABEL_LIMIT};
 ///
 /// let refused = compare(&[0x1000], &[0x103F]).unwrap_err();
 /// assert_eq!(refused.which, Which::Second);
@@ -29,7 +29,7 @@ pub enum Which {
 ///     "the second word: refusal 3: no word begins with the first value"
 /// );
 /// assert_eq!(
-///     look_alike(&[0x1000; 11], &[0x103F]).unwrap_err().to_string(),
+///     look_alike(&[0x1000; LABEL_LIMIT + 1], &[0x103F]).unwrap_err().to_string(),
 ///     "the first word: refusal 23: a label has at most 10 syllables"
 /// );
 /// ```

@@ -2,6 +2,7 @@
 
 use crate::refusal::Refusal;
 use crate::text::write_values;
+use crate::BOOK_RECORD_HEAD;
 use std::fmt;
 use std::iter::FusedIterator;
 use std::vec;
@@ -26,7 +27,7 @@ impl<'b> Entry<'b> {
     /// The entry of the record that starts at a byte of the book: after its mark of two bytes stand
     /// the count of values, the stock number in four bytes, lowest first, and the values.
     fn new(book: &'b [u8], start: usize) -> Entry<'b> {
-        let (head, behind) = book[start..].split_at(7);
+        let (head, behind) = book[start..].split_at(BOOK_RECORD_HEAD);
         let stock = [head[3], head[4], head[5], head[6]];
         let letters = &behind[..usize::from(head[2])];
         Entry { start, stock: u32::from_le_bytes(stock), letters }

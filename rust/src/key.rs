@@ -2,14 +2,11 @@
 
 use crate::ffi;
 use crate::refusal::Refusal;
-use crate::KEY_SIZE;
+use crate::{KEY_SIZE, WEIGHTS};
 use std::fmt;
 
-/// The weights of a syllable, a byte each.
-const WEIGHTS: usize = 6;
-
-/// Writes the key of a word, which is normalised first, to the front of `key`: 384 bytes, six a
-/// syllable and then zeros. Gives the number of syllables.
+/// Writes the key of a word, which is normalised first, to the front of `key`: [`KEY_SIZE`] bytes,
+/// [`WEIGHTS`] a syllable and then zeros. Gives the number of syllables.
 ///
 /// ```
 /// use jogcairn::{key_into, Reason, KEY_SIZE};
@@ -17,7 +14,7 @@ const WEIGHTS: usize = 6;
 /// let mut key = [0xFF; KEY_SIZE];
 /// assert_eq!(key_into(&[0x101E, 0x1019, 0x102E, 0x1038], &mut key)?, 2);
 /// assert_eq!(key[..13], [43, 0, 0, 0, 0, 0, 38, 0, 0, 0, 3, 2, 0]);
-/// let refusal = key_into(&[0x1000], &mut key[..383]).unwrap_err();
+/// let refusal = key_into(&[0x1000], &mut key[..KEY_SIZE - 1]).unwrap_err();
 /// assert_eq!((refusal.reason, refusal.place), (Reason::OutputTooShort, KEY_SIZE));
 /// # Ok::<(), jogcairn::Refusal>(())
 /// ```
@@ -57,9 +54,9 @@ impl Key {
         Ok(Key(key[..WEIGHTS * count].into()))
     }
 
-    /// The key that has these used bytes, six a syllable, as [`as_bytes`](Key::as_bytes) gave them;
-    /// nothing for bytes that no key has so: a length that is no multiple of six or is over 384, or
-    /// a head that weighs 0.
+    /// The key that has these used bytes, [`WEIGHTS`] a syllable, as [`as_bytes`](Key::as_bytes) gave
+    /// them; nothing for bytes that no key has so: a length that is no multiple of [`WEIGHTS`] or is
+    /// over [`KEY_SIZE`], or a head that weighs 0.
     ///
     /// ```
     /// use jogcairn::Key;
@@ -76,7 +73,7 @@ impl Key {
         (whole && rows.iter().all(|row| row[0] != 0)).then(|| Key(bytes.into()))
     }
 
-    /// The used bytes, six a syllable.
+    /// The used bytes, [`WEIGHTS`] a syllable.
     ///
     /// ```
     /// assert_eq!(jogcairn::Key::of(&[0x1000])?.as_bytes(), [13, 0, 0, 0, 0, 0]);
@@ -89,7 +86,9 @@ impl Key {
     /// The number of syllables.
     ///
     /// ```
-    /// assert_eq!(jogcairn::Key::of(&[0x1000; 64])?.count(), 64);
+    /// use jogcairn::{Key, WORD_LIMIT};
+    ///
+    /// assert_eq!(Key::of(&[0x1000; WORD_LIMIT])?.count(), WORD_LIMIT);
     /// # Ok::<(), jogcairn::Refusal>(())
     /// ```
     pub fn count(&self) -> usize {
@@ -113,7 +112,7 @@ impl Key {
     /// assert_eq!(key.rows().collect::<Vec<_>>(), [[37, 0, 17, 6, 0, 0]]);
     /// # Ok::<(), jogcairn::Refusal>(())
     /// ```
-    pub fn rows(&self) -> impl ExactSizeIterator<Item = [u8; 6]> + '_ {
+    pub fn rows(&self) -> impl ExactSizeIterator<Item = [u8; WEIGHTS]> + '_ {
         self.0.as_chunks().0.iter().copied()
     }
 }

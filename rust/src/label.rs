@@ -8,7 +8,8 @@ use crate::SKELETON_LIMIT;
 
 /// Whether a word may be a label: how many syllables it has, or why it is refused. The word is
 /// normalised first. A label has no stop and no sign, no ၀ (1040) and no ၇ (1047) next to a value
-/// that is no digit, and at most ten syllables. They are tested in this order, over the whole word.
+/// that is no digit, and at most [`LABEL_LIMIT`](crate::LABEL_LIMIT) syllables. They are tested in
+/// this order, over the whole word.
 ///
 /// ```
 /// use jogcairn::{decode, label, Reason, Refusal};

@@ -2,8 +2,8 @@
 //! dictionary files them, and a word book that gives each word a stock number.
 //!
 //! Every answer comes from a library that is proved to meet its contract; this crate gives it
-//! Rust's types. A word is a slice of code values, `&[u16]`, at most 64 of them; what is refused is
-//! an [`Err`] with a [`Refusal`], which has a number, a place and a sentence.
+//! Rust's types. A word is a slice of code values, `&[u16]`, at most [`WORD_LIMIT`] of them; what is
+//! refused is an [`Err`] with a [`Refusal`], which has a number, a place and a sentence.
 //!
 //! ```
 //! use jogcairn::{read, Book, Word};
@@ -110,7 +110,7 @@ pub use writing::{write, write_into};
 pub const WORD_LIMIT: usize = 64;
 
 /// The most bytes that a line has: three a value.
-pub const LINE_LIMIT: usize = 192;
+pub const LINE_LIMIT: usize = 3 * WORD_LIMIT;
 
 /// The values of the longest spelled word.
 pub const SPELLED_LIMIT: usize = 190;
@@ -124,8 +124,18 @@ pub const SKELETON_LIMIT: usize = 73;
 /// The bytes of a syllable's record.
 pub const RECORD_SIZE: usize = 8;
 
-/// The bytes of a key, of which six a syllable are used.
-pub const KEY_SIZE: usize = 384;
+/// The weights of a syllable, a byte of a key each.
+pub const WEIGHTS: usize = 6;
+
+/// The bytes of a key, of which [`WEIGHTS`] a syllable are used.
+pub const KEY_SIZE: usize = WEIGHTS * WORD_LIMIT;
 
 /// The most bytes that a book has.
 pub const BOOK_LIMIT: usize = 16_384;
+
+/// The bytes of a book's record before its word, which takes a byte a value.
+pub const BOOK_RECORD_HEAD: usize = 7;
+
+/// The most records that a book has, none of which is without a value: room for whatever starts
+/// [`book::order_into`] and [`book::find_prefix_into`] write.
+pub const BOOK_RECORDS_LIMIT: usize = BOOK_LIMIT / (BOOK_RECORD_HEAD + 1);

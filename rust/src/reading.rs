@@ -36,11 +36,11 @@ pub fn read(word: &[u16]) -> Result<Syllables<'_>, Refusal> {
 ///
 /// // ဘတ်စ်, a brand name: one syllable with two finals.
 /// let word = [0x1018, 0x1010, 0x103A, 0x1005, 0x103A];
-/// let mut output = [0xFF; 9];
+/// let mut output = [0xFF; RECORD_SIZE + 1];
 /// assert_eq!(record_into(&word, 0, &mut output)?, Some(RECORD_SIZE));
 /// assert_eq!(output, [0x18, 0, 0, 0, 17, 6, 1, 0, 0xFF]);
 /// assert_eq!(record_into(&word, 1, &mut [])?, None);
-/// let refusal = record_into(&word, 0, &mut output[..7]).unwrap_err();
+/// let refusal = record_into(&word, 0, &mut output[..RECORD_SIZE - 1]).unwrap_err();
 /// assert_eq!((refusal.reason, refusal.place), (Reason::OutputTooShort, RECORD_SIZE));
 /// # Ok::<(), jogcairn::Refusal>(())
 /// ```

@@ -1,9 +1,9 @@
-//! The eight bytes of a syllable.
+//! The bytes of a syllable.
 
 use crate::RECORD_SIZE;
 
-/// A syllable by the numbers of its pieces, in eight bytes: what the reader hands back and the
-/// writer takes.
+/// A syllable by the numbers of its pieces, in [`RECORD_SIZE`] bytes: what the reader hands back and
+/// the writer takes.
 ///
 /// ```
 /// use jogcairn::{read, Link};
@@ -39,9 +39,9 @@ impl Record {
     /// The record with these bytes. Whether a syllable has it, the writer tells.
     ///
     /// ```
-    /// use jogcairn::{write, Record};
+    /// use jogcairn::{write, Record, RECORD_SIZE};
     ///
-    /// let ka = Record::from_bytes([0; 8]);
+    /// let ka = Record::from_bytes([0; RECORD_SIZE]);
     /// assert_eq!(write(&ka.bytes())?, [0x1000]);
     /// # Ok::<(), jogcairn::Refusal>(())
     /// ```

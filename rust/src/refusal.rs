@@ -1,5 +1,6 @@
 //! Refusals: a number, a place and a sentence.
 
+use crate::{LINE_LIMIT, WORD_LIMIT};
 use std::error::Error;
 use std::fmt;
 
@@ -8,7 +9,8 @@ use std::fmt;
 #[repr(u8)]
 #[non_exhaustive]
 pub enum Reason {
-    /// A word has more than 64 values, or a line more than 192 bytes. The place is 64.
+    /// A word has more than [`WORD_LIMIT`] values, or a line more than [`LINE_LIMIT`] bytes. The
+    /// place is [`WORD_LIMIT`].
     TooLong = 1,
     /// A value is none of those admitted. The place is the first such value's.
     Foreign = 2,
@@ -19,14 +21,15 @@ pub enum Reason {
     Unfinished = 4,
     /// An output is too short. The place is the number of values, bytes or starts needed.
     OutputTooShort = 5,
-    /// No word of at most 64 values has these records. The place is 0.
+    /// No word of at most [`WORD_LIMIT`] values has these records. The place is 0.
     NoSuchRow = 6,
     /// A line is not made of letters of three bytes. The place is the byte where the first faulty
     /// three begins.
     FaultyLine = 7,
     /// A word without values was handed to a book. The place is 0.
     EmptyWord = 8,
-    /// The bytes are no book. The place is the byte where they stop being one.
+    /// The bytes are no book. The place is the byte where they stop being one;
+    /// [`BOOK_LIMIT`](crate::BOOK_LIMIT) where they are too many.
     NotABook = 11,
     /// The word to be added is live already. The place is the start of its record.
     AlreadyLive = 12,
@@ -43,7 +46,8 @@ pub enum Reason {
     /// A word that is to be a label has a 1040 or a 1047 next to a value that is no digit. The
     /// place is that of the first such 1040 or 1047, in the stored form.
     ConfusableDigit = 22,
-    /// A word that is to be a label has more than ten syllables. The place is 10.
+    /// A word that is to be a label has more syllables than [`LABEL_LIMIT`](crate::LABEL_LIMIT),
+    /// which is the place.
     TooManySyllables = 23,
 }
 
@@ -148,7 +152,10 @@ impl fmt::Display for Refusal {
         write!(f, "refusal {}: ", self.number())?;
         match self.reason {
             Reason::TooLong => {
-                f.write_str("a word has at most 64 values, a line at most 192 bytes")
+                write!(
+                    f,
+                    "a word has at most {WORD_LIMIT} values, a line at most {LINE_LIMIT} bytes"
+                )
             }
             Reason::Foreign => write!(f, "the value at place {place} is not admitted in a word"),
             Reason::NoContinuation => match place {
@@ -165,7 +172,9 @@ impl fmt::Display for Refusal {
                     "the output is too short, since {place} values, bytes or starts are needed"
                 )
             }
-            Reason::NoSuchRow => f.write_str("no word of at most 64 values has these records"),
+            Reason::NoSuchRow => {
+                write!(f, "no word of at most {WORD_LIMIT} values has these records")
+            }
             Reason::FaultyLine => write!(f, "no letter of three bytes begins at byte {place}"),
             Reason::EmptyWord => f.write_str("a book keeps no word without values"),
             Reason::NotABook => write!(f, "the bytes stop being a book at byte {place}"),

@@ -5,8 +5,8 @@ use crate::ffi;
 use crate::refusal::Refusal;
 use crate::WORD_LIMIT;
 
-/// Writes the word that has these records, eight bytes a syllable in word order, to the front of
-/// `word`, and gives the number of values.
+/// Writes the word that has these records, [`RECORD_SIZE`](crate::RECORD_SIZE) bytes a syllable in
+/// word order, to the front of `word`, and gives the number of values.
 ///
 /// ```
 /// use jogcairn::{write_into, Reason};

@@ -3,11 +3,13 @@
 mod answers;
 
 use answers::{found, put_at, refused, weights};
-use jogcairn::{book, normalise, read, spell, stored_form, write, Book, Found, Word};
+use jogcairn::{
+    book, normalise, read, spell, stored_form, write, Book, Found, Word, RECORD_SIZE, WEIGHTS,
+};
 
 /// A word in its stored form, and for each of its syllables the record, the weights and the
 /// spelled form.
-type Worked = (&'static [u16], &'static [([u8; 8], [u8; 6], &'static [u16])]);
+type Worked = (&'static [u16], &'static [([u8; RECORD_SIZE], [u8; WEIGHTS], &'static [u16])]);
 
 /// Independent vowels, and 104E, that carry a final, a tone or both.
 const CLOSED: [Worked; 9] = [
@@ -64,7 +66,7 @@ fn independent_letters_carry_finals_and_tones() {
     let mut book = Book::new(&mut bytes);
     for (word, syllables) in CLOSED {
         assert_eq!(normalise(word).unwrap(), word);
-        let records: Vec<[u8; 8]> = read(word).unwrap().map(|found| found.record.bytes()).collect();
+        let records: Vec<_> = read(word).unwrap().map(|found| found.record.bytes()).collect();
         assert_eq!(records, syllables.iter().map(|found| found.0).collect::<Vec<_>>());
         assert_eq!(weights(word), syllables.iter().map(|found| found.1).collect::<Vec<_>>());
         let spelled = spell(word).unwrap();

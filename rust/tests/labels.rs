@@ -99,40 +99,41 @@ fn what_is_no_label_is_refused_as_the_document_says() {
 }
 
 #[test]
-fn a_label_has_at_most_ten_syllables() {
-    assert_eq!(label(&[0x1000; LABEL_LIMIT]), Ok(10));
-    assert_eq!(skeleton(&[0x1000; LABEL_LIMIT]).unwrap(), [0x1000; 10]);
-    assert_eq!(refused(label(&[0x1000; LABEL_LIMIT + 1])), (23, 10));
-    assert_eq!(refused(label(&[0x1040; LABEL_LIMIT + 1])), (23, 10));
-    assert_eq!(refused(label(&[0x1000; WORD_LIMIT])), (23, 10));
-    assert_eq!(refused(label(&[0x1000; WORD_LIMIT + 1])), (1, 64));
+fn a_label_has_as_many_syllables_as_the_limit_and_no_more() {
+    assert_eq!(label(&[0x1000; LABEL_LIMIT]), Ok(LABEL_LIMIT));
+    assert_eq!(skeleton(&[0x1000; LABEL_LIMIT]).unwrap(), [0x1000; LABEL_LIMIT]);
+    assert_eq!(refused(label(&[0x1000; LABEL_LIMIT + 1])), (23, LABEL_LIMIT));
+    assert_eq!(refused(label(&[0x1040; LABEL_LIMIT + 1])), (23, LABEL_LIMIT));
+    assert_eq!(refused(label(&[0x1000; WORD_LIMIT])), (23, LABEL_LIMIT));
+    assert_eq!(refused(label(&[0x1000; WORD_LIMIT + 1])), (1, WORD_LIMIT));
     // A stop, a digit and a value that is foreign, each behind too many syllables.
-    let behind = |value| [vec![0x1000; 11], vec![value]].concat();
-    assert_eq!(refused(label(&behind(0x104B))), (21, 11));
-    assert_eq!(refused(label(&behind(0x1047))), (22, 11));
-    assert_eq!(refused(label(&behind(0x1041))), (23, 10));
-    assert_eq!(refused(label(&behind(0x1022))), (2, 11));
+    let behind = |value| [vec![0x1000; LABEL_LIMIT + 1], vec![value]].concat();
+    assert_eq!(refused(label(&behind(0x104B))), (21, LABEL_LIMIT + 1));
+    assert_eq!(refused(label(&behind(0x1047))), (22, LABEL_LIMIT + 1));
+    assert_eq!(refused(label(&behind(0x1041))), (23, LABEL_LIMIT));
+    assert_eq!(refused(label(&behind(0x1022))), (2, LABEL_LIMIT + 1));
 }
 
-/// The label with the longest skeleton, and that skeleton: nine syllables of 1029 with two finals
-/// and a tone, which have a value more each, and one of ten values, which has not.
+/// The label with the longest skeleton, and that skeleton: syllables of 1029 with two finals and a
+/// tone, which have a value more each, and behind them a long one, which has not.
 fn longest() -> (Vec<u16>, Vec<u16>) {
     let closed = [0x1000, 0x103A, 0x1005, 0x103A, 0x1038];
     let last = [0x1015, 0x103C, 0x1031, 0x102B, 0x103A, 0x1000, 0x103A, 0x1020, 0x103A, 0x1037];
-    let word = [[&[0x1029], &closed[..]].concat().repeat(9), last.to_vec()].concat();
-    let values = [[&[0x101E, 0x103C], &closed[..]].concat().repeat(9), last.to_vec()].concat();
+    let behind = |head: &[u16]| [head, &closed].concat().repeat(LABEL_LIMIT - 1);
+    let word = [behind(&[0x1029]), last.to_vec()].concat();
+    let values = [behind(&[0x101E, 0x103C]), last.to_vec()].concat();
     (word, values)
 }
 
 #[test]
-fn the_longest_skeleton_has_nine_values_more_than_its_word() {
+fn the_longest_skeleton_has_a_value_more_than_its_word_for_each_1029() {
     let (word, values) = longest();
     assert_eq!((word.len(), values.len()), (WORD_LIMIT, SKELETON_LIMIT));
     assert_eq!(label(&word), Ok(LABEL_LIMIT));
     assert_eq!(skeleton(&word).unwrap(), values);
     assert_eq!(look_alike(&word, &word), Ok(true));
     // The skeleton itself is too long for a word.
-    assert_eq!(refused(label(&values)), (1, 64));
+    assert_eq!(refused(label(&values)), (1, WORD_LIMIT));
 }
 
 #[test]
@@ -163,11 +164,13 @@ fn of_two_words_the_refused_one_is_told() {
     let (plain, digit, stop) = (&[0x1000], &[0x1000, 0x1040], &[0x1000, 0x1040, 0x104B]);
     assert_eq!(refusal(plain, digit), (Which::Second, Reason::ConfusableDigit, 1));
     assert_eq!(refusal(digit, plain), (Which::First, Reason::ConfusableDigit, 1));
-    assert_eq!(refusal(plain, &[0x1000; 11]), (Which::Second, Reason::TooManySyllables, 10));
+    let many = [0x1000; LABEL_LIMIT + 1];
+    assert_eq!(refusal(plain, &many), (Which::Second, Reason::TooManySyllables, LABEL_LIMIT));
     assert_eq!(refusal(plain, &[0x103F]), (Which::Second, Reason::NoContinuation, 0));
     // The first word is tested whole: 23 of it comes before 1 and 21 of the second.
     assert_eq!(refusal(digit, stop), (Which::First, Reason::ConfusableDigit, 1));
-    assert_eq!(refusal(&[0x1000; 11], &[0x1000; 65]), (Which::First, Reason::TooManySyllables, 10));
+    let too_long = [0x1000; WORD_LIMIT + 1];
+    assert_eq!(refusal(&many, &too_long), (Which::First, Reason::TooManySyllables, LABEL_LIMIT));
 }
 
 #[test]

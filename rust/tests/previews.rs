@@ -4,7 +4,9 @@
 mod answers;
 
 use answers::refused;
-use jogcairn::{book, Added, Book, Preview, Reason, Refusal, BOOK_LIMIT};
+use jogcairn::{
+    book, Added, Book, Preview, Reason, Refusal, BOOK_LIMIT, BOOK_RECORD_HEAD, WORD_LIMIT,
+};
 
 /// A record that a book is made of, with the stock number 0x0D0C0B0A.
 #[derive(Clone, Copy)]
@@ -96,7 +98,7 @@ fn document_says(records: &[Record], zeros: usize, word: &[u16]) -> Preview {
         }
         used += size;
     }
-    let size = 7 + word.len();
+    let size = BOOK_RECORD_HEAD + word.len();
     match found {
         Some(start) => refuses(Reason::AlreadyLive, start),
         None if size <= zeros => accepts(used, false),
@@ -169,13 +171,13 @@ fn the_word_is_tested_before_the_book_and_the_book_before_what_it_holds() {
     let mut damaged = with_zeros(HALF, 4);
     damaged[18] = 1;
     let refusals: [(&[u16], u8, usize); 7] = [
-        (&[0x0041; 65], 1, 64),
+        (&[0x0041; WORD_LIMIT + 1], 1, WORD_LIMIT),
         (&[], 8, 0),
         (&[0x1000, 0x1022, 0x1039], 2, 1),
         (&[0x1000, 0x1039], 3, 1),
         (&[0x1000, 0x1000, 0x1039], 4, 3),
         (&[0x1015], 11, 18),
-        (&[0x1000; 64], 11, 18),
+        (&[0x1000; WORD_LIMIT], 11, 18),
     ];
     for (word, number, place) in refusals {
         let preview = previewed(&damaged, word, 3);
@@ -184,7 +186,8 @@ fn the_word_is_tested_before_the_book_and_the_book_before_what_it_holds() {
     }
     // Without the stray byte the last two are live already and too long.
     assert_eq!(previewed(&with_zeros(HALF, 4), &[0x1015], 3), refuses(Reason::AlreadyLive, 8));
-    assert_eq!(previewed(&with_zeros(HALF, 4), &[0x1000; 64], 3), refuses(Reason::BookFull, 8));
+    let longest = [0x1000; WORD_LIMIT];
+    assert_eq!(previewed(&with_zeros(HALF, 4), &longest, 3), refuses(Reason::BookFull, 8));
 }
 
 #[test]

@@ -5,14 +5,14 @@ mod answers;
 use answers::{found, put_at, refused, weights};
 use jogcairn::{
     book, compare, key_into, normalise, part, read, record, record_into, spell, stored_form, write,
-    write_into, Book, Found, Link, Word, KEY_SIZE,
+    write_into, Book, Found, Link, Word, KEY_SIZE, RECORD_SIZE, WEIGHTS, WORD_LIMIT,
 };
 use std::cmp::Ordering;
 
 /// A word in its stored form, and for each of its syllables the part of the word, the record, the
 /// weights and the spelled form.
 type Worked = (&'static [u16], &'static [Syllable]);
-type Syllable = (&'static [u16], [u8; 8], [u8; 6], &'static [u16]);
+type Syllable = (&'static [u16], [u8; RECORD_SIZE], [u8; WEIGHTS], &'static [u16]);
 
 /// ဘတ်စ်, a brand name.
 const BRAND: [u16; 5] = [0x1018, 0x1010, 0x103A, 0x1005, 0x103A];
@@ -163,16 +163,16 @@ fn a_record_names_both_letters_and_one_link() {
 
 #[test]
 fn a_record_is_written_to_the_front_of_what_is_lent() {
-    let pattern: [u8; 9] = [0xA0, 0xA1, 0xA2, 0xA3, 0xA4, 0xA5, 0xA6, 0xA7, 0xA8];
+    let pattern: [u8; RECORD_SIZE + 1] = [0xA0, 0xA1, 0xA2, 0xA3, 0xA4, 0xA5, 0xA6, 0xA7, 0xA8];
     let written = [0x18, 0, 0, 0, 17, 6, 1, 0, 0xA8];
-    for room in 0..=9 {
+    for room in 0..=pattern.len() {
         let mut output = pattern;
         let answer = record_into(&BRAND, 0, &mut output[..room]);
-        if room < 8 {
-            assert_eq!(refused(answer), (5, 8));
+        if room < RECORD_SIZE {
+            assert_eq!(refused(answer), (5, RECORD_SIZE));
             assert_eq!(output, pattern);
         } else {
-            assert_eq!(answer, Ok(Some(8)));
+            assert_eq!(answer, Ok(Some(RECORD_SIZE)));
             assert_eq!(output, written);
         }
         // No syllable, and no word: nothing is written, and the room is not asked for.
@@ -262,26 +262,29 @@ fn a_word_of_two_finals_asks_its_room() {
     assert_eq!(write_into(&brand, &mut word), Ok(5));
     assert_eq!(word, [0x1018, 0x1010, 0x103A, 0x1005, 0x103A, 7]);
     let mut key = [0xEE; KEY_SIZE + 1];
-    assert_eq!(refused(key_into(&BRAND, &mut key[..383])), (5, 384));
-    assert_eq!(key, [0xEE; 385]);
+    assert_eq!(refused(key_into(&BRAND, &mut key[..KEY_SIZE - 1])), (5, KEY_SIZE));
+    assert_eq!(key, [0xEE; KEY_SIZE + 1]);
     assert_eq!(key_into(&BRAND, &mut key), Ok(1));
-    assert_eq!(key[..6], [37, 0, 17, 6, 0, 0]);
-    assert_eq!(key[6..384], [0; 378]);
-    assert_eq!(key[384], 0xEE);
+    assert_eq!(key[..WEIGHTS], [37, 0, 17, 6, 0, 0]);
+    assert_eq!(key[WEIGHTS..KEY_SIZE], [0; KEY_SIZE - WEIGHTS]);
+    assert_eq!(key[KEY_SIZE], 0xEE);
 }
 
 #[test]
-fn the_longest_word_has_twelve_syllables_of_two_finals_and_four_letters() {
-    let word = [BRAND.repeat(12), vec![0x1000; 4]].concat();
-    let rows = [vec![[37, 0, 17, 6, 0, 0]; 12], vec![[13, 0, 0, 0, 0, 0]; 4]].concat();
-    assert_eq!((word.len(), read(&word).unwrap().len()), (64, 16));
+fn the_longest_word_is_full_of_syllables_of_two_finals() {
+    // As many as go into it, and letters behind them.
+    let (brands, letters) = (WORD_LIMIT / BRAND.len(), WORD_LIMIT % BRAND.len());
+    let word = [BRAND.repeat(brands), vec![0x1000; letters]].concat();
+    let rows = [vec![[37, 0, 17, 6, 0, 0]; brands], vec![[13, 0, 0, 0, 0, 0]; letters]].concat();
+    assert_eq!((word.len(), read(&word).unwrap().len()), (WORD_LIMIT, brands + letters));
     assert_eq!(weights(&word), rows);
     assert_eq!(spell(&word).unwrap().values(), word);
-    let records = [[0x18, 0, 0, 0, 17, 6, 1, 0].repeat(12), vec![0; 32]].concat();
+    let ka = [0; RECORD_SIZE];
+    let records = [[0x18, 0, 0, 0, 17, 6, 1, 0].repeat(brands), ka.repeat(letters)].concat();
     assert_eq!(write(&records).unwrap(), word);
     // One letter more is too long for the reader, and for the writer no row.
-    assert_eq!(refused(read(&[&word[..], &[0x1000]].concat())), (1, 64));
-    assert_eq!(refused(write(&[&records[..], &[0; 8]].concat())), (6, 0));
+    assert_eq!(refused(read(&[&word[..], &[0x1000]].concat())), (1, WORD_LIMIT));
+    assert_eq!(refused(write(&[&records[..], &ka].concat())), (6, 0));
 }
 
 #[test]

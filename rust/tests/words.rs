@@ -26,7 +26,7 @@ fn the_words_to_try_are_weighed_as_the_document_says() {
         weights(&[0x1021, 0x1004, 0x103A, 0x1039, 0x1002, 0x101C, 0x1014, 0x103A]),
         [[46, 0, 5, 0, 0, 0], [15, 0, 0, 0, 0, 0], [41, 0, 21, 0, 0, 0]]
     );
-    assert_eq!(read(&[0x1000; 64]).unwrap().len(), 64);
+    assert_eq!(read(&[0x1000; WORD_LIMIT]).unwrap().len(), WORD_LIMIT);
 }
 
 #[test]
@@ -38,7 +38,7 @@ fn the_words_to_try_are_refused_as_the_document_says() {
     assert_eq!(refused(read(&[0x1000, 0x103B, 0x103C])), (3, 2));
     assert_eq!(refused(read(&[0x1000, 0x102C, 0x103A])), (3, 2));
     assert_eq!(read(&[0x1000, 0x1031, 0x102C, 0x103A]).unwrap().len(), 1);
-    assert_eq!(refused(read(&[0x1000; 65])), (1, 64));
+    assert_eq!(refused(read(&[0x1000; WORD_LIMIT + 1])), (1, WORD_LIMIT));
 }
 
 #[test]
@@ -103,10 +103,10 @@ fn an_empty_slice_is_lent_like_any_other() {
 fn the_tests_run_in_the_order_of_the_document() {
     let mut foreign = [0x1000; WORD_LIMIT + 1];
     foreign[0] = 0x0041;
-    assert_eq!(refused(read(&foreign)), (1, 64));
+    assert_eq!(refused(read(&foreign)), (1, WORD_LIMIT));
     assert_eq!(refused(read(&[0x1039, 0x0041])), (2, 1));
     // The word of a record is tested first, then whether there is one, then its room.
-    assert_eq!(refused(record_into(&foreign, 0, &mut [])), (1, 64));
+    assert_eq!(refused(record_into(&foreign, 0, &mut [])), (1, WORD_LIMIT));
     assert_eq!(refused(record_into(&[0x1039, 0x0041], 0, &mut [])), (2, 1));
     assert_eq!(refused(record_into(&[0x1000, 0x1039], 7, &mut [])), (3, 1));
     assert_eq!(refused(record_into(&[0x1000, 0x1000, 0x1039], 7, &mut [])), (4, 3));
@@ -116,7 +116,7 @@ fn the_tests_run_in_the_order_of_the_document() {
     assert_eq!(refused(book.add(&[], 1)), (8, 0));
     assert_eq!(refused(book.add(&[0x1039], 1)), (3, 0));
     assert_eq!(refused(book.add(&[0x1000], 1)), (11, 0));
-    assert_eq!(refused(book.find_prefix(&foreign)), (1, 64));
+    assert_eq!(refused(book.find_prefix(&foreign)), (1, WORD_LIMIT));
     assert_eq!(refused(book.find_prefix(&[])), (8, 0));
     assert_eq!(refused(book.find_prefix(&[0x1039, 0x0041])), (2, 1));
     assert_eq!(refused(book.find_prefix(&[0x1000, 0x103A, 0x102C])), (3, 2));
@@ -185,7 +185,7 @@ fn words_of_equal_weights_are_both_found_and_a_short_list_is_left_alone() {
     }
 }
 
-/// A book of 16,384 bytes with all words of one and two letters from 1000 to 1020.
+/// A book as long as may be with all words of one and two letters from 1000 to 1020.
 fn long_book() -> Vec<u8> {
     let mut bytes = vec![0; BOOK_LIMIT];
     let mut book = Book::new(&mut bytes);
@@ -224,7 +224,7 @@ fn a_refused_word_is_pointed_at_as_it_was_typed() {
     let places: Vec<usize> = (0..).map_while(|at| typed_place(&typed, at).unwrap()).collect();
     assert_eq!(places, [0, 2, 1, 3, 6, 4, 5]);
     assert_eq!(refused(typed_place(&[0x1000, 0x1022], 0)), (2, 1));
-    assert_eq!(refused(stored_form(&[0x1000; 65])), (1, 64));
+    assert_eq!(refused(stored_form(&[0x1000; WORD_LIMIT + 1])), (1, WORD_LIMIT));
 }
 
 #[test]

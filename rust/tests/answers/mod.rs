@@ -2,7 +2,7 @@
 
 #![allow(dead_code, reason = "each program of tests asks its part of this")]
 
-use jogcairn::{decode, Added, Book, Key, Refusal};
+use jogcairn::{decode, Added, Book, Key, Refusal, WEIGHTS};
 
 /// The number and the place of a refusal.
 pub fn refused<T: std::fmt::Debug>(result: Result<T, Refusal>) -> (u8, usize) {
@@ -16,7 +16,7 @@ pub fn put_at(start: usize) -> Result<Added, Refusal> {
 }
 
 /// The weights of a word, syllable by syllable.
-pub fn weights(word: &[u16]) -> Vec<[u8; 6]> {
+pub fn weights(word: &[u16]) -> Vec<[u8; WEIGHTS]> {
     Key::of(word).unwrap().rows().collect()
 }
 
