@@ -5,7 +5,7 @@ use crate::case::Case;
 use crate::lent::Lent;
 use crate::library::Library;
 use crate::outcome::{Answer, Outcome};
-use oracle::limits::{BOOK_LIMIT, WORD_LIMIT};
+use oracle::limits::{BOOK_RECORDS_LIMIT, BOOK_RECORD_HEAD, WORD_LIMIT};
 use oracle::word::hand_out;
 use oracle::{book, Refusal, Which};
 
@@ -214,7 +214,8 @@ fn entries(bytes: &[u8]) -> Result<Vec<u64>, Refusal> {
 
 /// The values of the record that starts there.
 fn values_at(bytes: &[u8], start: usize) -> impl Iterator<Item = u64> + '_ {
-    let letters = bytes[start + 7..].iter().take(usize::from(bytes[start + 2]));
+    let count = usize::from(bytes[start + 2]);
+    let letters = bytes[start + BOOK_RECORD_HEAD..].iter().take(count);
     letters.map(|&letter| 0x1000 + u64::from(letter))
 }
 
@@ -234,7 +235,7 @@ fn of_book_and_query(case: &Case) -> Outcome {
 
 /// Start, stock number and values of each live record that continues the query.
 fn entries_with_prefix(bytes: &[u8], query: &[u16]) -> Result<Vec<u64>, Refusal> {
-    let mut starts = [0; BOOK_LIMIT / 8];
+    let mut starts = [0; BOOK_RECORDS_LIMIT];
     let count = book::find_prefix(bytes, query, &mut starts)?;
     let mut numbers = Vec::new();
     for start in starts[..count].iter().map(|&start| usize::from(start)) {

@@ -2,8 +2,7 @@
 
 use crate::call::Call;
 use crate::case::Case;
-use jogcairn::RECORD_SIZE;
-use oracle::limits::WORD_LIMIT;
+use oracle::limits::{BOOK_RECORD_HEAD, RECORD_SIZE, WORD_LIMIT};
 use std::iter::successors;
 use std::ops::Range;
 
@@ -131,7 +130,7 @@ fn records(book: &[u8]) -> Vec<Range<usize>> {
     let mut records = Vec::new();
     let mut start = 0;
     while let Some(&[b'M', _, count, ..]) = book.get(start..) {
-        let end = start + 7 + usize::from(count);
+        let end = start + BOOK_RECORD_HEAD + usize::from(count);
         if end > book.len() {
             break;
         }
@@ -139,6 +138,11 @@ fn records(book: &[u8]) -> Vec<Range<usize>> {
         start = end;
     }
     records
+}
+
+/// The part of such a stretch that is the word.
+fn letters_of(record: &Range<usize>) -> Range<usize> {
+    record.start + BOOK_RECORD_HEAD..record.end
 }
 
 /// The book without some of its records.
@@ -173,7 +177,7 @@ const FEW: usize = 4;
 /// records of a book.
 fn letters(case: &Case) -> Vec<Vec<u8>> {
     let records = records(book(case)).into_iter().take(FEW);
-    let records = records.map(|record| case.bytes[record.start + 7..record.end].to_vec());
+    let records = records.map(|record| case.bytes[letters_of(&record)].to_vec());
     let is_alone = book(case).is_empty() && case.second.is_empty();
     let word = if is_alone { &[] } else { &case.word[..] };
     let words = [word, &case.second].map(low_bytes);
@@ -237,7 +241,7 @@ fn without_syllable(word: &[u16], number: usize) -> Option<Vec<u16>> {
 /// finds the record by its own too.
 fn with_word_of_record(case: &Case) -> impl Iterator<Item = Case> + '_ {
     let words = records(book(case)).into_iter().map(|record| {
-        let letters = &case.bytes[record.start + 7..record.end];
+        let letters = &case.bytes[letters_of(&record)];
         letters.iter().map(|&letter| 0x1000 + u16::from(letter)).collect::<Vec<u16>>()
     });
     let shorter = words.filter(|word| word.len() < case.word.len());
@@ -273,7 +277,7 @@ fn with_bare_syllables(case: &Case) -> impl Iterator<Item = Case> + '_ {
             }
             // The last record first, so that those before it stay where they are.
             for record in records(book(case)).into_iter().rev() {
-                let letters = record.start + 7..record.end;
+                let letters = letters_of(&record);
                 let word = case.bytes[letters.clone()].iter().map(|&byte| 0x1000 + u16::from(byte));
                 let Some(word) = with_bare_syllable(&word.collect::<Vec<_>>(), number) else {
                     continue;
@@ -318,9 +322,9 @@ fn replaced(case: &Case, place: Place, letters: &[u8], by: Option<u8>) -> Case {
     }
     // The last record first, so that those before it stay where they are.
     for record in records(book(case)).into_iter().rev() {
-        let first = record.start + 7;
-        if let Some(stretch) = same(&case.bytes[first..record.end]) {
-            smaller.bytes.splice(first + stretch.start..first + stretch.end, by);
+        let own = letters_of(&record);
+        if let Some(stretch) = same(&case.bytes[own.clone()]) {
+            smaller.bytes.splice(own.start + stretch.start..own.start + stretch.end, by);
             smaller.bytes[record.start + 2] -= (letters.len() - by.iter().len()) as u8;
         }
     }
@@ -330,7 +334,7 @@ fn replaced(case: &Case, place: Place, letters: &[u8], by: Option<u8>) -> Case {
 /// The book with fewer values in a record: without its last ones, or without one.
 fn shorter_records(book: &[u8]) -> impl Iterator<Item = Vec<u8>> + '_ {
     records(book).into_iter().flat_map(move |record| {
-        let places = record.start + 7..record.end;
+        let places = letters_of(&record);
         let ends = places.clone().map(move |place| place..record.end);
         ends.chain(places.map(|place| place..place + 1)).map(move |stretch| {
             let mut shorter = without(book, stretch.clone());

@@ -6,7 +6,7 @@ use super::shelf::{letters, Shelf};
 use super::words::{self, valid};
 use crate::call::Call;
 use crate::case::Case;
-use oracle::limits::{BOOK_LIMIT, WORD_LIMIT};
+use oracle::limits::{BOOK_LIMIT, BOOK_RECORDS_LIMIT, BOOK_RECORD_HEAD, WORD_LIMIT};
 use oracle::lists::{crowded, row_of_length, shuffle_runs};
 use oracle::random::Random;
 
@@ -97,7 +97,7 @@ fn without_sorting(random: &mut Random, call: Call) -> Call {
 
 /// How many live records of a book continue the query; none where there is no book or no query.
 fn fitting(case: &Case) -> usize {
-    let mut starts = [0; BOOK_LIMIT / 8];
+    let mut starts = [0; BOOK_RECORDS_LIMIT];
     oracle::book::find_prefix(&case.bytes, &case.word, &mut starts).unwrap_or(0)
 }
 
@@ -107,7 +107,9 @@ fn start(random: &mut Random, shelf: &Shelf) -> usize {
         0 => random.pick(&[usize::MAX, 1 << 16, 1 << 32, BOOK_LIMIT, BOOK_LIMIT - 1]),
         1 => shelf.end,
         2 => random.below(shelf.bytes.len() + 2),
-        3 if !shelf.starts.is_empty() => random.pick(&shelf.starts) + random.between(1, 8),
+        3 if !shelf.starts.is_empty() => {
+            random.pick(&shelf.starts) + random.between(1, BOOK_RECORD_HEAD + 1)
+        }
         _ if !shelf.starts.is_empty() => random.pick(&shelf.starts),
         _ => 0,
     }
@@ -140,7 +142,7 @@ fn word(random: &mut Random, shelf: &Shelf, call: Call) -> Vec<u16> {
 fn ending_near_the_end(random: &mut Random, shelf: &Shelf) -> Vec<u16> {
     let before = random.pick(&[shelf.end, shelf.live_length()]);
     let record = shelf.bytes.len() - before + random.below(2);
-    match record.checked_sub(7) {
+    match record.checked_sub(BOOK_RECORD_HEAD) {
         // Stored, the last two values are one.
         Some(length @ 2..=WORD_LIMIT) if random.chance(10) => {
             [&row_of_length(random, length - 1).values[..], &[0x1025, 0x102E]].concat()
@@ -169,19 +171,21 @@ fn rank(random: &mut Random, shelf: &Shelf) -> usize {
 /// Changes a copy of the book, mostly so that it is none.
 fn damage(random: &mut Random, shelf: &Shelf, bytes: &mut Vec<u8>) {
     let start = if shelf.starts.is_empty() { 0 } else { random.pick(&shelf.starts) };
+    let values = start + BOOK_RECORD_HEAD;
+    let most = WORD_LIMIT as u8;
     let any = random.below(256) as u8;
     match random.below(20) {
         0 => set(bytes, start, any),
         1 => set(bytes, start, 0),
         2 => set(bytes, start + 1, any),
         3..5 => set(bytes, start + 1, random.pick(b"W-")),
-        5 => set(bytes, start + 2, random.pick(&[0, 65, 64, 66, 128, 255, any])),
+        5 => set(bytes, start + 2, random.pick(&[0, most + 1, most, most + 2, 128, 255, any])),
         6 => change(bytes, start + 2, random.pick(&[1, 255])),
-        7 => set(bytes, start + random.between(3, 6), any),
-        8 => set(bytes, start + 7 + random.below(6), any),
-        9 => set(bytes, start + 7 + random.below(6), any % 0x50),
+        7 => set(bytes, random.between(start + 3, values - 1), any),
+        8 => set(bytes, values + random.below(6), any),
+        9 => set(bytes, values + random.below(6), any % 0x50),
         10 => {
-            let place = start + 7 + random.below(5);
+            let place = values + random.below(5);
             if place + 1 < bytes.len() {
                 bytes.swap(place, place + 1);
             }
@@ -196,7 +200,10 @@ fn damage(random: &mut Random, shelf: &Shelf, bytes: &mut Vec<u8>) {
         14 => bytes.truncate((shelf.end + random.below(3)).saturating_sub(1)),
         15 => put_record(random, shelf, bytes),
         16 => put_record_as_typed(random, shelf, bytes),
-        17 => put(bytes, shelf.end, random.pick(&[&b"M"[..], b"MW", b"M-\x01", b"MW\x40", b"W"])),
+        17 => {
+            let fronts: [&[u8]; 5] = [b"M", b"MW", b"M-\x01", &[b'M', b'W', most], b"W"];
+            put(bytes, shelf.end, random.pick(&fronts));
+        }
         18 if random.chance(10) => bytes.resize(BOOK_LIMIT + random.between(1, 3), 0),
         18 => bytes.extend((0..random.below(9)).map(|_| random.pick(b"\0\0\0\0\0\0\0M"))),
         _ => bytes.iter_mut().take(40).for_each(|byte| *byte = random.below(256) as u8),

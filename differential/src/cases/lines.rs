@@ -1,7 +1,7 @@
 //! Lines: words as UTF-8, whole and damaged, and bytes by chance.
 
 use super::words::word;
-use oracle::limits::LINE_LIMIT;
+use oracle::limits::{LINE_LIMIT, WORD_LIMIT};
 use oracle::lists::encode;
 use oracle::random::Random;
 
@@ -29,7 +29,7 @@ fn near_bytes(random: &mut Random) -> Vec<u8> {
 }
 
 fn about_the_limit(random: &mut Random) -> Vec<u8> {
-    let mut line = encode(&[0x1000; 66]);
+    let mut line = encode(&[0x1000; WORD_LIMIT + 2]);
     line.truncate(random.between(LINE_LIMIT - 4, LINE_LIMIT + 4));
     if random.chance(40) {
         damage(random, &mut line);

@@ -13,7 +13,7 @@ use crate::case::Case;
 use crate::library::Library;
 use crate::outcome::{Answer, Outcome};
 use crate::reference::Reference;
-use jogcairn::{KEY_SIZE, RECORD_SIZE};
+use oracle::limits::{KEY_SIZE, RECORD_SIZE, SPELLED_LIMIT, WORD_LIMIT};
 use oracle::random::Random;
 use shelf::Shelf;
 use std::mem::swap;
@@ -34,6 +34,9 @@ const ON_LABELS: usize = 12;
 /// and has few calls.
 const PREVIEWS: usize = 9;
 const PREVIEWS_OF_LONG_BOOKS: usize = 25;
+
+/// Room for whatever a call on a word writes: nothing is longer than a spelled word.
+const ENOUGH: usize = SPELLED_LIMIT;
 
 /// The calls on words and lines, each as often as it stands here.
 const WORD_CALLS: [Call; 24] = [
@@ -115,7 +118,7 @@ impl Cases {
             Call::Record | Call::Part => [self.number(syllables(case)), 0],
             Call::RecordBytes => [self.near(RECORD_SIZE), self.number(syllables(case))],
             Call::TypedPlace => {
-                let stored = Case { call: Call::StoredForm, numbers: [256; 2], ..case.clone() };
+                let stored = Case { call: Call::StoredForm, numbers: [ENOUGH; 2], ..case.clone() };
                 [self.number(accepted(&stored)[0]), 0]
             }
             Call::Spell | Call::Write | Call::Normalise | Call::StoredForm | Call::Decode => {
@@ -132,7 +135,10 @@ impl Cases {
     /// The number of one of so many, sometimes of one that is not there.
     fn number(&mut self, count: usize) -> usize {
         match self.random.below(20) {
-            0 => self.random.pick(&[usize::MAX, 1 << 32, 1 << 8, 1 << 16, 64, 63]),
+            0 => {
+                let any = [usize::MAX, 1 << 32, 1 << 8, 1 << 16, WORD_LIMIT, WORD_LIMIT - 1];
+                self.random.pick(&any)
+            }
             1..4 => count + self.random.below(2),
             _ => self.random.below(count.max(1)),
         }
@@ -157,7 +163,7 @@ fn syllables(case: &Case) -> usize {
 
 /// How much is written where there is room enough; zeros where the case is refused.
 fn needed(case: &Case) -> [usize; 2] {
-    accepted(&Case { numbers: [256; 2], ..case.clone() })
+    accepted(&Case { numbers: [ENOUGH; 2], ..case.clone() })
 }
 
 /// The numbers with which the other implementation accepts a case; zeros where it does not.

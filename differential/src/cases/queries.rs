@@ -2,7 +2,7 @@
 
 use super::shelf::Shelf;
 use super::words::{self, valid};
-use oracle::limits::WORD_LIMIT;
+use oracle::limits::{SPELLED_LIMIT, WORD_LIMIT};
 use oracle::lists::shuffle_runs;
 use oracle::random::Random;
 
@@ -65,7 +65,7 @@ fn first_syllables(random: &mut Random, word: &[u16]) -> Vec<u16> {
 /// A row of the same weights: finals in other forms, AA for tall AA, and independent vowels written
 /// as marks of 1021.
 fn of_equal_weights(random: &mut Random, word: &[u16]) -> Vec<u16> {
-    let (mut spelled, mut starts) = ([0; 190], [0; WORD_LIMIT]);
+    let (mut spelled, mut starts) = ([0; SPELLED_LIMIT], [0; WORD_LIMIT]);
     let lengths = oracle::spell_out(word, &mut spelled, &mut starts).expect("a stored word");
     let starts = &starts[..lengths.starts];
     let mut equal = Vec::new();

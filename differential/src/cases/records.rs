@@ -1,11 +1,11 @@
 //! Records for the writer: of rows, of rows that were changed, and bytes by chance.
 
 use oracle::letters::{admitted_values, carries_marks, is_head};
-use oracle::limits::WORD_LIMIT;
+use oracle::limits::{RECORD_SIZE, WORD_LIMIT};
 use oracle::lists::{random_row, row_of_length};
 use oracle::random::Random;
 
-/// Records of any kind, eight bytes each but for faults.
+/// Records of any kind, [`RECORD_SIZE`] bytes each but for faults.
 pub fn records(random: &mut Random) -> Vec<u8> {
     match random.below(20) {
         0 => any_bytes(random),
@@ -31,7 +31,7 @@ fn row(random: &mut Random) -> Vec<u8> {
     random_row(random, syllables).records.concat()
 }
 
-/// About 64 values; the joined 103F of two records is one of them.
+/// About [`WORD_LIMIT`] values; the joined 103F of two records is one of them.
 fn row_about_the_limit(random: &mut Random) -> Vec<u8> {
     let length = random.between(WORD_LIMIT - 2, WORD_LIMIT + 2);
     row_of_length(random, length).records.concat()
@@ -92,9 +92,9 @@ fn damage(random: &mut Random, bytes: &mut Vec<u8>) {
         return bytes.push(random.below(4) as u8);
     }
     let place = random.below(bytes.len());
-    let start = place / 8 * 8;
+    let start = place - place % RECORD_SIZE;
     match random.below(8) {
-        0 => drop(bytes.drain(start..bytes.len().min(start + 8))),
+        0 => drop(bytes.drain(start..bytes.len().min(start + RECORD_SIZE))),
         1 => drop(bytes.remove(place)),
         2 => bytes.insert(place, random.below(4) as u8),
         3 => bytes[place] = bytes[place].wrapping_add(random.pick(&[1, 255])),

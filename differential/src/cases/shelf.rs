@@ -6,7 +6,7 @@ use crate::case::Case;
 use crate::lent::{Memory, MARGIN};
 use crate::outcome::{Answer, Outcome};
 use crate::Call;
-use oracle::limits::BOOK_LIMIT;
+use oracle::limits::{BOOK_LIMIT, BOOK_RECORD_HEAD};
 use oracle::random::Random;
 use oracle::storage::store;
 use std::collections::BTreeSet;
@@ -88,7 +88,7 @@ impl Shelf {
         loop {
             let Ok(stored) = store(&self.another(random)) else { continue };
             let word = stored.word.to_vec();
-            if self.end + 7 + word.len() > to {
+            if self.end + BOOK_RECORD_HEAD + word.len() > to {
                 return;
             }
             let mark = if random.chance(removed) { b"M-" } else { b"MW" };
@@ -133,7 +133,7 @@ impl Shelf {
         self.find_records();
         if case.call == Call::BookAdd {
             let start = numbers[0] as usize;
-            let letters = &self.bytes[start + 7..][..usize::from(self.bytes[start + 2])];
+            let letters = &self.bytes[start + BOOK_RECORD_HEAD..start + self.record_length(start)];
             self.words.push(letters.iter().map(|&letter| 0x1000 + u16::from(letter)).collect());
         }
     }
@@ -149,7 +149,7 @@ impl Shelf {
     }
 
     fn record_length(&self, start: usize) -> usize {
-        7 + usize::from(self.bytes[start + 2])
+        BOOK_RECORD_HEAD + usize::from(self.bytes[start + 2])
     }
 
     /// How many bytes the live records have.

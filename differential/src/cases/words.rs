@@ -90,7 +90,7 @@ fn long(random: &mut Random) -> Vec<u16> {
     row_of_length(random, length).values
 }
 
-/// About 64 values, sometimes with an end that is not finished or that is stored shorter.
+/// About [`WORD_LIMIT`] values, sometimes with an end that is not finished or that is stored shorter.
 fn at_the_limit(random: &mut Random) -> Vec<u16> {
     let endings: [&[u16]; 8] = [
         &[],
@@ -266,8 +266,11 @@ fn any_values(random: &mut Random) -> Vec<u16> {
     (0..random.below(20)).map(|_| random.below(0x1_0000) as u16).collect()
 }
 
-/// More values than a word has.
+/// More values than a word has: a few, as many again, so many that their number has the last byte of
+/// an empty word or of the longest, or far more.
 pub fn overlong(random: &mut Random) -> Vec<u16> {
-    let length = random.pick(&[65, 66, 127, 128, 256, 320, 1_000]);
+    let few = [WORD_LIMIT + 1, WORD_LIMIT + 2];
+    let again = [2 * WORD_LIMIT - 1, 2 * WORD_LIMIT];
+    let length = random.pick(&[&few[..], &again, &[256, 256 + WORD_LIMIT, 1_000]].concat());
     (0..length).map(|_| any_admitted(random)).collect()
 }
