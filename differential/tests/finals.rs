@@ -6,8 +6,9 @@ mod recorded;
 
 use differential::cases::Cases;
 use differential::{Answer, Call, Case, Library, Memory, Outcome, Reference, MARGIN};
-use jogcairn::{KEY_SIZE, RECORD_SIZE, WORD_LIMIT};
+use jogcairn::{BOOK_RECORD_HEAD, KEY_SIZE, RECORD_SIZE, WEIGHTS, WORD_LIMIT};
 use kinds::{demand, place_of};
+use oracle::collation::Weights;
 use oracle::syllable::Record;
 use recorded::{record, word};
 use std::collections::BTreeSet;
@@ -265,7 +266,7 @@ fn records_with_two_finals_are_written() {
         ("of the sign", |case, outcome| {
             written(case, outcome, 0, |it| matches!(it, [0x4E, 0, 0, 0, 1..=255, 1..=255, 1, _]))
         }),
-        ("of a word of 64 values", |case, outcome| {
+        ("of the longest word", |case, outcome| {
             outcome.answer == Answer::Accepted(vec![WORD_LIMIT as u64])
                 && written(case, outcome, 0, is_double)
         }),
@@ -326,7 +327,8 @@ fn records_with_two_finals_are_refused() {
             sevens && case.bytes.len() > 7 && place_of(outcome, 6).is_some()
         }),
         ("eight records of seven bytes", |case, outcome| {
-            case.call == Call::Write && case.bytes.len() == 56 && place_of(outcome, 6).is_some()
+            let eight = case.call == Call::Write && case.bytes.len() == 7 * RECORD_SIZE;
+            eight && place_of(outcome, 6).is_some()
         }),
     ]);
 }
@@ -362,12 +364,12 @@ fn records_with_two_finals_are_asked_for_with_every_room() {
 }
 
 /// The weights of a word as it is stored; none where it is refused.
-fn weights(word: &[u16]) -> Vec<[u8; 6]> {
+fn weights(word: &[u16]) -> Vec<Weights> {
     oracle::key(word).map_or_else(|_| Vec::new(), |key| key.row().to_vec())
 }
 
 /// The first weights in which two rows of a comparison differ.
-fn compared(case: &Case, outcome: &Outcome) -> Option<([u8; 6], [u8; 6])> {
+fn compared(case: &Case, outcome: &Outcome) -> Option<(Weights, Weights)> {
     let (Call::Compare, Answer::Accepted(_)) = (case.call, &outcome.answer) else { return None };
     let pairs = weights(&case.word).into_iter().zip(weights(&case.second));
     pairs.into_iter().find(|(first, second)| first != second)
@@ -386,10 +388,10 @@ fn two_finals_are_weighed_and_compared() {
                 && place_of(outcome, 5) == Some(KEY_SIZE)
                 && case.numbers[0] == KEY_SIZE - 1
         }),
-        ("a key with room for five weights a syllable", |case, outcome| {
+        ("a key with room for a weight less a syllable", |case, outcome| {
             case.call == Call::Key
                 && place_of(outcome, 5) == Some(KEY_SIZE)
-                && case.numbers[0] == 5 * WORD_LIMIT
+                && case.numbers[0] == (WEIGHTS - 1) * WORD_LIMIT
         }),
         ("one final against two", |case, outcome| {
             compared(case, outcome).is_some_and(|(first, second)| {
@@ -453,7 +455,7 @@ fn two_finals_are_spelled_out_and_cut_into_parts() {
 #[test]
 fn two_finals_come_at_the_limits_of_a_word() {
     demand(&[
-        ("they end a word of 64 values", |case, outcome| {
+        ("they end the longest word", |case, outcome| {
             case.word.len() == WORD_LIMIT
                 && reads(case, outcome)
                 && records_of(&case.word).last().is_some_and(|it| is_double(it) && it[7] == 0)
@@ -463,7 +465,7 @@ fn two_finals_come_at_the_limits_of_a_word() {
                 && place_of(outcome, 1).is_some()
                 && records_of(&case.word[1..]).last().is_some_and(is_double)
         }),
-        ("the killer of a third is the last of 64 values", |case, outcome| {
+        ("the killer of a third is the last value of the longest word", |case, outcome| {
             case.word.len() == WORD_LIMIT
                 && place_of(outcome, 3) == Some(WORD_LIMIT - 1)
                 && case.word.ends_with(&[0x103A])
@@ -482,13 +484,13 @@ fn live_words(book: &[u8]) -> Vec<Vec<u16>> {
     let (mut words, mut rest) = (Vec::new(), book);
     while let Some(count) = record(rest) {
         words.extend((rest[1] == b'W').then(|| word(rest)));
-        rest = &rest[7 + count..];
+        rest = &rest[BOOK_RECORD_HEAD + count..];
     }
     words
 }
 
 /// How many records a search found, and the weights of its query.
-fn searched(case: &Case, outcome: &Outcome) -> Option<(u64, Vec<[u8; 6]>)> {
+fn searched(case: &Case, outcome: &Outcome) -> Option<(u64, Vec<Weights>)> {
     match &outcome.answer {
         Answer::Accepted(count) if case.call == Call::BookFindPrefix => {
             Some((count[0], weights(&case.word)))
@@ -558,11 +560,11 @@ fn books_have_words_with_two_finals() {
 #[test]
 fn the_record_of_a_syllable_has_eight_bytes() {
     let word = vec![0x1018, 0x1010, 0x103A, 0x1005, 0x103A];
-    let case = Case { numbers: [8, 0], ..Case::of_word(Call::RecordBytes, word) };
+    let case = Case { numbers: [RECORD_SIZE, 0], ..Case::of_word(Call::RecordBytes, word) };
     let outcome = Reference.outcome(&case);
-    assert_eq!(outcome.answer, Answer::Accepted(vec![8]));
+    assert_eq!(outcome.answer, Answer::Accepted(vec![RECORD_SIZE as u64]));
     let Memory::Bytes(cells) = &outcome.lent[1] else { panic!("no bytes") };
-    assert_eq!(cells[MARGIN..][..8], [0x18, 0, 0, 0, 17, 6, 1, 0]);
-    let short = Reference.outcome(&Case { numbers: [7, 0], ..case });
-    assert_eq!(place_of(&short, 5), Some(8));
+    assert_eq!(cells[MARGIN..][..RECORD_SIZE], [0x18, 0, 0, 0, 17, 6, 1, 0]);
+    let short = Reference.outcome(&Case { numbers: [RECORD_SIZE - 1, 0], ..case });
+    assert_eq!(place_of(&short, 5), Some(RECORD_SIZE));
 }

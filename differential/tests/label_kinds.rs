@@ -156,21 +156,23 @@ fn stops_and_signs_are_refused_in_every_way() {
     ]);
 }
 
+/// The stored word of a label that has as many syllables as may be.
+fn most_syllables(case: &Case, outcome: &Outcome) -> Option<Vec<u16>> {
+    let most = Answer::Accepted(vec![LABEL_LIMIT as u64]);
+    label(case, outcome).filter(|_| outcome.answer == most)
+}
+
 #[test]
 fn labels_have_every_number_of_syllables() {
     demand(&[
         ("none", |case, outcome| label(case, outcome).is_some_and(|word| word.is_empty())),
-        ("ten of one value", |case, outcome| {
-            label(case, outcome).is_some_and(|word| {
-                word.len() == 10 && outcome.answer == Answer::Accepted(vec![10])
-            })
+        ("as many as may be, of one value", |case, outcome| {
+            most_syllables(case, outcome).is_some_and(|word| word.len() == LABEL_LIMIT)
         }),
-        ("ten of 40 values and more", |case, outcome| {
-            label(case, outcome).is_some_and(|word| {
-                word.len() >= 40 && outcome.answer == Answer::Accepted(vec![10])
-            })
+        ("as many as may be, of four values and more", |case, outcome| {
+            most_syllables(case, outcome).is_some_and(|word| word.len() >= 4 * LABEL_LIMIT)
         }),
-        ("eleven", |case, outcome| {
+        ("one more", |case, outcome| {
             refused(case, outcome, 23).is_some() && syllables(&case.word) == LABEL_LIMIT + 1
         }),
         ("as many as a word has values", |case, outcome| {

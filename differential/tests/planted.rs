@@ -5,6 +5,7 @@ mod faults;
 use differential::cases::Cases;
 use differential::{run, Answer, Call, Case, Counts, Memory, Outcome, Reference, Report, MARGIN};
 use faults::finding;
+use jogcairn::BOOK_RECORD_HEAD;
 
 fn accepted(outcome: &Outcome) -> bool {
     matches!(outcome.answer, Answer::Accepted(_))
@@ -84,7 +85,7 @@ fn a_refusal_that_writes_is_found() {
 fn a_stock_number_cut_short_is_found() {
     let found = finding(|case, outcome| {
         let (Call::BookAdd, Answer::Accepted(start)) = (case.call, &outcome.answer) else { return };
-        let highest = MARGIN + start[0] as usize + 6;
+        let highest = MARGIN + start[0] as usize + BOOK_RECORD_HEAD - 1;
         if let Memory::Bytes(cells) = &mut outcome.lent[0] {
             cells[highest] = 0;
         }

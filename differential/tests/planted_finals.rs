@@ -9,7 +9,7 @@ mod searching;
 use differential::{Answer, Call, Case, Finding, Library, Outcome, Proved};
 use doubles::two_finals_alone;
 use faults::finding;
-use jogcairn::{Key, Link};
+use jogcairn::{Key, Link, BOOK_RECORD_HEAD};
 use searching::search_by;
 
 fn is_final_letter(value: u16) -> bool {
@@ -278,7 +278,7 @@ fn a_book_refused_for_two_finals_is_found() {
             if read.any(|syllable| syllable.record.second_final_letter().is_some()) {
                 outcome.answer = refused(11, start);
             }
-            start += 7 + word.len();
+            start += BOOK_RECORD_HEAD + word.len();
         }
     });
     assert_eq!(found.case.bytes.len(), 12, "{}", found.case);

@@ -5,6 +5,8 @@ mod faults;
 
 use differential::{Answer, Call, Case, Finding, Library, Memory, Outcome, Proved, MARGIN};
 use faults::finding;
+use jogcairn::{BOOK_RECORD_HEAD, WEIGHTS};
+use oracle::syllable::Record;
 
 fn is_independent(value: u16) -> bool {
     matches!(value, 0x1023..=0x1027 | 0x1029 | 0x102A)
@@ -226,7 +228,7 @@ fn weighed(case: &Case, outcome: &mut Outcome, fault: fn(&mut [u8])) {
     let Memory::Bytes(cells) = &mut outcome.lent[1] else { return };
     let stored = jogcairn::normalise(&case.word).unwrap();
     let syllables = jogcairn::read(&stored).unwrap();
-    for (syllable, weights) in syllables.zip(cells[MARGIN..].chunks_exact_mut(6)) {
+    for (syllable, weights) in syllables.zip(cells[MARGIN..].chunks_exact_mut(WEIGHTS)) {
         if is_independent(syllable.part[0]) && syllable.record.bytes()[4] > 0 {
             fault(weights);
         }
@@ -246,7 +248,7 @@ fn the_vowel_of_an_independent_vowel_lost_before_a_final_is_found() {
 }
 
 /// Writes other records than those that are handed in.
-fn written_for(case: &Case, outcome: &mut Outcome, other: fn(&mut [u8; 8])) {
+fn written_for(case: &Case, outcome: &mut Outcome, other: fn(&mut Record)) {
     if case.call == Call::Write {
         let mut bytes = case.bytes.clone();
         bytes.as_chunks_mut().0.iter_mut().for_each(other);
@@ -297,7 +299,7 @@ fn a_book_refused_for_an_independent_vowel_with_a_final_is_found() {
             if wrong {
                 outcome.answer = refused(11, start);
             }
-            start += 7 + word.len();
+            start += BOOK_RECORD_HEAD + word.len();
         }
     });
     assert!(found.case.bytes.len() <= 10, "{}", found.case);

@@ -21,8 +21,8 @@ fn refused(number: u8, place: usize) -> Answer {
     Answer::Refused { number, place, which: 0 }
 }
 
-fn syllables(count: u64) -> Answer {
-    Answer::Accepted(vec![count])
+fn syllables(count: usize) -> Answer {
+    Answer::Accepted(vec![count as u64])
 }
 
 /// The stored word of a label that is asked for.
@@ -82,7 +82,7 @@ fn a_digit_behind_a_letter_that_is_taken_is_found() {
     let found = finding(|case, outcome| {
         let word = normalise(&case.word).unwrap_or_default();
         if case.call == Call::Label && outcome.answer == refused(22, word.len().wrapping_sub(1)) {
-            outcome.answer = syllables(read(&word).unwrap().len() as u64);
+            outcome.answer = syllables(read(&word).unwrap().len());
         }
     });
     let [_, digit] = found.case.word[..] else { panic!("{}", found.case) };
@@ -134,25 +134,27 @@ fn the_sign_with_a_final_that_is_taken_is_found() {
 }
 
 #[test]
-fn ten_syllables_that_are_refused_are_found() {
+fn as_many_syllables_as_may_be_that_are_refused_are_found() {
     let found = finding(|case, outcome| {
-        if case.call == Call::Label && outcome.answer == syllables(10) {
-            outcome.answer = refused(23, 10);
+        if case.call == Call::Label && outcome.answer == syllables(LABEL_LIMIT) {
+            outcome.answer = refused(23, LABEL_LIMIT);
         }
     });
-    shown(&found, &[0x1000; 10], refused(23, 10), syllables(10));
+    let most = [0x1000; LABEL_LIMIT];
+    shown(&found, &most, refused(23, LABEL_LIMIT), syllables(LABEL_LIMIT));
 }
 
 #[test]
-fn eleven_syllables_that_are_taken_are_found() {
+fn one_syllable_too_many_that_is_taken_is_found() {
+    const TOO_MANY: usize = LABEL_LIMIT + 1;
     let found = finding(|case, outcome| {
         let count = normalise(&case.word).map(|word| read(&word).unwrap().len());
-        if (case.call, outcome.answer.tag()) == (Call::Label, Some(23)) && count == Ok(11) {
-            outcome.answer = syllables(11);
+        if (case.call, outcome.answer.tag()) == (Call::Label, Some(23)) && count == Ok(TOO_MANY) {
+            outcome.answer = syllables(TOO_MANY);
         }
     });
-    assert_eq!(found.case.word.len(), 11, "{}", found.case);
-    shown(&found, &found.case.word, syllables(11), refused(23, 10));
+    assert_eq!(found.case.word.len(), TOO_MANY, "{}", found.case);
+    shown(&found, &found.case.word, syllables(TOO_MANY), refused(23, LABEL_LIMIT));
 }
 
 #[test]
@@ -160,13 +162,13 @@ fn too_many_syllables_before_a_stop_are_found() {
     let found = finding(|case, outcome| {
         let count = normalise(&case.word).map_or(0, |word| read(&word).unwrap().len());
         if (case.call, outcome.answer.tag()) == (Call::Label, Some(21)) && count > LABEL_LIMIT {
-            outcome.answer = refused(23, 10);
+            outcome.answer = refused(23, LABEL_LIMIT);
         }
     });
     let place = found.case.word.iter().position(|&value| value >= 0x104A).unwrap();
     let others = found.case.word.iter().filter(|&&value| value == 0x1000).count();
-    assert_eq!((found.case.word.len(), others), (11, 10), "{}", found.case);
-    shown(&found, &found.case.word, refused(23, 10), refused(21, place));
+    assert_eq!((found.case.word.len(), others), (LABEL_LIMIT + 1, LABEL_LIMIT), "{}", found.case);
+    shown(&found, &found.case.word, refused(23, LABEL_LIMIT), refused(21, place));
 }
 
 /// Where the first digit stands that is refused.

@@ -6,7 +6,7 @@ mod small_books;
 
 use differential::{Answer, Call, Case, Memory, Outcome, MARGIN};
 use faults::finding;
-use jogcairn::Book;
+use jogcairn::{Book, BOOK_RECORD_HEAD};
 use right::demand_no_finding;
 use small_books::{
     accepted, first_free, left, live_length, refused, shown, smallest, tidy, LIVE, REMOVED,
@@ -47,7 +47,7 @@ fn fit_by(case: &Case, outcome: &mut Outcome, rule: fn(&Lengths) -> Answer) {
             book: case.bytes.len(),
             used: first_free(&case.bytes),
             live: live_length(&case.bytes),
-            record: 7 + jogcairn::normalise(&case.word).unwrap().len(),
+            record: BOOK_RECORD_HEAD + jogcairn::normalise(&case.word).unwrap().len(),
         });
     }
 }
@@ -286,7 +286,7 @@ fn a_live_word_that_is_accepted_is_found() {
     let found = finding(|case, outcome| {
         if is_preview(case, outcome, 12) {
             let first_free = first_free(&case.bytes);
-            if first_free + 7 + case.word.len() <= case.bytes.len() {
+            if first_free + BOOK_RECORD_HEAD + case.word.len() <= case.bytes.len() {
                 outcome.answer = accepting(first_free, false);
             }
         }
@@ -300,7 +300,7 @@ fn a_full_book_tested_before_its_live_words_is_found() {
     let found = finding(|case, outcome| {
         if is_preview(case, outcome, 12) {
             let live_length = live_length(&case.bytes);
-            if live_length + 7 + case.word.len() > case.bytes.len() {
+            if live_length + BOOK_RECORD_HEAD + case.word.len() > case.bytes.len() {
                 outcome.answer = refusing(14, live_length);
             }
         }
@@ -330,7 +330,7 @@ fn a_word_counted_as_it_is_typed_is_found() {
     let found = finding(|case, outcome| {
         if is_preview(case, outcome, 0) {
             let live_length = live_length(&case.bytes);
-            if live_length + 7 + case.word.len() > case.bytes.len() {
+            if live_length + BOOK_RECORD_HEAD + case.word.len() > case.bytes.len() {
                 outcome.answer = refusing(14, live_length);
             }
         }

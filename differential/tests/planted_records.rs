@@ -7,23 +7,25 @@ mod faults;
 use differential::{Answer, Call, Case, Cell, Finding, Library, Memory, Outcome, Proved, MARGIN};
 use doubles::two_finals_alone;
 use faults::finding;
+use jogcairn::RECORD_SIZE;
+use oracle::syllable::Record;
 
 fn refused(number: u8, place: usize) -> Answer {
     Answer::Refused { number, place, which: 0 }
 }
 
 /// Puts a fault into each record with two finals, handed back by value or as bytes.
-fn recorded(case: &Case, outcome: &mut Outcome, fault: fn(&mut [u8; 8])) {
+fn recorded(case: &Case, outcome: &mut Outcome, fault: fn(&mut Record)) {
     let Answer::Accepted(numbers) = &mut outcome.answer else { return };
     match (case.call, &mut outcome.lent[..]) {
         (Call::Record, _) if numbers[5] > 0 => {
-            let mut record = [0; 8];
+            let mut record = [0; RECORD_SIZE];
             record.iter_mut().zip(&*numbers).for_each(|(byte, &number)| *byte = number as u8);
             fault(&mut record);
             *numbers = record.map(u64::from).to_vec();
         }
         (Call::RecordBytes, [_, Memory::Bytes(cells)]) if cells[MARGIN + 5] > 0 => {
-            fault((&mut cells[MARGIN..][..8]).try_into().unwrap());
+            fault((&mut cells[MARGIN..][..RECORD_SIZE]).try_into().unwrap());
         }
         _ => {}
     }
@@ -32,7 +34,7 @@ fn recorded(case: &Case, outcome: &mut Outcome, fault: fn(&mut [u8; 8])) {
 /// Demands that a record shows the fault, asked for with no more room than it needs.
 fn shown_by_record(found: &Finding) {
     two_finals_alone(found);
-    let room = if found.case.call == Call::Record { 0 } else { 8 };
+    let room = if found.case.call == Call::Record { 0 } else { RECORD_SIZE };
     assert_eq!(found.case.numbers, [room, 0], "{}", found.case);
 }
 
@@ -73,21 +75,22 @@ fn link_and_second_final_exchanged_in_a_record_are_found() {
     shown_by_record(&found);
 }
 
-/// The last of the eight bytes stays as it was, and the others move up by one.
+/// The last of the bytes stays as it was, and the others move up by one.
 #[test]
 fn a_record_of_seven_bytes_is_found() {
+    const LAST: usize = MARGIN + RECORD_SIZE - 1;
     let found = finding(|case, outcome| {
         let (Call::RecordBytes, Answer::Accepted(count)) = (case.call, &mut outcome.answer) else {
             return;
         };
         let Memory::Bytes(cells) = &mut outcome.lent[1] else { return };
-        count[0] = 7;
-        cells.copy_within(MARGIN + 6..MARGIN + 8, MARGIN + 5);
-        cells[MARGIN + 7] = u8::blank(MARGIN + 7);
+        count[0] -= 1;
+        cells.copy_within(MARGIN + 6..=LAST, MARGIN + 5);
+        cells[LAST] = u8::blank(LAST);
     });
-    let smallest = Case { numbers: [8, 0], ..Case::of_word(Call::RecordBytes, vec![0x1000]) };
-    assert_eq!(found.case, smallest, "{}", found.case);
-    assert_eq!(found.difference.reference.answer, Answer::Accepted(vec![8]));
+    let asked = Case::of_word(Call::RecordBytes, vec![0x1000]);
+    assert_eq!(found.case, Case { numbers: [RECORD_SIZE, 0], ..asked }, "{}", found.case);
+    assert_eq!(found.difference.reference.answer, Answer::Accepted(vec![RECORD_SIZE as u64]));
 }
 
 #[test]
@@ -96,19 +99,19 @@ fn room_for_seven_bytes_that_is_asked_for_is_found() {
         if let (Call::RecordBytes, Answer::Refused { number: 5, place, .. }) =
             (case.call, &mut outcome.answer)
         {
-            *place = 7;
+            *place = RECORD_SIZE - 1;
         }
     });
     assert_eq!(found.case, Case::of_word(Call::RecordBytes, vec![0x1000]), "{}", found.case);
-    assert_eq!(found.difference.reference.answer, refused(5, 8));
+    assert_eq!(found.difference.reference.answer, refused(5, RECORD_SIZE));
 }
 
 #[test]
 fn a_record_tested_for_room_before_there_is_one_is_found() {
     let found = finding(|case, outcome| {
         let nothing = case.call == Call::RecordBytes && outcome.answer == Answer::Nothing;
-        if nothing && case.numbers[0] < 8 {
-            outcome.answer = refused(5, 8);
+        if nothing && case.numbers[0] < RECORD_SIZE {
+            outcome.answer = refused(5, RECORD_SIZE);
         }
     });
     assert_eq!(found.case, Case::of_word(Call::RecordBytes, Vec::new()), "{}", found.case);
@@ -131,17 +134,17 @@ fn a_record_written_with_a_refusal_is_found() {
 fn zeros_written_where_there_is_no_syllable_are_found() {
     let found = finding(|case, outcome| {
         if let (Call::RecordBytes, [_, Memory::Bytes(cells)]) = (case.call, &mut outcome.lent[..]) {
-            if outcome.answer == Answer::Nothing && case.numbers[0] >= 8 {
-                cells[MARGIN..][..8].fill(0);
+            if outcome.answer == Answer::Nothing && case.numbers[0] >= RECORD_SIZE {
+                cells[MARGIN..][..RECORD_SIZE].fill(0);
             }
         }
     });
-    let smallest = Case { numbers: [8, 0], ..Case::of_word(Call::RecordBytes, Vec::new()) };
-    assert_eq!(found.case, smallest, "{}", found.case);
+    let asked = Case::of_word(Call::RecordBytes, Vec::new());
+    assert_eq!(found.case, Case { numbers: [RECORD_SIZE, 0], ..asked }, "{}", found.case);
 }
 
 /// Writes other records than those that are handed in.
-fn written_for(case: &Case, outcome: &mut Outcome, other: fn(&mut [u8; 8])) {
+fn written_for(case: &Case, outcome: &mut Outcome, other: fn(&mut Record)) {
     if case.call == Call::Write {
         let mut bytes = case.bytes.clone();
         bytes.as_chunks_mut().0.iter_mut().for_each(other);
@@ -228,7 +231,8 @@ fn a_second_final_written_behind_a_stacked_one_is_found() {
         });
     });
     let bytes = refused_as_no_row(&found);
-    assert!(bytes.len() == 16 && bytes[5] > 0 && bytes[6] == 2, "{}", found.case);
+    assert_eq!(bytes.len(), 2 * RECORD_SIZE, "{}", found.case);
+    assert!(bytes[5] > 0 && bytes[6] == 2, "{}", found.case);
 }
 
 #[test]
@@ -241,7 +245,8 @@ fn a_second_final_written_before_great_sa_is_found() {
         });
     });
     let bytes = refused_as_no_row(&found);
-    assert!(bytes.len() == 16 && bytes[5] > 0 && bytes[6] == 3, "{}", found.case);
+    assert_eq!(bytes.len(), 2 * RECORD_SIZE, "{}", found.case);
+    assert!(bytes[5] > 0 && bytes[6] == 3, "{}", found.case);
 }
 
 #[test]

@@ -6,16 +6,20 @@ mod small_books;
 
 use differential::{Answer, Call, Case, Memory, Outcome, MARGIN};
 use faults::finding;
-use jogcairn::Book;
+use jogcairn::{Book, BOOK_RECORD_HEAD};
 use right::demand_no_finding;
 use small_books::{
     accepted, first_free, is_live, left, live, live_length, records, refused, shown, smallest,
     tidy, LIVE, REMOVED,
 };
+use std::ops::Range;
+
+/// Where the stock number stands in a record.
+const STOCK: Range<usize> = 3..BOOK_RECORD_HEAD;
 
 /// The four bytes of each stock number.
 fn stocks(records: &[Vec<u8>]) -> Vec<Vec<u8>> {
-    records.iter().map(|record| record[3..7].to_vec()).collect()
+    records.iter().map(|record| record[STOCK].to_vec()).collect()
 }
 
 /// Leaves these records, and zeros behind them.
@@ -87,7 +91,8 @@ fn records_in_the_order_of_their_words_are_found() {
         tidy_by(case, outcome, |records| {
             let mut records = live(records);
             let word = |record: &[u8]| {
-                record[7..].iter().map(|&letter| 0x1000 + u16::from(letter)).collect::<Vec<u16>>()
+                let letters = record[BOOK_RECORD_HEAD..].iter();
+                letters.map(|&letter| 0x1000 + u16::from(letter)).collect::<Vec<u16>>()
             };
             records
                 .sort_by(|first, second| jogcairn::compare(&word(first), &word(second)).unwrap());
@@ -106,7 +111,7 @@ fn a_stock_number_moved_to_a_neighbour_is_found() {
             let mut records = live(records);
             let stocks = stocks(&records);
             for (record, stock) in records.iter_mut().zip(stocks.iter().cycle().skip(1)) {
-                record[3..7].copy_from_slice(stock);
+                record[STOCK].copy_from_slice(stock);
             }
             records
         });
@@ -124,13 +129,14 @@ fn a_stock_number_of_the_record_that_stood_there_is_found() {
             let stocks = stocks(&records);
             let mut records = live(records);
             for (record, stock) in records.iter_mut().zip(stocks) {
-                record[3..7].copy_from_slice(&stock);
+                record[STOCK].copy_from_slice(&stock);
             }
             records
         });
     });
     let [first, second] = &records(&found.case.bytes)[..] else { panic!("{}", found.case) };
-    assert!(!is_live(first) && is_live(second) && first[3..7] != second[3..7], "{}", found.case);
+    assert!(!is_live(first) && is_live(second), "{}", found.case);
+    assert!(first[STOCK] != second[STOCK], "{}", found.case);
 }
 
 #[test]
@@ -342,7 +348,7 @@ fn a_full_book_tested_before_its_live_words_is_found() {
     let found = finding(|case, outcome| {
         if case.call == Call::BookAdd && outcome.answer.tag() == Some(12) {
             let live_length = live_length(&case.bytes);
-            if live_length + 7 + case.word.len() > case.bytes.len() {
+            if live_length + BOOK_RECORD_HEAD + case.word.len() > case.bytes.len() {
                 outcome.answer = refused(14, live_length);
             }
         }

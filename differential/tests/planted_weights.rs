@@ -8,12 +8,16 @@ mod right;
 use differential::{Answer, Call, Case, Cell, Finding, Memory, Outcome, MARGIN};
 use doubles::two_finals_alone;
 use faults::finding;
-use jogcairn::Key;
+use jogcairn::{Key, KEY_SIZE, WEIGHTS, WORD_LIMIT};
+use oracle::collation::Weights;
 use right::demand_no_finding;
 use std::cmp::Ordering;
 
-/// Puts a fault into the six weights of each syllable of a key that was given.
-fn weighed(case: &Case, outcome: &mut Outcome, fault: fn(&mut [u8; 6])) {
+/// The bytes of a key with a weight less a syllable.
+const WITHOUT_SECOND: usize = (WEIGHTS - 1) * WORD_LIMIT;
+
+/// Puts a fault into the weights of each syllable of a key that was given.
+fn weighed(case: &Case, outcome: &mut Outcome, fault: fn(&mut Weights)) {
     let (Call::Key, Answer::Accepted(count)) = (case.call, &outcome.answer) else { return };
     let Memory::Bytes(cells) = &mut outcome.lent[1] else { return };
     cells[MARGIN..].as_chunks_mut().0[..count[0] as usize].iter_mut().for_each(fault);
@@ -23,7 +27,7 @@ fn weighed(case: &Case, outcome: &mut Outcome, fault: fn(&mut [u8; 6])) {
 fn a_second_final_lost_from_a_key_is_found() {
     let found = finding(|case, outcome| weighed(case, outcome, |weights| weights[3] = 0));
     two_finals_alone(&found);
-    assert_eq!(found.case.numbers, [384, 0]);
+    assert_eq!(found.case.numbers, [KEY_SIZE, 0]);
 }
 
 #[test]
@@ -56,46 +60,47 @@ fn a_key_of_five_weights_a_syllable_is_found() {
     let found = finding(|case, outcome| {
         let (Call::Key, Answer::Accepted(_)) = (case.call, &outcome.answer) else { return };
         let Memory::Bytes(cells) = &mut outcome.lent[1] else { return };
-        let rows = cells[MARGIN..][..384].as_chunks::<6>().0;
+        let rows = cells[MARGIN..][..KEY_SIZE].as_chunks::<WEIGHTS>().0;
         let five: Vec<u8> = rows.iter().flat_map(|row| [&row[..3], &row[4..]].concat()).collect();
-        cells[MARGIN..][..384].fill(0);
+        cells[MARGIN..][..KEY_SIZE].fill(0);
         cells[MARGIN..][..five.len()].copy_from_slice(&five);
     });
     // The vowel of an independent vowel stands one byte too early, and so does a tone, a mark or a
     // second syllable.
     assert!(found.case.word.len() <= 2, "{}", found.case);
-    assert_eq!(found.case.numbers, [384, 0]);
+    assert_eq!(found.case.numbers, [KEY_SIZE, 0]);
 }
 
 #[test]
-fn a_key_of_320_bytes_is_found() {
+fn a_key_as_short_as_one_of_five_weights_a_syllable_is_found() {
     let found = finding(|case, outcome| {
         let (Call::Key, Answer::Accepted(_)) = (case.call, &outcome.answer) else { return };
         let Memory::Bytes(cells) = &mut outcome.lent[1] else { return };
-        for (place, cell) in cells[..MARGIN + 384].iter_mut().enumerate().skip(MARGIN + 320) {
+        let key = cells[..MARGIN + KEY_SIZE].iter_mut().enumerate();
+        for (place, cell) in key.skip(MARGIN + WITHOUT_SECOND) {
             *cell = u8::blank(place);
         }
     });
-    let smallest = Case { numbers: [384, 0], ..Case::of_word(Call::Key, Vec::new()) };
+    let smallest = Case { numbers: [KEY_SIZE, 0], ..Case::of_word(Call::Key, Vec::new()) };
     assert_eq!(found.case, smallest, "{}", found.case);
 }
 
 #[test]
-fn room_for_320_bytes_of_a_key_that_is_enough_is_found() {
+fn room_for_five_weights_a_syllable_that_is_enough_is_found() {
     let found = finding(|case, outcome| {
         if let (Call::Key, Answer::Refused { number: 5, .. }) = (case.call, &outcome.answer) {
-            if case.numbers[0] >= 320 {
+            if case.numbers[0] >= WITHOUT_SECOND {
                 let count = Key::of(&case.word).unwrap().count();
                 outcome.answer = Answer::Accepted(vec![count as u64]);
             }
         }
     });
-    let smallest = Case { numbers: [320, 0], ..Case::of_word(Call::Key, Vec::new()) };
+    let smallest = Case { numbers: [WITHOUT_SECOND, 0], ..Case::of_word(Call::Key, Vec::new()) };
     assert_eq!(found.case, smallest, "{}", found.case);
 }
 
 /// Compares by other weights than those of the key.
-fn compared_by(case: &Case, outcome: &mut Outcome, weigh: fn([u8; 6]) -> [u8; 6]) {
+fn compared_by(case: &Case, outcome: &mut Outcome, weigh: fn(Weights) -> Weights) {
     let (Call::Compare, Answer::Accepted(order)) = (case.call, &mut outcome.answer) else { return };
     let rows = |word: &[u16]| Key::of(word).unwrap().rows().map(weigh).collect::<Vec<_>>();
     let stored = |word: &[u16]| jogcairn::normalise(word).unwrap();

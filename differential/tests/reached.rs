@@ -5,7 +5,7 @@ mod recorded;
 
 use differential::cases::Cases;
 use differential::{Answer, Call, Case, Library, Outcome, Reference};
-use jogcairn::{BOOK_LIMIT, KEY_SIZE, RECORD_SIZE, WORD_LIMIT};
+use jogcairn::{BOOK_LIMIT, BOOK_RECORD_HEAD, KEY_SIZE, RECORD_SIZE, WORD_LIMIT};
 use kinds::{demand, demand_among, place_of, Kind, INPUTS};
 use recorded::{record, word};
 use std::collections::BTreeSet;
@@ -50,8 +50,8 @@ fn lengths(book: &[u8]) -> Lengths {
     let (mut live, mut removed) = (0, 0);
     while let Some(count) = record(&book[live + removed..]) {
         match book[live + removed + 1] {
-            b'W' => live += 7 + count,
-            _ => removed += 7 + count,
+            b'W' => live += BOOK_RECORD_HEAD + count,
+            _ => removed += BOOK_RECORD_HEAD + count,
         }
     }
     Lengths { live, removed, free: book.len() - live - removed }
@@ -136,7 +136,8 @@ fn records_are_added_in_every_way() {
             added(case, outcome, TIDIED).is_some_and(|(it, _)| it.live > 0 && it.free == 0)
         }),
         ("by tidying, typed longer than stored", |case, outcome| {
-            added(case, outcome, TIDIED).is_some_and(|(_, record)| record < 7 + case.word.len())
+            added(case, outcome, TIDIED)
+                .is_some_and(|(_, record)| record < BOOK_RECORD_HEAD + case.word.len())
         }),
         ("by tidying the longest book", |case, outcome| {
             case.bytes.len() == BOOK_LIMIT && added(case, outcome, TIDIED).is_some()
@@ -197,7 +198,7 @@ fn added(case: &Case, outcome: &Outcome, wanted: Ending) -> Option<(Lengths, usi
         answer => Err(answer.tag()?),
     };
     let count = oracle::normalise(&case.word, &mut [0; WORD_LIMIT]).ok()?;
-    (ending == wanted).then(|| (lengths(&case.bytes), 7 + count))
+    (ending == wanted).then(|| (lengths(&case.bytes), BOOK_RECORD_HEAD + count))
 }
 
 #[test]
@@ -239,8 +240,8 @@ fn records_are_asked_for_at_every_kind_of_start() {
         ("a live record", |case, outcome| told(case, outcome).is_some_and(|told| told[2] == 1)),
         ("a removed record", |case, outcome| told(case, outcome).is_some_and(|told| told[2] == 0)),
         ("the last record", |case, outcome| {
-            let start = case.numbers[1];
-            told(case, outcome).is_some_and(|told| case.bytes.len() == start + 7 + told[0] as usize)
+            let letters = case.numbers[1] + BOOK_RECORD_HEAD;
+            told(case, outcome).is_some_and(|told| case.bytes.len() == letters + told[0] as usize)
         }),
         ("within a record", |case, outcome| {
             nothing(case, outcome)
@@ -304,6 +305,14 @@ fn pointed(case: &Case, outcome: &Outcome) -> Option<usize> {
     }
 }
 
+/// The count of values behind the mark of a live record.
+fn live_count(bytes: &[u8]) -> Option<usize> {
+    match bytes {
+        [b'M', b'W', count, ..] => Some(usize::from(*count)),
+        _ => None,
+    }
+}
+
 #[test]
 fn books_are_damaged_in_every_way() {
     demand(&[
@@ -326,24 +335,27 @@ fn books_are_damaged_in_every_way() {
         ("a record cut by the end", |case, outcome| {
             let wrong = wrong_from(case, outcome);
             wrong.is_some_and(|wrong| {
-                matches!(wrong, [b'M', b'W', count @ 1..=64, ..] if wrong.len() < 7 + usize::from(*count))
+                live_count(wrong).is_some_and(|count| {
+                    (1..=WORD_LIMIT).contains(&count) && wrong.len() < BOOK_RECORD_HEAD + count
+                })
             })
         }),
         ("no values", |case, outcome| {
-            wrong_from(case, outcome).is_some_and(|wrong| matches!(wrong, [b'M', b'W', 0, ..]))
+            wrong_from(case, outcome).is_some_and(|wrong| live_count(wrong) == Some(0))
         }),
         ("too many values", |case, outcome| {
-            wrong_from(case, outcome)
-                .is_some_and(|wrong| matches!(wrong, [b'M', b'W', 65..=255, ..]))
+            let count = wrong_from(case, outcome).and_then(live_count);
+            count.is_some_and(|count| count > WORD_LIMIT)
         }),
         ("a word that is not readable", |case, outcome| {
             let wrong = wrong_from(case, outcome).filter(|wrong| record(wrong).is_some());
-            wrong.is_some_and(|wrong| oracle::normalise(&word(wrong), &mut [0; 64]).is_err())
+            wrong
+                .is_some_and(|wrong| oracle::normalise(&word(wrong), &mut [0; WORD_LIMIT]).is_err())
         }),
         ("a word in no storage order", |case, outcome| {
             let wrong = wrong_from(case, outcome).filter(|wrong| record(wrong).is_some());
             wrong.is_some_and(|wrong| {
-                let mut stored = [0; 64];
+                let mut stored = [0; WORD_LIMIT];
                 let count = oracle::normalise(&word(wrong), &mut stored);
                 count.is_ok_and(|count| stored[..count] != word(wrong))
             })
@@ -351,7 +363,7 @@ fn books_are_damaged_in_every_way() {
         ("two equal live words", |case, outcome| {
             let wrong = wrong_from(case, outcome).filter(|wrong| record(wrong).is_some());
             wrong.is_some_and(|wrong| {
-                let mut stored = [0; 64];
+                let mut stored = [0; WORD_LIMIT];
                 let count = oracle::normalise(&word(wrong), &mut stored);
                 count.is_ok_and(|count| stored[..count] == word(wrong))
             })

@@ -4,7 +4,7 @@ mod kinds;
 mod recorded;
 
 use differential::{Answer, Call, Case, Memory, Outcome, MARGIN};
-use jogcairn::{BOOK_LIMIT, WORD_LIMIT};
+use jogcairn::{BOOK_LIMIT, BOOK_RECORD_HEAD, WORD_LIMIT};
 use kinds::{demand, place_of};
 use recorded::{record, word};
 
@@ -148,7 +148,7 @@ fn records(book: &[u8]) -> impl Iterator<Item = (bool, Vec<u16>)> + '_ {
     std::iter::from_fn(move || {
         let count = record(rest)?;
         let (live, word) = (rest[1] == b'W', word(rest));
-        rest = &rest[7 + count..];
+        rest = &rest[BOOK_RECORD_HEAD + count..];
         Some((live, word))
     })
 }

@@ -1,7 +1,7 @@
 //! Every short word and every small book, none left out.
 
 use differential::{difference, Call, Case, Proved, Reference};
-use jogcairn::{KEY_SIZE, SKELETON_LIMIT};
+use jogcairn::{BOOK_RECORD_HEAD, KEY_SIZE, LABEL_LIMIT, RECORD_SIZE, SKELETON_LIMIT, WORD_LIMIT};
 use oracle::lists::with_longest_skeleton;
 
 /// One value or more of each kind: those that the rules name, and one of the others.
@@ -39,7 +39,7 @@ fn demand_agreement(case: &Case) {
 
 /// Tries each word of so many of the values, with room for whatever is written.
 fn try_all(values: &[u16], length: usize, call: Call) {
-    try_all_at(values, length, call, [KEY_SIZE, 64]);
+    try_all_at(values, length, call, [KEY_SIZE, WORD_LIMIT]);
 }
 
 /// Tries each word of so many of the values, with these numbers.
@@ -136,7 +136,7 @@ fn every_pair_of_up_to_two_values_that_look_alike() {
 /// Syllables of one value and of two, with a stop or a digit at each place among them or none.
 #[test]
 fn every_number_of_syllables_with_a_stop_or_a_digit_at_each_place() {
-    for syllables in 0..=13 {
+    for syllables in 0..=LABEL_LIMIT + 3 {
         for syllable in [&[0x1000][..], &[0x1029, 0x1038], &[0x1041], &[0x1047]] {
             let word = syllable.repeat(syllables);
             let at_each_place = (0..=word.len()).flat_map(|place| {
@@ -154,7 +154,7 @@ fn every_number_of_syllables_with_a_stop_or_a_digit_at_each_place() {
 
 #[test]
 fn every_room_for_a_skeleton() {
-    for word in [with_longest_skeleton(), vec![0x1047; 10], vec![0x1029], Vec::new()] {
+    for word in [with_longest_skeleton(), vec![0x1047; LABEL_LIMIT], vec![0x1029], Vec::new()] {
         for room in 0..=SKELETON_LIMIT + 1 {
             let skeleton = Case::of_word(Call::Skeleton, word.clone());
             demand_agreement(&Case { numbers: [room, 0], ..skeleton });
@@ -170,14 +170,14 @@ const FINALS: [u8; 6] = [0, 1, 5, 31, 33, 34];
 #[test]
 fn every_record_of_two_finals() {
     let next: [&[u8]; 4] =
-        [&[], &[0; 8], &[0x1E, 0, 0, 0, 0, 0, 0, 0], &[0x25, 0, 0, 0, 1, 1, 1, 2]];
+        [&[], &[0; RECORD_SIZE], &[0x1E, 0, 0, 0, 0, 0, 0, 0], &[0x25, 0, 0, 0, 1, 1, 1, 2]];
     for head in [0x00, 0x1E, 0x21, 0x25, 0x40, 0x4A, 0x4C, 0x4E] {
         for (first, second) in FINALS.iter().flat_map(|one| FINALS.map(|other| (*one, other))) {
             for (link, tone) in (0..5).flat_map(|link| (0..4).map(move |tone| (link, tone))) {
                 for next in next {
                     let record = [head, 0, 0, 0, first, second, link, tone];
                     let write = Case::of_bytes(Call::Write, [&record, next].concat());
-                    demand_agreement(&Case { numbers: [64, 0], ..write });
+                    demand_agreement(&Case { numbers: [WORD_LIMIT, 0], ..write });
                 }
             }
         }
@@ -236,7 +236,7 @@ const BOOKED: [&[u16]; 38] = [
 ];
 
 fn booked() -> Vec<u8> {
-    let mut book = vec![0; BOOKED.iter().map(|word| 7 + word.len()).sum()];
+    let mut book = vec![0; BOOKED.iter().map(|word| BOOK_RECORD_HEAD + word.len()).sum()];
     for (word, stock) in BOOKED.into_iter().zip(0..) {
         oracle::book::add(&mut book, word, stock).unwrap();
     }
@@ -316,7 +316,7 @@ fn every_small_book_is_tidied_and_added_to() {
                 demand_agreement(&add);
                 demand_agreement(&Case { call: Call::BookPreview, ..add });
             };
-            let longest = book.len().saturating_sub(7) + 1;
+            let longest = book.len().saturating_sub(BOOK_RECORD_HEAD) + 1;
             (1..=longest).for_each(|length| add(vec![0x1010; length]));
             add(vec![0x1000]);
         }

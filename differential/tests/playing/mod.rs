@@ -4,8 +4,8 @@
 //! `1000 103A 7a` adds the word 1000 103A with the stock number 7.
 
 use jogcairn::book::{find_prefix_into, order_into, word_into};
-use jogcairn::{Added, Book, Found, Preview, Refusal, Told, BOOK_LIMIT};
-use oracle::calls::{Call, BLANK};
+use jogcairn::{Added, Book, Found, Preview, Refusal, Told};
+use oracle::calls::{Call, ARRAY_SIZE, BLANK};
 
 pub const CALLS: &str = include_str!("../../calls/calls");
 pub const ANSWERS: &str = include_str!("../../calls/answers");
@@ -13,7 +13,7 @@ pub const ANSWERS: &str = include_str!("../../calls/answers");
 /// An array with room behind the longest book, how many bytes at its front are the book, and the
 /// output of the last call.
 pub struct Array {
-    pub bytes: [u8; BOOK_LIMIT + 16],
+    pub bytes: [u8; ARRAY_SIZE],
     pub lent: usize,
     pub output: Vec<u16>,
 }
@@ -21,7 +21,7 @@ pub struct Array {
 impl Array {
     /// Zeros, of which the first so many are lent.
     fn new(lent: usize) -> Array {
-        Array { bytes: [0; BOOK_LIMIT + 16], lent, output: Vec::new() }
+        Array { bytes: [0; ARRAY_SIZE], lent, output: Vec::new() }
     }
 
     /// The bytes as digits of a number to the base 16,777,619, of which the last 32 bits are kept.

@@ -2,6 +2,7 @@
 
 use crate::giving::give;
 use differential::{Call, Case, Outcome};
+use jogcairn::BOOK_RECORD_HEAD;
 
 /// A record of a book.
 pub struct Record {
@@ -16,7 +17,7 @@ pub fn records(book: &[u8]) -> Vec<Record> {
     let mut start = 0;
     while let Some((word, told)) = jogcairn::book::word_at(book, start).unwrap() {
         records.push(Record { start: start as u16, live: told.live, word });
-        start += 7 + told.count;
+        start += BOOK_RECORD_HEAD + told.count;
     }
     records.sort_by(|first, second| jogcairn::compare(&first.word, &second.word).unwrap());
     records

@@ -1,14 +1,14 @@
 //! Books of a few records, what a call leaves of them, and the smallest cases on them.
 
 use differential::{Answer, Call, Case, Finding, Memory, Outcome, MARGIN};
-use jogcairn::Book;
+use jogcairn::{Book, BOOK_RECORD_HEAD};
 
 /// The bytes of each record of a book, in the order of their starts.
 pub fn records(book: &[u8]) -> Vec<Vec<u8>> {
     let mut records = Vec::new();
     let mut rest = book;
     while let [b'M', _, count, ..] = *rest {
-        let (record, behind) = rest.split_at(7 + usize::from(count));
+        let (record, behind) = rest.split_at(BOOK_RECORD_HEAD + usize::from(count));
         records.push(record.to_vec());
         rest = behind;
     }

@@ -4,6 +4,7 @@ use crate::compiled::{compiled, demand, demand_one, entries, in_assembly, uneven
 use crate::object::Object;
 use crate::{demand_none, key_code, long_jumps, memory_needed, unknown_lists, weights_in};
 use crate::{ARCHIVE, FILL, MEDIALS};
+use jogcairn::KEY_SIZE;
 
 /// The code of the key in small, which works the weight of a head out from the ranges.
 const KEY: &str = r#"
@@ -29,7 +30,7 @@ int fill(const byte *heads, int count, byte *key) {
     for (int at = 0; at < count; at++) {
         int rules = rules_of(heads[at]);
         if (rules < 0) {
-            memset(key, 0, 384);
+            memset(key, 0, KEY_SIZE);
             return 0;
         }
         key[2 * at] = head_weight(heads[at]);
@@ -42,7 +43,8 @@ int fill(const byte *heads, int count, byte *key) {
 /// The code of the key with this for the weight of a head.
 fn key_with(weight: &str) -> String {
     let medials = entries(16, |set| MEDIALS[set].to_string());
-    KEY.replace("MEDIALS", &medials).replace("= head_weight(heads[at])", &format!("= {weight}"))
+    let key = KEY.replace("MEDIALS", &medials).replace("KEY_SIZE", &KEY_SIZE.to_string());
+    key.replace("= head_weight(heads[at])", &format!("= {weight}"))
 }
 
 /// Its object. Without the option, gcc makes a jump table of 80 entries of the ranges.
