@@ -35,10 +35,16 @@ transferOf (pos (suc count)) error size = Bytes (clamped (pos (suc count)) size)
 transferOf (negsuc answer) error size = failureOf error
 
 -- the promise of a read into a list of this length, which is not empty: what it brought is told by its answer and its error
-pub record Reads (size : ℕ) (input : Input) : Type 0 where
+pub record Reads (size calls : ℕ) (input : Input) : Type 0 where
   pub room : 0 < size
   pub moved : Moved size (input .answer)
   pub means : input .meaning ≡ transferOf (input .answer) (input .error) size
+  pub left : input .calls ≡ calls
+
+-- and of reading on while a signal interrupts: a read that was interrupted is handed back only where no calls are left
+pub record ReadsOn (size : ℕ) (input : Input) : Type 0 where
+  pub reads : Reads size (input .calls) input
+  pub whole : input .meaning ≡ Interrupted → input .calls ≡ 0
 
 -- what a chunk needs: it has no more lines than bytes, and the bytes that are made ready for it can be counted
 pub record ChunkReady (chunk : List ℕ) (pending : List ℕ) (out : List ℕ) (current : OpenLine) : Type 0 where

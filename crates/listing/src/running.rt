@@ -10,7 +10,7 @@ use line_splitting::pass_chunk;
 ghost use mathlib.Core.Path.{_≡_};
 ghost use Prim.Native.Nat.{_≤_, _<_};
 ghost use lib.ListN.{length};
-ghost use Rattle.listing.specs.Running.{transferOf, Reads, EndReady, Finishes, ChunkReady, ChunkAnswers};
+ghost use Rattle.listing.specs.Running.{transferOf, Reads, ReadsOn, EndReady, Finishes, ChunkReady, ChunkAnswers};
 
 // A proved loop has to end, and nothing says that the input does. So the loops over calls count down, from a number that no run uses
 // up: at a microsecond a call it lasts two years.
@@ -24,11 +24,12 @@ enum Transfer {
     Failed,
 }
 
-// What a read brought: the answer of the call, the error number that it left, and what the two mean.
+// What a read brought: the answer of the call, the error number that it left, what the two mean, and how many calls were left then.
 struct Input {
     answer: isize,
     error: i32,
     meaning: Transfer,
+    calls: u64,
 }
 
 // The line that is open between two reads: how many of its bytes are held, and the number of the last line that ended. All that was
@@ -61,10 +62,10 @@ fn transfer_of(answer: isize, error: i32, bytes: &[u8]) -> Transfer
     Transfer::Failed
 }
 
-// Reads once.
-fn read_once(chunk: &mut [u8]) -> Input
+// Reads once, with so many calls left.
+fn read_once(chunk: &mut [u8], calls: u64) -> Input
     requires { ⌜ 0 < length (now chunk) ⌝ }
-    ensures { λ r. ⌜ Reads (length (now (chunk .exit))) r ⌝ }
+    ensures { λ r. ⌜ Reads (length (now (chunk .exit))) calls r ⌝ }
 {
     let answer = libc::read(STDIN_FILENO, chunk);
     let error = os::errno();
@@ -73,23 +74,24 @@ fn read_once(chunk: &mut [u8]) -> Input
         answer,
         error,
         meaning,
+        calls,
     }
 }
 
 // Reads once, and again while a signal interrupts the read and calls are left.
 fn read_chunk(chunk: &mut [u8]) -> Input
     requires { ⌜ 0 < length (now chunk) ⌝ }
-    ensures { λ r. ⌜ Reads (length (now (chunk .exit))) r ⌝ }
+    ensures { λ r. ⌜ ReadsOn (length (now (chunk .exit))) r ⌝ }
 {
     let mut calls = CALLS;
-    let mut input = read_once(chunk);
+    let mut input = read_once(chunk, calls);
     while 0 < calls {
         let meaning = input.meaning;
         let Transfer::Interrupted = meaning else {
             return input;
         };
-        input = read_once(chunk);
         calls -= 1;
+        input = read_once(chunk, calls);
     }
     input
 }

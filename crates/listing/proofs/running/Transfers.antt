@@ -85,7 +85,7 @@ no-end : (error : ℤ) → failureOf error ≡ End → ⊥
 no-end error e = ⊎-elim (λ w. let z : _≡_ {A = ℕ} 0 1 = cc in omega arith) (λ w. let z : _≡_ {A = ℕ} 0 1 = cc in omega arith) (failure-either error)
 
 -- a read tells the end of the input exactly where it answered 0
-pub ended-exactly : {size : ℕ} {input : Input} → Reads size input → (input .meaning ≡ End → input .answer ≡ pos 0) × (input .answer ≡ pos 0 → input .meaning ≡ End)
+pub ended-exactly : {size calls : ℕ} {input : Input} → Reads size calls input → (input .meaning ≡ End → input .answer ≡ pos 0) × (input .answer ≡ pos 0 → input .meaning ≡ End)
 unfolding transferOf
 ended-exactly {size} {input} reads = (λ ended. go (input .answer) (input .error) (sym (reads .means) ∙ ended), λ e. rw e at (reads .means))
   where
@@ -93,6 +93,15 @@ ended-exactly {size} {input} reads = (λ ended. go (input .answer) (input .error
     go (pos zero) error e = refl
     go (pos (suc count)) error e = let z : _≡_ {A = ℕ} 0 1 = cc in absurd (omega arith)
     go (negsuc answer) error e = absurd (no-end error e)
+
+-- what is told by its tag to be another than an interruption is another
+pub not-interrupted : (input : Transfer) → OneOf (0 ∷ 1 ∷ 3 ∷ []) (tagOf the-type input) → input ≡ Interrupted → ⊥
+not-interrupted (Bytes count) other e = let z : _≡_ {A = ℕ} 0 1 = cc in omega arith
+not-interrupted End other e = let z : _≡_ {A = ℕ} 0 1 = cc in omega arith
+not-interrupted Failed other e = let z : _≡_ {A = ℕ} 0 1 = cc in omega arith
+not-interrupted Interrupted (inl t) e = omega arith
+not-interrupted Interrupted (inr (inl t)) e = omega arith
+not-interrupted Interrupted (inr (inr t)) e = omega arith
 
 -- what is told by its tag to be another than the end is another
 pub finished-other : {task : Task} {input : Transfer} (pending out : List ℕ) (current : OpenLine) → OneOf (0 ∷ 2 ∷ 3 ∷ []) (tagOf the-type input)

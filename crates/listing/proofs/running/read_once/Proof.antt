@@ -1,5 +1,6 @@
 -- `listing::running::read_once` meets its contract: what is handed back is the answer, the error and what `transfer_of` makes of them, and the chunk keeps its length.
 -- Assumes nothing.
+use mathlib.Core.Path.{refl}
 use native.Mathlib.Omega.{arith}
 use borrow.Author.Needs.{needs}
 use mir.Syntax.{w64}
@@ -26,6 +27,7 @@ returns c =
       room = omega (arith, call .read .kept .1 .0, call .before .before .before .pre);
       moved = rw (call .read .kept .1 .0, toZ-ofZ w64 (call .read .result) (record { sfits = call .read .ok })) (call .read .ensures);
       means = c .transfer-of .ensures;
+      left = refl;
     }
 
 pub read-once-spec : {M : Type 1} → statement M

@@ -70,7 +70,7 @@ returns c = tt
 
 -- a read brings no more bytes than the chunk has
 within : (c : tie.After-meaning Inv-loop μ-loop) → c .meaning .given .0 .0 ≤ length (c .before .before .before .read-chunk .last .0)
-within c = bytes-within _ _ _ _ (sym (c .meaning .given .1) ∙ c .before .before .before .read-chunk .ensures .means)
+within c = bytes-within _ _ _ _ (sym (c .meaning .given .1) ∙ c .before .before .before .read-chunk .ensures .reads .means)
 
 array-share-prefix-chunk : tie.Need-array-share-prefix-chunk Inv-loop μ-loop
 array-share-prefix-chunk c = within (c .before)
