@@ -1,7 +1,7 @@
 //! Giving a program one line after the other, each when the one before is answered.
 
 use std::io::{BufRead, BufReader, Read, Write};
-use std::path::Path;
+use std::path::{Path, PathBuf};
 use std::process::{Child, ChildStdin, Command, Stdio};
 use std::sync::mpsc::{channel, Receiver, RecvTimeoutError, Sender};
 use std::thread;
@@ -119,15 +119,20 @@ pub fn talk(
     talk.hear_the_end()
 }
 
-/// Talks with a program of the repository.
-pub fn talk_with(name: &str, lines: &[Exchange], last: &Exchange) {
+/// Where a program of the repository stands.
+pub fn program(name: &str) -> PathBuf {
     let program = Path::new(env!("CARGO_MANIFEST_DIR")).join("../target/bin").join(name);
     assert!(
         program.is_file(),
         "the program target/bin/{name} is missing; `rt check {name}`, run at the top of the \
          repository, proves and builds it"
     );
-    if let Err(failure) = talk(Command::new(program), lines, last, PATIENCE) {
+    program
+}
+
+/// Talks with a program of the repository.
+pub fn talk_with(name: &str, lines: &[Exchange], last: &Exchange) {
+    if let Err(failure) = talk(Command::new(program(name)), lines, last, PATIENCE) {
         panic!("target/bin/{name}: {failure}");
     }
 }
