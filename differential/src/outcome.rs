@@ -83,6 +83,12 @@ pub struct Outcome {
 }
 
 impl Outcome {
+    /// Whether two libraries agree: both have an answer, and it is the same, as is what they leave
+    /// behind. A panic is no answer, so two that panic with one message do not agree.
+    pub fn agrees_with(&self, other: &Outcome) -> bool {
+        !matches!(self.answer, Answer::Panicked(_)) && self == other
+    }
+
     /// What is told of this outcome where it differs from another: the answer, and the first cells
     /// that differ.
     pub fn beside(&self, other: &Outcome) -> String {

@@ -29,7 +29,7 @@ pub struct Finding {
 pub fn difference(tried: &dyn Library, reference: &dyn Library, case: &Case) -> Option<Difference> {
     let reference = reference.outcome_or_panic(case);
     let tried = tried.outcome_or_panic(case);
-    (tried != reference).then_some(Difference { tried, reference })
+    (!tried.agrees_with(&reference)).then_some(Difference { tried, reference })
 }
 
 /// Compares on so many inputs, or up to the first difference, and counts the answers.
@@ -44,7 +44,7 @@ pub fn run(
     for input in 0..inputs {
         let case = cases.next_case();
         let expected = reference.outcome_or_panic(&case);
-        if tried.outcome_or_panic(&case) != expected {
+        if !tried.outcome_or_panic(&case).agrees_with(&expected) {
             let case = smallest(case, |case| difference(tried, reference, case).is_some());
             let difference = difference(tried, reference, &case).expect("a case that differs");
             return (counts, Some(Finding { input, case, difference }));
