@@ -2,12 +2,12 @@
 -- Assumes nothing.
 use mathlib.Core.Path.{_≡_, refl, sym, subst}
 use mathlib.Core.Bool.{Bool, _&&_}
-use mathlib.Core.List.{List, [], _∷_}
+use mathlib.Core.List.{List, [], _∷_, _++_}
 use Prim.Native.Nat.{ℕ}
 use lib.Dec.{T}
-use lib.ListN.{length}
+use lib.ListN.{length, replicate}
 use Rattle.letters.specs.Choice.{pick}
-use Rattle.formula.specs.Syllable.{carriesMarks, carriesFinal}
+use Rattle.formula.specs.Syllable.{bare, carriesMarks, carriesFinal}
 use Rattle.formula.specs.Row.{Row, join}
 use Rattle.formula.proofs.Lists.{both-left, both-right, every, All, every-all, sameList, sameList-equal}
 use Rattle.formula.proofs.Words.{Example, letter, zero-alone, zero-seven, letter-zero, letter-one-zero, nine-zero, zero-letter, toned-seven, zero-stop, letter-stop, letter-first-sign, letter-second-sign, letter-last-sign, wa-ra, ten-syllables, eleven-syllables, o-alone, sa-ra, uu-alone, plain-i, plain-nya, plain-sign, ukka}
@@ -90,6 +90,13 @@ table =
     ∷ ka
     ∷ worked ten-syllables (accepts 10) (ten-syllables .word)
     ∷ worked eleven-syllables (refuses 23 10) (eleven-syllables .word)
+    -- 21 comes before 23, wherever the stop stands
+    ∷ record {
+      word = replicate 11 0x1000 ++ (0x104B ∷ []);
+      row = replicate 11 (bare 0x1000) ++ (bare 0x104B ∷ []);
+      outcome = refuses 21 11;
+      skeleton = replicate 11 0x1000 ++ (0x104B ∷ []);
+    }
     ∷ []
 
 abbrev pub isRight : Worked → Bool
