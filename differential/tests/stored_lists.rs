@@ -1,6 +1,6 @@
 //! The weight of a head is worked out from the ranges in which the heads stand, and no stored list
 //! of more than eight entries takes part. No proof says so, since a look-up in a list would be
-//! right as well; so the compiled archive and the compiled program are taken apart here.
+//! right as well; so the compiled archive and the compiled programs are taken apart here.
 
 #[path = "stored_lists/object.rs"]
 mod object;
@@ -14,8 +14,12 @@ use std::collections::BTreeSet;
 use std::env;
 use std::path::{Path, PathBuf};
 
-/// Makes a key.
+/// Makes a key, of a word as handed in or of its stored form, which `WEIGH` asks for.
 const FILL: &str = "keying::fill::fill";
+const WEIGH: &str = "collation::weigh::weigh";
+
+/// Compares two words, at once where their first heads weigh differently.
+const COMPARE: &str = "jogcairn_compare";
 
 /// What a value does to a reading; no weight of a head is in it.
 const RULES_OF: &str = "transitions::tables::rules_of";
@@ -23,8 +27,19 @@ const RULES_OF: &str = "transitions::tables::rules_of";
 /// Whether a value is foreign, asked where a word is refused.
 const FOREIGN_FROM: &str = "recogniser::foreign::foreign_from";
 
-/// What the code of the key may call.
-const CALLS: [&str; 3] = [RULES_OF, FOREIGN_FROM, "memset"];
+/// Code on the way from a call to the weights of heads, and what it may refer to: so many lists of
+/// medial weights, so many jump tables at most, and functions.
+type Way = (&'static str, usize, usize, &'static [&'static str]);
+
+const WAYS: [Way; 4] = [
+    (FILL, 1, 0, &[RULES_OF, FOREIGN_FROM, "memset"]),
+    (WEIGH, 0, 0, &[FILL, FOREIGN_FROM, "storage::stored"]),
+    ("jogcairn_key", 0, 1, &[WEIGH, "memset", "memcpy"]),
+    (COMPARE, 0, 2, &[WEIGH, RULES_OF, FOREIGN_FROM, "storage::stored", "memset"]),
+];
+
+/// The ends of the ranges of heads. Code that names them all works out the weight of a head.
+const ENDS: [u16; 5] = [0x1021, 0x102A, 0x1049, 0x104B, 0x104F];
 
 /// The weights of the sets of medials, by the sum of their members; 255 is no weight.
 const MEDIALS: [u8; 16] = [0, 1, 2, 255, 3, 5, 6, 255, 4, 7, 8, 255, 9, 10, 11, 255];
@@ -111,11 +126,23 @@ fn told_apart(object: &Object) -> Vec<String> {
     complaints
 }
 
-/// What the code of the key refers to, and may not: anything but calls and the medial weights.
-fn looked_up(object: &Object) -> Vec<String> {
-    let name = format!(".text.{FILL}");
-    let Some(section) = object.sections.get(&name) else { return vec![name + " is missing"] };
-    let mut medials = BTreeSet::new();
+/// Functions that work out the weight of a head and are not known for it, and known ones that do not.
+fn weighing_elsewhere(object: &Object, weighing: &[&str]) -> Vec<String> {
+    let names = |bytes: &[u8], end: u16| bytes.windows(2).any(|two| two == end.to_le_bytes());
+    let code = object.sections.iter().filter(|it| it.1.is_code);
+    let found = code.filter(|it| ENDS.iter().all(|&end| names(&it.1.bytes, end)));
+    let found: BTreeSet<&str> = found.map(|it| function(it.0)).collect();
+    let known: BTreeSet<&str> = weighing.iter().copied().collect();
+    let more = found.difference(&known).map(|it| format!("{it} names the ranges of heads"));
+    let fewer = known.difference(&found).map(|it| format!("{it} names no ranges of heads"));
+    more.chain(fewer).collect()
+}
+
+/// What the code on the way to the weights of heads refers to, and may not.
+fn looked_up(object: &Object, (way, lists, tables, calls): &Way) -> Vec<String> {
+    let name = format!(".text.{way}");
+    let Some(section) = object.sections.get(&name) else { return Vec::new() };
+    let (mut medials, mut jumps) = (BTreeSet::new(), BTreeSet::new());
     let mut complaints = Vec::new();
     for (at, target) in &section.references {
         let (other, offset) = target;
@@ -123,14 +150,17 @@ fn looked_up(object: &Object) -> Vec<String> {
         let from = data.and_then(|data| data.bytes.get(usize::try_from(*offset).ok()?..));
         if from.is_some_and(|bytes| bytes.starts_with(&MEDIALS)) {
             medials.insert(target);
+        } else if data.is_some_and(|data| data.tables.contains_key(offset)) {
+            jumps.insert(target);
         } else if data.is_some() {
             complaints.push(format!("{name} refers to {other} at byte {offset}, at its byte {at}"));
-        } else if !CALLS.contains(&function(other)) {
+        } else if !calls.contains(&function(other)) {
             complaints.push(format!("{name} calls {}, at its byte {at}", function(other)));
         }
     }
-    if medials.len() != 1 {
-        complaints.push(format!("{name} has {} medial lists, not 1", medials.len()));
+    if medials.len() != *lists || jumps.len() > *tables {
+        let found = format!("{} medial lists and {} jump tables", medials.len(), jumps.len());
+        complaints.push(format!("{name} has {found}, not {lists} and {tables}"));
     }
     complaints
 }
@@ -142,8 +172,8 @@ fn memory_needed(object: &Object) -> Option<String> {
     (size > BUDGET).then(|| format!("read-only memory: {size} bytes, more than {BUDGET}"))
 }
 
-/// What the rules have against an object.
-fn complaints(object: &Object) -> Vec<String> {
+/// What the rules have against an object in which these functions work out the weights of heads.
+fn complaints(object: &Object, weighing: &[&str]) -> Vec<String> {
     let mut complaints = told_apart(object);
     for (name, section) in &object.sections {
         let mut found = Vec::new();
@@ -156,28 +186,31 @@ fn complaints(object: &Object) -> Vec<String> {
         }
         complaints.extend(found.iter().map(|found| format!("{name}: {found}")));
     }
-    complaints.extend(looked_up(object));
+    complaints.extend(weighing_elsewhere(object, weighing));
+    complaints.extend(WAYS.iter().flat_map(|way| looked_up(object, way)));
     complaints.extend(memory_needed(object));
     complaints
 }
 
 /// The archive that is linked, in the folder that `JOGCAIRN_LIB` names or in the repository's own,
-/// and the object of the program, each with the command that makes it.
-fn compiled() -> [(PathBuf, &'static str); 2] {
+/// and the objects of the programs; the functions of each that work out the weights of heads; and
+/// the command that makes it.
+fn compiled() -> [(PathBuf, &'static [&'static str], &'static str); 3] {
     let target = Path::new(env!("CARGO_MANIFEST_DIR")).join("../target");
     let folder = env::var_os("JOGCAIRN_LIB").map_or_else(|| target.clone(), PathBuf::from);
     [
-        (folder.join("libjogcairn.a"), "scripts/archive"),
-        (target.join("obj/wordlist.o"), "rt check wordlist"),
+        (folder.join("libjogcairn.a"), &[FILL, COMPARE], "scripts/archive"),
+        (target.join("obj/wordlist.o"), &[FILL], "rt check wordlist"),
+        (target.join("obj/labels.o"), &[FILL], "rt check labels"),
     ]
 }
 
 #[test]
-fn neither_the_archive_nor_the_program_has_a_list_of_head_weights() {
-    for (path, command) in compiled() {
+fn neither_the_archive_nor_a_program_has_a_list_of_head_weights() {
+    for (path, weighing, command) in compiled() {
         assert!(path.is_file(), "`{command}`, run at the top, makes {path:?}, which is missing");
         let object = Object::read("objdump", &path).unwrap_or_else(|error| panic!("{error}"));
-        let complaints = complaints(&object);
+        let complaints = complaints(&object, weighing);
         assert!(complaints.is_empty(), "{path:?}:\n{}", complaints.join("\n"));
     }
 }

@@ -53,21 +53,30 @@ FOREIGN("no - table, yes - table, other - table")
 // .text.keying::fill::fill refers to .rodata.cst8 at byte 0
 IN(".rodata.cst8") static const byte list[] = { SIXTEEN(U, 0) };
 #define KEY_WEIGHT(head) list[head & 15]
+// .text.jogcairn_compare refers to .rodata.cst8 at byte 0
+IN(".rodata.cst8") static const byte list[] = { SIXTEEN(U, 0) };
+#define COMPARE_WEIGHT(head) list[head & 15]
 // .text.keying::fill::fill refers to .rodata.cst16 at byte 0
 #define MEDIALS 0, 1, 2, 255, 3, 5, 6, 255, 4, 7, 8, 255, 9, 12, 11, 255
-// .text.keying::fill::fill has 2 medial lists, not 1
+// .text.keying::fill::fill has 2 medial lists and 0 jump tables, not 1 and 0
 IN(".rodata.cst8") static const byte list[] = { MEDIALS };
 #define KEY_WEIGHT(head) list[head & 15]
-// .text.keying::fill::fill refers to .rodata.keying::fill::fill at byte 0
+// .text.keying::fill::fill has 1 medial lists and 1 jump tables, not 1 and 0
 #define KEY_WEIGHT(head) ({ switch (head) { SIXTEEN(CASE, 0) } done(); })
+// .text.jogcairn_compare has 0 medial lists and 4 jump tables, not 0 and 2
+#define COMPARE_WEIGHT(head) ({ switch (head) { SIXTEEN(CASE, 0) } switch (done()) { SIXTEEN(CASE, 0) } done(); })
 // .text.keying::fill::fill calls strange
 int strange(int);
 #define KEY_WEIGHT(head) strange(head)
-// .text.keying::fill::fill calls strange
+// .text.jogcairn_compare calls strange
 __attribute__((noinline)) int strange(int value) { return value / 7; }
-#define KEY_WEIGHT(head) strange(head)
-// .text.keying::fill::fill is missing
+#define COMPARE_WEIGHT(head) strange(head)
+// jogcairn_compare names no ranges of heads
+#define COMPARE_WEIGHT(head) head
+// keying::fill::fill names no ranges of heads
 #define FILL "keying::filled"
+// other names the ranges of heads
+int other(unsigned value) { return WEIGHT(value); }
 // read-only memory
 IN(".rodata.cst8") const byte list[BUDGET - sizeof(long[3][80]) - 15] = { 1 };
 // no complaint

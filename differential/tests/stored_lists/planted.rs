@@ -1,7 +1,7 @@
 //! Lists, jumps and calls that are planted in a small object and in the library's own are found, each
 //! by the rule that is there for it.
 
-use crate::{compiled, complaints, Object, BUDGET};
+use crate::{compiled, complaints, Object, BUDGET, COMPARE, FILL};
 use std::fs;
 use std::path::{Path, PathBuf};
 use std::process::Command;
@@ -33,7 +33,7 @@ fn what_is_planted_in_a_small_object_is_found() {
     for planted in include_str!("planted.c").split("\n// ").skip(1) {
         let (front, planted) = planted.split_once('\n').unwrap_or((planted, ""));
         let object = Object::read("objdump", &compile("planted", planted)).unwrap();
-        let complaints = complaints(&object);
+        let complaints = complaints(&object, &[FILL, COMPARE]);
         let found = complaints.iter().any(|complaint| complaint.starts_with(front));
         let right = found || front == "no complaint" && complaints.is_empty();
         assert!(right, "{planted}\n{front}\n{complaints:#?}");
@@ -41,14 +41,14 @@ fn what_is_planted_in_a_small_object_is_found() {
 }
 
 #[test]
-fn a_list_is_found_in_the_archive_and_in_the_program() {
+fn a_list_is_found_in_the_archive_and_in_either_program() {
     let (list, planted) = (scratch("weights"), scratch("with_weights"));
     fs::write(&list, (13..47).collect::<Vec<u8>>()).unwrap();
-    for (file, _) in compiled() {
+    for (file, weighing, _) in compiled() {
         let section = format!("--add-section=.rodata.weights={}", list.display());
         let flags = "--set-section-flags=.rodata.weights=alloc,readonly,data";
         run(Command::new("objcopy").args([&section, flags]).args([&file, &planted]));
-        let complaints = complaints(&Object::read("objdump", &planted).unwrap());
+        let complaints = complaints(&Object::read("objdump", &planted).unwrap(), weighing);
         let front = ".rodata.weights: at byte 0: 34 entries, 1 apart, rise by 1";
         assert!(complaints.iter().any(|it| it.starts_with(front)), "{file:?}: {complaints:#?}");
     }

@@ -1,4 +1,4 @@
-/* The code of keys in small, which works the weight of a head out from the ranges. What is planted may define its parts anew. */
+/* The code of keys and of comparing in small, which works the weight of a head out from the ranges. What is planted may define its parts anew. */
 typedef unsigned char byte;
 #define IN(name) __attribute__((section(name)))
 #define LIST ".rodata..Lswitch.table."
@@ -15,6 +15,7 @@ typedef unsigned char byte;
 #define W(v) WEIGHT(v),
 #define U(v) UNEVEN(v),
 #define KEY_WEIGHT(head) WEIGHT(head)
+#define COMPARE_WEIGHT(head) WEIGHT(head)
 void step(int);
 int done(void);
 #define CASE(v) case v: step(UNEVEN(v)); done(); break;
@@ -33,3 +34,5 @@ IN(".text." FILL) void fill(const unsigned short *heads, int count, byte *key) {
     for (unsigned head; count--; *key++ = medials[rules_of(head) & 15])
         head = *heads++, *key++ = KEY_WEIGHT(head);
 }
+
+IN(".text.jogcairn_compare") int compare(unsigned one, unsigned other) { return COMPARE_WEIGHT(one) - COMPARE_WEIGHT(other); }
