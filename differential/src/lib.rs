@@ -30,5 +30,5 @@ pub use outcome::{Answer, Outcome};
 pub use proved::Proved;
 pub use reference::Reference;
 pub use report::Report;
-pub use running::{difference, run, Difference, Finding};
+pub use running::{answered, difference, run, Difference, Finding};
 pub use shrinking::smallest;

@@ -5,6 +5,7 @@ use crate::cases::Cases;
 use crate::counts::Counts;
 use crate::library::Library;
 use crate::outcome::Outcome;
+use crate::reference::Reference;
 use crate::shrinking::smallest;
 
 /// The outcomes of a case, where they differ.
@@ -53,4 +54,16 @@ pub fn run(
         cases.take_note(&case, &expected);
     }
     (counts, None)
+}
+
+/// The first inputs of a seed, each with what the other implementation answers to it.
+pub fn answered(seed: u64, inputs: usize) -> Vec<(Case, Outcome)> {
+    let mut cases = Cases::new(seed);
+    let mut next = || {
+        let case = cases.next_case();
+        let outcome = Reference.outcome(&case);
+        cases.take_note(&case, &outcome);
+        (case, outcome)
+    };
+    (0..inputs).map(|_| next()).collect()
 }

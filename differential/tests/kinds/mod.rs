@@ -1,7 +1,6 @@
 //! Kinds of inputs.
 
-use differential::cases::Cases;
-use differential::{Answer, Case, Library, Outcome, Reference};
+use differential::{answered, Answer, Case, Outcome};
 use std::sync::LazyLock;
 
 /// Whether the case is of the kind.
@@ -11,16 +10,7 @@ pub type Kind = fn(&Case, &Outcome) -> bool;
 pub const INPUTS: usize = 100_000;
 
 /// The inputs, with what the other implementation answers to them.
-static ANSWERED: LazyLock<Vec<(Case, Outcome)>> = LazyLock::new(|| {
-    let mut cases = Cases::new(1);
-    let mut answered = || {
-        let case = cases.next_case();
-        let outcome = Reference.outcome(&case);
-        cases.take_note(&case, &outcome);
-        (case, outcome)
-    };
-    (0..INPUTS).map(|_| answered()).collect()
-});
+static ANSWERED: LazyLock<Vec<(Case, Outcome)>> = LazyLock::new(|| answered(1, INPUTS));
 
 /// Shows that inputs of each kind are made.
 pub fn demand(kinds: &[(&str, Kind)]) {
