@@ -45,6 +45,7 @@ pub fn all() -> Play {
     play.scene("rooms", listings::rooms);
     play.scene("no books", listings::no_books);
     play.scene("beginnings", beginnings::beginnings);
+    play.scene("markless", beginnings::markless);
     play.scene("long beginnings", beginnings::long_beginnings);
     play.scene("refused queries", beginnings::refused_queries);
     play.scene("changed beginnings", beginnings::changed_beginnings);

@@ -67,7 +67,7 @@ const OTHERS: [&[u16]; 12] = [
 /// The family in any order, some of it removed: every beginning typed in some way,
 /// with room for what it finds or without.
 pub fn beginnings(play: &mut Play, random: &mut Random) {
-    for round in 0..4 {
+    for round in 0..3 {
         let mut words = FAMILY;
         random.shuffle(&mut words);
         play.new_book(FAMILY.iter().map(|word| BOOK_RECORD_HEAD + word.len()).sum());
@@ -75,7 +75,7 @@ pub fn beginnings(play: &mut Play, random: &mut Random) {
             let _ = play.add(word, stock(random));
         }
         for word in words {
-            if random.chance(round * 15) {
+            if random.chance(round * 20) {
                 let _ = play.remove(word);
             }
         }
@@ -84,6 +84,35 @@ pub fn beginnings(play: &mut Play, random: &mut Random) {
         }
         for room in 0..=7 {
             let _ = play.find_prefix(&[0x1010, 0x1000, 0x103A], room);
+        }
+    }
+}
+
+/// Heads that take a final and a tone, and no marks.
+const MARKLESS: [u16; 8] = [0x1023, 0x1024, 0x1025, 0x1026, 0x1027, 0x1029, 0x102A, 0x104E];
+
+/// What such a head carries: nothing, a tone, a final of each kind, two finals.
+const CARRIED: [&[u16]; 8] = [
+    &[],
+    &[0x1038],
+    &[0x1000, 0x103A],
+    &[0x1000, 0x103A, 0x1037],
+    &[0x1000, 0x103A, 0x1005, 0x103A],
+    &[0x1000, 0x103A, 0x1005, 0x103A, 0x1038],
+    &[0x1000, 0x1039, 0x1000],
+    &[0x103F],
+];
+
+/// Each such head with all that it carries, in a book of its own, and what its first
+/// syllables find.
+pub fn markless(play: &mut Play, random: &mut Random) {
+    for head in MARKLESS {
+        play.new_book(CARRIED.iter().map(|it| BOOK_RECORD_HEAD + 1 + it.len()).sum());
+        for carried in CARRIED {
+            let _ = play.add(&[&[head], carried].concat(), stock(random));
+        }
+        for query in [&[][..], CARRIED[2], CARRIED[4]] {
+            let _ = play.find_prefix(&[&[head], query].concat(), 2);
         }
     }
 }

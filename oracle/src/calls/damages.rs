@@ -73,24 +73,22 @@ fn changed(play: &mut Play, random: &mut Random, place: usize, byte: u8) {
 }
 
 /// Buffers put together by hand: marks, counts and words of every wrong kind, each
-/// alone, and each behind a record that is right.
+/// alone with some bytes behind it, and each behind a record, live or removed.
 pub fn made_by_hand(play: &mut Play, random: &mut Random) {
-    let right = record(b"MW", 2, &[0x05, 0x2C]);
+    let (right, removed) = (record(b"MW", 2, &[0x05, 0x2C]), record(b"M-", 1, &[0x26]));
     for bytes in hand_made() {
-        for before in [&[][..], &right, &record(b"M-", 1, &[0x26])] {
-            for behind in [0, 1, 9] {
-                let whole = [before, &bytes].concat();
-                play.new_book(whole.len() + behind);
-                play.poke_all(0, &whole);
-                let _ = play.check();
-                let _ = match random.below(4) {
-                    0 => play.find(&[0x1005, 0x102C]),
-                    1 => play.remove(&[0x1000]),
-                    2 => play.tidy(),
-                    _ => play.add(&[0x1000], stock(random)),
-                };
-                let _ = play.rank(random.below(3) as u32);
-            }
+        for (before, behind) in [(&[][..], 0), (&[], 1), (&[], 9), (&right, 0), (&removed, 0)] {
+            let whole = [before, &bytes].concat();
+            play.new_book(whole.len() + behind);
+            play.poke_all(0, &whole);
+            let _ = play.check();
+            let _ = match random.below(4) {
+                0 => play.find(&[0x1005, 0x102C]),
+                1 => play.remove(&[0x1000]),
+                2 => play.tidy(),
+                _ => play.add(&[0x1000], stock(random)),
+            };
+            let _ = play.rank(random.below(3) as u32);
         }
     }
 }
@@ -174,9 +172,10 @@ fn hand_made() -> Vec<Vec<u8>> {
     ]
 }
 
-/// Books with bytes changed by chance, mostly such as stand in books.
+/// Books with bytes changed by chance, mostly such as stand in books: a few, since
+/// random calls meet many more.
 pub fn any_damage(play: &mut Play, random: &mut Random) {
-    for _ in 0..60 {
+    for _ in 0..12 {
         let size = random.between(30, 200);
         play.new_book(size);
         let words: Vec<Vec<u16>> = (0..random.between(2, 7)).map(|_| short(random)).collect();

@@ -61,18 +61,26 @@ pub fn filled(play: &mut Play, random: &mut Random) {
     let about_the_longest = [LONGEST, LONGEST + 1, LONGEST + SHORTEST];
     let sizes = [&[9, 20][..], &about_the_longest, &[100, 2 * LONGEST, 200, 300, 500, 900]];
     for size in sizes.concat() {
-        for _ in 0..3 {
-            play.new_book(size);
-            fill(play, random, size, short);
-        }
+        play.new_book(size);
+        fill(play, random, size, short);
     }
 }
 
-/// The longest book, filled with the longest words and then to the last byte. Where
-/// the one shorter record is removed, no other has room; then some records go, half of
-/// them, and all.
+/// Puts the longest record of a number there, byte by byte: its word is 1000 alone, but
+/// for one value that no other of them has at its place.
+pub fn put_longest(play: &mut Play, number: usize) {
+    let start = number * LONGEST;
+    play.poke_all(start, &[b'M', b'W', WORD_LIMIT as u8]);
+    let place = start + BOOK_RECORD_HEAD + number % WORD_LIMIT;
+    play.poke(place, 1 + (number / WORD_LIMIT) as u8);
+}
+
+/// The longest book, filled with the longest words, of which the last few are added,
+/// and then to the last byte. Where the one shorter record is removed, no other has
+/// room; then some records go, half of them, and all.
 pub fn filled_to_the_limit(play: &mut Play, random: &mut Random) {
     play.new_book(BOOK_LIMIT);
+    (0..BOOK_LIMIT / LONGEST - 8).for_each(|number| put_longest(play, number));
     fill(play, random, BOOK_LIMIT, |random| of_length(random, WORD_LIMIT));
     let longest = (BOOK_LIMIT / LONGEST) as u32;
     let about_the_last = [longest - 3, longest - 1, longest, longest + 1, longest + 2];
@@ -102,10 +110,11 @@ fn remove_at(play: &mut Play, starts: impl IntoIterator<Item = usize>) {
 /// A book of several hundred records, so that chains of a hash meet; words that come
 /// and go in it, and records that are made live again beside a live one.
 pub fn many_records(play: &mut Play, random: &mut Random) {
-    play.new_book(4500);
+    const RECORDS: usize = 300;
+    play.new_book(RECORDS * (BOOK_RECORD_HEAD + 4));
     let mut words: Vec<Vec<u16>> = Vec::new();
     let mut starts: Vec<usize> = Vec::new();
-    while words.len() < 420 {
+    while words.len() < RECORDS {
         let length = random.between(1, 3);
         let word = of_length(random, length);
         if let Ok((start, _)) = play.add(&word, stock(random)) {
@@ -113,7 +122,7 @@ pub fn many_records(play: &mut Play, random: &mut Random) {
             starts.push(start);
         }
     }
-    for round in 0..60 {
+    for round in 0..30 {
         let chosen = random.below(words.len());
         let word = words[chosen].clone();
         let _ = play.find(&word);
@@ -128,8 +137,8 @@ pub fn many_records(play: &mut Play, random: &mut Random) {
             play.poke(removed + 1, 0x2D);
         }
     }
-    for rank in (0..=420).step_by(20) {
-        let _ = play.rank(rank);
+    for rank in (0..=RECORDS).step_by(20) {
+        let _ = play.rank(rank as u32);
     }
     for head in 0x1000..=0x1005 {
         let found = play.find_prefix(&[head], 0).map_or_else(|short| short.place, |(live, _)| live);

@@ -8,14 +8,14 @@ use crate::random::Random;
 /// Books of some words, some of them removed: the order with every room that is near
 /// enough, and every byte asked for as a start.
 pub fn listings(play: &mut Play, random: &mut Random) {
-    for round in 0..7 {
+    for round in 0..3 {
         let size = random.between(40, 120);
         play.new_book(size);
         let _ = play.order(0);
         let mut words: Vec<Vec<u16>> = (0..random.between(1, 9)).map(|_| short(random)).collect();
         words.retain(|word| play.add(word, stock(random)).is_ok());
         for word in &words {
-            if random.chance(round * 9) {
+            if random.chance(round * 20) {
                 let _ = play.remove(word);
             }
         }
@@ -46,7 +46,7 @@ pub fn rooms(play: &mut Play, random: &mut Random) {
 
 /// Buffers that are no book.
 pub fn no_books(play: &mut Play, random: &mut Random) {
-    for _ in 0..20 {
+    for _ in 0..10 {
         play.new_book(60);
         for _ in 0..3 {
             let _ = play.add(&short(random), stock(random));

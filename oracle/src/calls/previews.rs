@@ -1,7 +1,7 @@
 //! Adds that are previewed, and then done: each answer of a preview stands before the one
 //! of its add.
 
-use super::fillings::add_until_full;
+use super::fillings::{add_until_full, put_longest};
 use super::play::{Answer, Play};
 use super::tidyings::add_to_the_last_byte;
 use super::words::{of_length, refused, respelled, short, stock};
@@ -44,7 +44,7 @@ pub fn turns(play: &mut Play, random: &mut Random) {
     for size in [25, 45, 90, 400] {
         play.new_book(size);
         let words: Vec<Vec<u16>> = (0..random.between(3, 6)).map(|_| short(random)).collect();
-        for _ in 0..40 {
+        for _ in 0..25 {
             let word = &words[random.below(words.len())];
             let word = respelled(random, word);
             let _ = match random.below(10) {
@@ -64,11 +64,7 @@ pub fn limits(play: &mut Play, random: &mut Random) {
     const RECORDS: usize = 40;
     let (record, free) = (BOOK_RECORD_HEAD + WORD_LIMIT, 15);
     play.new_book(RECORDS * record + free);
-    for number in 0..RECORDS {
-        // The word is 1000 alone, but for another value at a place of its own.
-        play.poke_all(number * record, &[b'M', b'W', WORD_LIMIT as u8]);
-        play.poke(number * record + BOOK_RECORD_HEAD + number, 0x05);
-    }
+    (0..RECORDS).for_each(|number| put_longest(play, number));
     let fitting = free - BOOK_RECORD_HEAD;
     let words = [fitting, fitting + 1].map(|length| of_length(random, length));
     for first_removed in [RECORDS, RECORDS - 1, RECORDS / 2] {
@@ -83,7 +79,7 @@ pub fn limits(play: &mut Play, random: &mut Random) {
         let _ = previewed(play, word, stock(random));
     }
     let mut last_live = [0x1000; WORD_LIMIT];
-    last_live[RECORDS / 2 - 1] = 0x1005;
+    last_live[RECORDS / 2 - 1] = 0x1001;
     let _ = play.preview(&last_live, stock(random));
 }
 

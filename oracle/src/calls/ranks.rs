@@ -46,7 +46,7 @@ const CLOSE: [&[u16]; 34] = [
 
 /// Books of close words and of any words, some of them removed.
 pub fn ranks(play: &mut Play, random: &mut Random) {
-    for round in 0..16 {
+    for round in 0..6 {
         play.new_book(600);
         let mut words: Vec<Vec<u16>> = if round % 2 == 0 {
             CLOSE.map(<[u16]>::to_vec).to_vec()
@@ -58,7 +58,7 @@ pub fn ranks(play: &mut Play, random: &mut Random) {
             let _ = play.add(word, stock(random));
         }
         for word in &words {
-            if random.chance(round * 4) {
+            if random.chance(round * 10) {
                 let _ = play.remove(word);
             }
         }

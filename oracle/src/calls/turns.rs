@@ -11,7 +11,7 @@ pub fn turns(play: &mut Play, random: &mut Random) {
     for size in [30, 45, 60, 90, 150, 1000] {
         play.new_book(size);
         let words: Vec<Vec<u16>> = (0..random.between(3, 9)).map(|_| short(random)).collect();
-        for _ in 0..130 {
+        for _ in 0..50 {
             let word = &words[random.below(words.len())];
             let word = respelled(random, word);
             let _ = match random.below(10) {
@@ -44,7 +44,7 @@ pub fn spellings(play: &mut Play, random: &mut Random) {
     for word in words {
         play.new_book(BOOK_RECORD_HEAD + word.len());
         let _ = play.add(&respelled(random, word), stock(random));
-        for _ in 0..8 {
+        for _ in 0..4 {
             let _ = play.find(&respelled(random, word));
             let _ = play.add(&respelled(random, word), stock(random));
         }
