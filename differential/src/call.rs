@@ -1,4 +1,5 @@
-//! The calls that are compared.
+//! The calls that are compared, with a row each: inputs, what is lent, shrinking, counts and what is
+//! printed follow from it.
 
 /// A call of the library, or a type of the crate `jogcairn` that several calls stand behind.
 #[derive(Clone, Copy, Debug, PartialEq, Eq, PartialOrd, Ord)]
@@ -21,7 +22,6 @@ pub enum Call {
     Skeleton,
     LookAlike,
     Decode,
-    BookCheck,
     BookAdd,
     BookPreview,
     BookRemove,
@@ -31,174 +31,328 @@ pub enum Call {
     BookRank,
     BookOrder,
     BookWord,
+    BookCheck,
     BookEntries,
     BookPrefixEntries,
 }
 
-impl Call {
-    /// All calls.
-    pub const ALL: [Call; 29] = [
-        Call::Read,
-        Call::Record,
-        Call::RecordBytes,
-        Call::Part,
-        Call::Syllables,
-        Call::Spell,
-        Call::Write,
-        Call::Normalise,
-        Call::StoredForm,
-        Call::TypedPlace,
-        Call::Key,
-        Call::Compare,
-        Call::WordOrder,
-        Call::Label,
-        Call::Skeleton,
-        Call::LookAlike,
-        Call::Decode,
-        Call::BookCheck,
-        Call::BookAdd,
-        Call::BookPreview,
-        Call::BookRemove,
-        Call::BookTidy,
-        Call::BookFind,
-        Call::BookFindPrefix,
-        Call::BookRank,
-        Call::BookOrder,
-        Call::BookWord,
-        Call::BookEntries,
-        Call::BookPrefixEntries,
-    ];
+/// Which generator makes the inputs of a call.
+#[derive(Clone, Copy, PartialEq, Eq)]
+pub enum Maker {
+    /// That of words and lines.
+    Words,
+    /// That of labels.
+    Labels,
+    /// That of books.
+    Books,
+    /// That of previews.
+    Previews,
+}
 
+/// What an output is of; its room is a number of the case.
+#[derive(Clone, Copy, PartialEq, Eq)]
+pub enum Output {
+    /// Code values or starts.
+    Values,
+    /// Bytes.
+    Bytes,
+}
+
+/// What is known of a call.
+pub struct Row {
+    /// The call.
+    pub call: Call,
     /// The name that is printed.
-    pub const fn name(self) -> &'static str {
-        match self {
-            Call::Read => "read",
-            Call::Record => "record",
-            Call::RecordBytes => "record bytes",
-            Call::Part => "part",
-            Call::Syllables => "syllables",
-            Call::Spell => "spell",
-            Call::Write => "write",
-            Call::Normalise => "normalise",
-            Call::StoredForm => "stored form",
-            Call::TypedPlace => "typed place",
-            Call::Key => "key",
-            Call::Compare => "compare",
-            Call::WordOrder => "order of words",
-            Call::Label => "label",
-            Call::Skeleton => "skeleton",
-            Call::LookAlike => "look alike",
-            Call::Decode => "decode",
-            Call::BookCheck => "book check",
-            Call::BookAdd => "book add",
-            Call::BookPreview => "book preview",
-            Call::BookRemove => "book remove",
-            Call::BookTidy => "book tidy",
-            Call::BookFind => "book find",
-            Call::BookFindPrefix => "book find prefix",
-            Call::BookRank => "book rank",
-            Call::BookOrder => "book order",
-            Call::BookWord => "book word",
-            Call::BookEntries => "book entries",
-            Call::BookPrefixEntries => "book prefix entries",
-        }
-    }
-
+    pub name: &'static str,
+    /// The generator of its inputs.
+    pub maker: Maker,
+    /// How often the generator picks it, beside the others.
+    pub often: usize,
+    /// What the bytes of a case are, if the call takes any.
+    pub bytes: Option<&'static str>,
+    /// How many words are handed in.
+    pub words: usize,
+    /// The outputs, which are lent last.
+    pub outputs: &'static [Output],
+    /// The names of the numbers, the rooms of the outputs first.
+    pub numbers: &'static [&'static str],
     /// The tags that its answers can have: 0 for accepted, a refusal number, or 128 where there is
     /// nothing of the number asked for.
-    pub const fn tags(self) -> &'static [u8] {
-        match self {
-            Call::Read | Call::Syllables | Call::Compare | Call::WordOrder => &[0, 1, 2, 3, 4],
-            Call::Record | Call::Part => &[0, 1, 2, 3, 4, 128],
-            Call::RecordBytes => &[0, 1, 2, 3, 4, 5, 128],
-            Call::Spell | Call::Normalise | Call::Key => &[0, 1, 2, 3, 4, 5],
-            Call::Label | Call::LookAlike => &[0, 1, 2, 3, 4, 21, 22, 23],
-            Call::Skeleton => &[0, 1, 2, 3, 4, 5, 21, 22, 23],
-            Call::StoredForm => &[0, 1, 2, 5],
-            Call::TypedPlace => &[0, 1, 2, 128],
-            Call::Write => &[0, 5, 6],
-            Call::Decode => &[0, 1, 5, 7],
-            Call::BookCheck | Call::BookTidy | Call::BookEntries => &[0, 11],
-            Call::BookAdd | Call::BookPreview => &[0, 1, 2, 3, 4, 8, 11, 12, 14],
-            Call::BookRemove | Call::BookFind => &[0, 1, 2, 3, 4, 8, 11, 13],
-            Call::BookFindPrefix => &[0, 1, 2, 3, 4, 5, 8, 11],
-            Call::BookPrefixEntries => &[0, 1, 2, 3, 4, 8, 11],
-            Call::BookRank => &[0, 11, 15],
-            Call::BookOrder => &[0, 5, 11],
-            Call::BookWord => &[0, 5, 11, 128],
-        }
+    pub tags: &'static [u8],
+    /// What is counted apart: refusals of each of two words, and some of the accepted inputs.
+    pub apart: &'static [&'static str],
+}
+
+/// The tags of what is read.
+const READ: &[u8] = &[0, 1, 2, 3, 4];
+
+/// The row of a call that takes a word.
+const ON_WORD: Row = Row {
+    call: Call::Read,
+    name: "",
+    maker: Maker::Words,
+    often: 1,
+    bytes: None,
+    words: 1,
+    outputs: &[],
+    numbers: &[],
+    tags: READ,
+    apart: &[],
+};
+
+/// The row of a call that takes a word, and an output of values for what it makes of it.
+const TO_VALUES: Row = Row {
+    often: 2,
+    outputs: &[Output::Values],
+    numbers: &["room"],
+    tags: &[0, 1, 2, 3, 4, 5],
+    ..ON_WORD
+};
+
+/// The row of a call that takes a book.
+const ON_BOOK: Row =
+    Row { maker: Maker::Books, bytes: Some("book"), words: 0, tags: &[0, 11], ..ON_WORD };
+
+/// The tags of what is found or removed.
+const FOUND: &[u8] = &[0, 1, 2, 3, 4, 8, 11, 13];
+
+/// The tags of what is added.
+const ADDED: &[u8] = &[0, 1, 2, 3, 4, 8, 11, 12, 14];
+
+/// All calls, in their order.
+pub const ROWS: [Row; 29] = [
+    Row { call: Call::Read, name: "read", often: 2, ..ON_WORD },
+    Row {
+        call: Call::Record,
+        name: "record",
+        numbers: &["number"],
+        tags: &[0, 1, 2, 3, 4, 128],
+        ..ON_WORD
+    },
+    Row {
+        call: Call::RecordBytes,
+        name: "record bytes",
+        outputs: &[Output::Bytes],
+        numbers: &["room", "number"],
+        tags: &[0, 1, 2, 3, 4, 5, 128],
+        ..TO_VALUES
+    },
+    Row {
+        call: Call::Part,
+        name: "part",
+        numbers: &["number"],
+        tags: &[0, 1, 2, 3, 4, 128],
+        ..ON_WORD
+    },
+    Row { call: Call::Syllables, name: "syllables", ..ON_WORD },
+    Row {
+        call: Call::Spell,
+        name: "spell",
+        outputs: &[Output::Values, Output::Values],
+        numbers: &["room", "room for starts"],
+        ..TO_VALUES
+    },
+    Row {
+        call: Call::Write,
+        name: "write",
+        bytes: Some("records"),
+        words: 0,
+        tags: &[0, 5, 6],
+        ..TO_VALUES
+    },
+    Row { call: Call::Normalise, name: "normalise", ..TO_VALUES },
+    Row { call: Call::StoredForm, name: "stored form", tags: &[0, 1, 2, 5], ..TO_VALUES },
+    Row {
+        call: Call::TypedPlace,
+        name: "typed place",
+        often: 2,
+        numbers: &["place"],
+        tags: &[0, 1, 2, 128],
+        ..ON_WORD
+    },
+    Row { call: Call::Key, name: "key", outputs: &[Output::Bytes], ..TO_VALUES },
+    Row {
+        call: Call::Compare,
+        name: "compare",
+        often: 2,
+        words: 2,
+        apart: &["first", "second"],
+        ..ON_WORD
+    },
+    Row {
+        call: Call::WordOrder,
+        name: "order of words",
+        words: 2,
+        apart: &["first", "second"],
+        ..ON_WORD
+    },
+    Row {
+        call: Call::Label,
+        name: "label",
+        maker: Maker::Labels,
+        tags: &[0, 1, 2, 3, 4, 21, 22, 23],
+        ..ON_WORD
+    },
+    Row {
+        call: Call::Skeleton,
+        name: "skeleton",
+        maker: Maker::Labels,
+        often: 1,
+        tags: &[0, 1, 2, 3, 4, 5, 21, 22, 23],
+        ..TO_VALUES
+    },
+    Row {
+        call: Call::LookAlike,
+        name: "look alike",
+        maker: Maker::Labels,
+        words: 2,
+        tags: &[0, 1, 2, 3, 4, 21, 22, 23],
+        apart: &["first", "second", "alike"],
+        ..ON_WORD
+    },
+    Row {
+        call: Call::Decode,
+        name: "decode",
+        bytes: Some("line"),
+        words: 0,
+        tags: &[0, 1, 5, 7],
+        ..TO_VALUES
+    },
+    Row {
+        call: Call::BookAdd,
+        name: "book add",
+        often: 8,
+        words: 1,
+        numbers: &["stock"],
+        tags: ADDED,
+        apart: &["tidied"],
+        ..ON_BOOK
+    },
+    Row {
+        call: Call::BookPreview,
+        name: "book preview",
+        maker: Maker::Previews,
+        words: 1,
+        numbers: &["stock"],
+        tags: ADDED,
+        apart: &["tidies"],
+        ..ON_BOOK
+    },
+    Row { call: Call::BookRemove, name: "book remove", often: 4, words: 1, tags: FOUND, ..ON_BOOK },
+    Row { call: Call::BookTidy, name: "book tidy", often: 2, ..ON_BOOK },
+    Row { call: Call::BookFind, name: "book find", often: 3, words: 1, tags: FOUND, ..ON_BOOK },
+    Row {
+        call: Call::BookFindPrefix,
+        name: "book find prefix",
+        often: 4,
+        words: 1,
+        outputs: &[Output::Values],
+        numbers: &["room"],
+        tags: &[0, 1, 2, 3, 4, 5, 8, 11],
+        ..ON_BOOK
+    },
+    Row {
+        call: Call::BookRank,
+        name: "book rank",
+        often: 3,
+        numbers: &["rank"],
+        tags: &[0, 11, 15],
+        ..ON_BOOK
+    },
+    Row {
+        call: Call::BookOrder,
+        name: "book order",
+        outputs: &[Output::Values],
+        numbers: &["room"],
+        tags: &[0, 5, 11],
+        ..ON_BOOK
+    },
+    Row {
+        call: Call::BookWord,
+        name: "book word",
+        often: 2,
+        outputs: &[Output::Values],
+        numbers: &["room", "start"],
+        tags: &[0, 5, 11, 128],
+        ..ON_BOOK
+    },
+    Row { call: Call::BookCheck, name: "book check", ..ON_BOOK },
+    Row { call: Call::BookEntries, name: "book entries", ..ON_BOOK },
+    Row {
+        call: Call::BookPrefixEntries,
+        name: "book prefix entries",
+        words: 1,
+        tags: &[0, 1, 2, 3, 4, 8, 11],
+        ..ON_BOOK
+    },
+];
+
+impl Call {
+    /// All calls.
+    pub fn all() -> impl Iterator<Item = Call> {
+        ROWS.iter().map(|row| row.call)
+    }
+
+    /// The calls that a generator picks from, each as often as it is picked.
+    pub fn made_by(maker: Maker) -> Vec<Call> {
+        let rows = ROWS.iter().filter(|row| row.maker == maker);
+        rows.flat_map(|row| std::iter::repeat_n(row.call, row.often)).collect()
+    }
+
+    /// What is known of the call.
+    pub fn row(self) -> &'static Row {
+        &ROWS[self as usize]
+    }
+
+    /// The name that is printed.
+    pub fn name(self) -> &'static str {
+        self.row().name
+    }
+
+    /// The tags that its answers can have.
+    pub fn tags(self) -> &'static [u8] {
+        self.row().tags
     }
 
     /// Whether two words are handed in, so that a refusal says which.
-    pub const fn takes_two_words(self) -> bool {
-        matches!(self, Call::Compare | Call::WordOrder | Call::LookAlike)
-    }
-
-    /// What the bytes of a case are, if the call takes any.
-    pub const fn bytes_name(self) -> Option<&'static str> {
-        match self {
-            Call::Write => Some("records"),
-            Call::Decode => Some("line"),
-            Call::BookCheck
-            | Call::BookAdd
-            | Call::BookPreview
-            | Call::BookRemove
-            | Call::BookTidy
-            | Call::BookFind
-            | Call::BookFindPrefix
-            | Call::BookRank
-            | Call::BookOrder
-            | Call::BookWord
-            | Call::BookEntries
-            | Call::BookPrefixEntries => Some("book"),
-            _ => None,
-        }
-    }
-
-    /// What the numbers of a case are.
-    pub const fn number_names(self) -> &'static [&'static str] {
-        match self {
-            Call::Record | Call::Part => &["number"],
-            Call::RecordBytes => &["room", "number"],
-            Call::Spell => &["room", "room for starts"],
-            Call::TypedPlace => &["place"],
-            Call::Write
-            | Call::Normalise
-            | Call::StoredForm
-            | Call::Key
-            | Call::Skeleton
-            | Call::Decode
-            | Call::BookFindPrefix
-            | Call::BookOrder => &["room"],
-            Call::BookWord => &["room", "start"],
-            Call::BookAdd | Call::BookPreview => &["stock"],
-            Call::BookRank => &["rank"],
-            _ => &[],
-        }
+    pub fn takes_two_words(self) -> bool {
+        self.row().words == 2
     }
 
     /// Whether a word is handed in.
-    pub const fn takes_word(self) -> bool {
-        !matches!(
-            self,
-            Call::Write
-                | Call::Decode
-                | Call::BookCheck
-                | Call::BookTidy
-                | Call::BookRank
-                | Call::BookOrder
-                | Call::BookWord
-                | Call::BookEntries
-        )
+    pub fn takes_word(self) -> bool {
+        self.row().words > 0
+    }
+
+    /// Whether a book is handed in.
+    pub fn takes_book(self) -> bool {
+        self.row().bytes == Some("book")
+    }
+
+    /// What the numbers of a case are.
+    pub fn number_names(self) -> &'static [&'static str] {
+        self.row().numbers
     }
 
     /// Whether a record is added to a book, or would be.
-    pub const fn is_add_or_preview(self) -> bool {
+    pub fn is_add_or_preview(self) -> bool {
         matches!(self, Call::BookAdd | Call::BookPreview)
     }
 
     /// Whether the call may change a book.
-    pub const fn changes_book(self) -> bool {
+    pub fn changes_book(self) -> bool {
         matches!(self, Call::BookAdd | Call::BookRemove | Call::BookTidy)
+    }
+}
+
+#[cfg(test)]
+mod tests {
+    use super::*;
+
+    #[test]
+    fn each_call_has_its_row() {
+        for (place, row) in ROWS.iter().enumerate() {
+            assert_eq!(row.call as usize, place, "{}", row.name);
+        }
     }
 }

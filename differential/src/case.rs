@@ -33,7 +33,7 @@ impl Case {
 impl fmt::Display for Case {
     fn fmt(&self, f: &mut fmt::Formatter<'_>) -> fmt::Result {
         write!(f, "{}", self.call.name())?;
-        if let Some(name) = self.call.bytes_name() {
+        if let Some(name) = self.call.row().bytes {
             write!(f, "\n  {name} ({} bytes):", self.bytes.len())?;
             self.bytes.iter().try_for_each(|byte| write!(f, " {byte:02X}"))?;
         }

@@ -2,7 +2,7 @@
 
 use crate::call::Call;
 use crate::outcome::Answer;
-use std::collections::BTreeMap;
+use std::collections::{BTreeMap, BTreeSet};
 use std::fmt;
 use std::iter::once;
 
@@ -12,8 +12,10 @@ pub struct Counts {
     counts: BTreeMap<(Call, u8, u8), usize>,
 }
 
-/// The tags in the order of the columns.
-const COLUMNS: [u8; 18] = [0, 1, 2, 3, 4, 5, 6, 7, 8, 11, 12, 13, 14, 15, 21, 22, 23, 128];
+/// The tags that answers have, in the order of the columns.
+fn columns() -> BTreeSet<u8> {
+    Call::all().flat_map(|call| call.tags()).copied().collect()
+}
 
 /// The row of labels that look alike, behind those of the refused ones.
 const ALIKE: u8 = 3;
@@ -50,7 +52,7 @@ impl Counts {
 
     /// The answers that a call can give and never gave.
     pub fn missing(&self) -> Vec<String> {
-        let rows = Call::ALL.into_iter().flat_map(rows);
+        let rows = Call::all().flat_map(rows);
         let cells = rows.flat_map(|(call, row, name)| {
             tags(call, row).map(move |tag| (call, row, tag, name.clone()))
         });
@@ -64,15 +66,9 @@ impl Counts {
 /// The rows of a call: of two words, refusals of each have a row of their own, and so have the labels
 /// that look alike, the adds that tidied and the previews that tell of tidying.
 fn rows(call: Call) -> Vec<(Call, u8, String)> {
-    let further: &[&str] = match call {
-        Call::Compare | Call::WordOrder => &["first", "second"],
-        Call::LookAlike => &["first", "second", "alike"],
-        Call::BookAdd => &["tidied"],
-        Call::BookPreview => &["tidies"],
-        _ => &[],
-    };
     let name = call.name();
-    let further = further.iter().zip(1..).map(|(what, row)| (call, row, format!("{name}, {what}")));
+    let further =
+        call.row().apart.iter().zip(1..).map(|(what, row)| (call, row, format!("{name}, {what}")));
     once((call, 0, name.to_string())).chain(further).collect()
 }
 
@@ -96,10 +92,10 @@ fn column_name(tag: u8) -> String {
 impl fmt::Display for Counts {
     fn fmt(&self, f: &mut fmt::Formatter<'_>) -> fmt::Result {
         write!(f, "{:22}", "answers")?;
-        COLUMNS.iter().try_for_each(|&tag| write!(f, "{:>9}", column_name(tag)))?;
-        for (call, row, name) in Call::ALL.into_iter().flat_map(rows) {
+        columns().into_iter().try_for_each(|tag| write!(f, "{:>9}", column_name(tag)))?;
+        for (call, row, name) in Call::all().flat_map(rows) {
             write!(f, "\n{name:22}")?;
-            for column in COLUMNS {
+            for column in columns() {
                 if tags(call, row).any(|tag| tag == column) {
                     write!(f, "{:>9}", self.of(call, row, column))?;
                 } else {

@@ -69,9 +69,10 @@ fn shorter_adds(case: &Case) -> impl Iterator<Item = Case> + '_ {
 
 /// The book of a case, if it has one.
 fn book(case: &Case) -> &[u8] {
-    match case.call.bytes_name() {
-        Some("book") => &case.bytes,
-        _ => &[],
+    if case.call.takes_book() {
+        &case.bytes
+    } else {
+        &[]
     }
 }
 

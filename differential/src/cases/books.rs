@@ -1,48 +1,18 @@
 //! Calls on books: on the one that goes on, and on copies of it that were damaged.
 
-use super::near;
 use super::queries::query;
 use super::shelf::{letters, Shelf};
 use super::words::{self, valid};
-use crate::call::Call;
+use super::{near, needed};
+use crate::call::{Call, Maker};
 use crate::case::Case;
 use oracle::limits::{BOOK_LIMIT, BOOK_RECORDS_LIMIT, BOOK_RECORD_HEAD, WORD_LIMIT};
 use oracle::lists::{crowded, row_of_length, shuffle_runs};
 use oracle::random::Random;
+use std::sync::LazyLock;
 
-/// The calls, each as often as it stands here.
-const CALLS: [Call; 30] = [
-    Call::BookAdd,
-    Call::BookAdd,
-    Call::BookAdd,
-    Call::BookAdd,
-    Call::BookAdd,
-    Call::BookAdd,
-    Call::BookAdd,
-    Call::BookAdd,
-    Call::BookRemove,
-    Call::BookRemove,
-    Call::BookRemove,
-    Call::BookRemove,
-    Call::BookTidy,
-    Call::BookTidy,
-    Call::BookFind,
-    Call::BookFind,
-    Call::BookFind,
-    Call::BookFindPrefix,
-    Call::BookFindPrefix,
-    Call::BookFindPrefix,
-    Call::BookFindPrefix,
-    Call::BookRank,
-    Call::BookRank,
-    Call::BookRank,
-    Call::BookOrder,
-    Call::BookWord,
-    Call::BookWord,
-    Call::BookCheck,
-    Call::BookEntries,
-    Call::BookPrefixEntries,
-];
+/// The calls, each as often as it is picked.
+static CALLS: LazyLock<Vec<Call>> = LazyLock::new(|| Call::made_by(Maker::Books));
 
 /// Above so many records a book is ranked only now and then, since that takes long.
 const MANY_RECORDS: usize = 60;
@@ -80,7 +50,8 @@ pub fn of_call(random: &mut Random, shelf: &Shelf, call: Call) -> Case {
             let count = case.bytes.get(start.saturating_add(2)).copied().unwrap_or(0);
             [near(random, usize::from(count)), start]
         }
-        _ => [0; 2],
+        call if call.row().outputs.is_empty() => [0; 2],
+        _ => needed(&case).map(|needed| near(random, needed)),
     };
     case
 }

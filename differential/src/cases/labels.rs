@@ -1,26 +1,29 @@
 //! Calls on labels: on words that are labels or nearly so, and on words that look like them.
 
 use super::{near, needed, words};
-use crate::call::Call;
+use crate::call::{Call, Maker};
 use crate::case::Case;
 use oracle::limits::{LABEL_LIMIT, WORD_LIMIT};
 use oracle::lists::{exchanged, likely_label, long_skeleton};
 use oracle::random::Random;
 use std::mem::swap;
+use std::sync::LazyLock;
+
+/// The calls, each as often as it is picked.
+static CALLS: LazyLock<Vec<Call>> = LazyLock::new(|| Call::made_by(Maker::Labels));
 
 /// A call on labels.
 pub fn case(random: &mut Random) -> Case {
-    let call = random.pick(&[Call::Label, Call::Skeleton, Call::LookAlike]);
+    let call = random.pick(&CALLS);
     let mut case = Case::of_word(call, word(random));
-    match call {
-        Call::Skeleton => case.numbers[0] = near(random, needed(&case)[0]),
-        Call::LookAlike => {
-            case.second = neighbour(random, &case.word);
-            if random.chance(50) {
-                swap(&mut case.word, &mut case.second);
-            }
+    if call.takes_two_words() {
+        case.second = neighbour(random, &case.word);
+        if random.chance(50) {
+            swap(&mut case.word, &mut case.second);
         }
-        _ => {}
+    }
+    if !call.row().outputs.is_empty() {
+        case.numbers[0] = near(random, needed(&case)[0]);
     }
     case
 }

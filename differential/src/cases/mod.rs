@@ -8,7 +8,7 @@ mod records;
 mod shelf;
 mod words;
 
-use crate::call::Call;
+use crate::call::{Call, Maker};
 use crate::case::Case;
 use crate::library::Library;
 use crate::outcome::{Answer, Outcome};
@@ -17,6 +17,7 @@ use oracle::limits::{KEY_SIZE, RECORD_SIZE, SPELLED_LIMIT, WORD_LIMIT};
 use oracle::random::Random;
 use shelf::Shelf;
 use std::mem::swap;
+use std::sync::LazyLock;
 
 /// A maker of inputs. Those on labels, and previews, are made by generators of their own, so that the
 /// others are what they are without them.
@@ -38,33 +39,8 @@ const PREVIEWS_OF_LONG_BOOKS: usize = 25;
 /// Room for whatever a call on a word writes: nothing is longer than a spelled word.
 const ENOUGH: usize = SPELLED_LIMIT;
 
-/// The calls on words and lines, each as often as it stands here.
-const WORD_CALLS: [Call; 24] = [
-    Call::Read,
-    Call::Read,
-    Call::Record,
-    Call::RecordBytes,
-    Call::RecordBytes,
-    Call::Part,
-    Call::Syllables,
-    Call::Spell,
-    Call::Spell,
-    Call::Write,
-    Call::Write,
-    Call::Normalise,
-    Call::Normalise,
-    Call::StoredForm,
-    Call::StoredForm,
-    Call::TypedPlace,
-    Call::TypedPlace,
-    Call::Key,
-    Call::Key,
-    Call::Compare,
-    Call::Compare,
-    Call::WordOrder,
-    Call::Decode,
-    Call::Decode,
-];
+/// The calls on words and lines, each as often as it is picked.
+static WORD_CALLS: LazyLock<Vec<Call>> = LazyLock::new(|| Call::made_by(Maker::Words));
 
 impl Cases {
     /// The inputs of a seed.
@@ -121,10 +97,8 @@ impl Cases {
                 let stored = Case { call: Call::StoredForm, numbers: [ENOUGH; 2], ..case.clone() };
                 [self.number(accepted(&stored)[0]), 0]
             }
-            Call::Spell | Call::Write | Call::Normalise | Call::StoredForm | Call::Decode => {
-                needed(case).map(|needed| self.near(needed))
-            }
-            _ => [0; 2],
+            call if call.row().outputs.is_empty() => [0; 2],
+            _ => needed(case).map(|needed| self.near(needed)),
         }
     }
 
