@@ -38,11 +38,7 @@ pub type Answer = Result<(usize, u32), Refusal>;
 
 /// Makes a call; a change of the array has no answer.
 pub fn proved(call: &Call, array: &mut Array) -> Option<Answer> {
-    let room = match call {
-        Call::FindPrefix(_, room) | Call::Order(room) | Call::Word(_, room) => *room,
-        _ => 0,
-    };
-    array.output = vec![BLANK; room];
+    array.output = vec![BLANK; call.room()];
     let mut book = Book::new(&mut array.bytes[..array.lent]);
     let alone = |number| (number, 0);
     let both = |found: Found| (found.start, found.stock);

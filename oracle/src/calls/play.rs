@@ -39,6 +39,34 @@ pub enum Call {
     Tidy,
 }
 
+impl Call {
+    /// The name by which its answers are counted, and the line that asks for it.
+    fn name_and_line(&self) -> (&'static str, String) {
+        match self {
+            Call::New(length) => ("new", format!("{length:X}n")),
+            Call::Poke(place, byte) => ("poke", format!("{place:X} {byte:X}p")),
+            Call::Check => ("check", String::from("c")),
+            Call::Add(word, stock) => ("add", format!("{}{stock:X}a", values(word))),
+            Call::Preview(word, stock) => ("preview", format!("{}{stock:X}v", values(word))),
+            Call::Remove(word) => ("remove", format!("{}r", values(word))),
+            Call::Find(word) => ("find", format!("{}f", values(word))),
+            Call::FindPrefix(query, room) => ("find prefix", format!("{}{room:X}b", values(query))),
+            Call::Rank(rank) => ("rank", format!("{rank:X}k")),
+            Call::Order(room) => ("order", format!("{room:X}o")),
+            Call::Word(start, room) => ("word", format!("{start:X} {room:X}w")),
+            Call::Tidy => ("tidy", String::from("t")),
+        }
+    }
+
+    /// The room of its output; none where it has no output.
+    pub fn room(&self) -> usize {
+        match self {
+            Call::FindPrefix(_, room) | Call::Order(room) | Call::Word(_, room) => *room,
+            _ => 0,
+        }
+    }
+}
+
 /// What stands in an output before a call.
 pub const BLANK: u16 = 0xA5A5;
 
@@ -212,29 +240,15 @@ impl Play {
         let kind = match (&call, answer) {
             (Call::Add(..), Ok((_, 1))) => String::from("add OK, tidied"),
             (Call::Preview(..), Ok((_, 1))) => String::from("preview OK, tidies"),
-            (_, Ok(_)) => format!("{} OK", name(&call)),
-            (_, Err(refusal)) => format!("{} NO {}", name(&call), refusal.number),
+            (_, Ok(_)) => format!("{} OK", call.name_and_line().0),
+            (_, Err(refusal)) => format!("{} NO {}", call.name_and_line().0, refusal.number),
         };
         *self.counts.entry((self.scene, kind)).or_default() += 1;
         answer
     }
 
     fn note(&mut self, call: &Call) {
-        let line = match call {
-            Call::New(length) => format!("{length:X}n"),
-            Call::Poke(place, byte) => format!("{place:X} {byte:X}p"),
-            Call::Check => String::from("c"),
-            Call::Add(word, stock) => format!("{}{stock:X}a", values(word)),
-            Call::Preview(word, stock) => format!("{}{stock:X}v", values(word)),
-            Call::Remove(word) => format!("{}r", values(word)),
-            Call::Find(word) => format!("{}f", values(word)),
-            Call::FindPrefix(query, room) => format!("{}{room:X}b", values(query)),
-            Call::Rank(rank) => format!("{rank:X}k"),
-            Call::Order(room) => format!("{room:X}o"),
-            Call::Word(start, room) => format!("{start:X} {room:X}w"),
-            Call::Tidy => String::from("t"),
-        };
-        self.input.push_str(&line);
+        self.input.push_str(&call.name_and_line().1);
         self.input.push('\n');
     }
 }
@@ -251,23 +265,6 @@ fn start_and_whether(added: Added) -> (usize, u32) {
 
 fn pair(entry: Entry) -> (usize, u32) {
     (entry.start, entry.stock)
-}
-
-fn name(call: &Call) -> &'static str {
-    match call {
-        Call::New(_) => "new",
-        Call::Poke(..) => "poke",
-        Call::Check => "check",
-        Call::Add(..) => "add",
-        Call::Preview(..) => "preview",
-        Call::Remove(_) => "remove",
-        Call::Find(_) => "find",
-        Call::FindPrefix(..) => "find prefix",
-        Call::Rank(_) => "rank",
-        Call::Order(_) => "order",
-        Call::Word(..) => "word",
-        Call::Tidy => "tidy",
-    }
 }
 
 fn values(word: &[u16]) -> String {
