@@ -50,7 +50,7 @@ impl Arguments {
     /// What the call was lent, in the order of its parameters.
     fn after(self, row: &Row) -> Vec<Memory> {
         let bytes = row.bytes.map(|_| self.bytes.after());
-        let words = [self.word, self.second].into_iter().take(row.words).map(Lent::after);
+        let words = [self.word, self.second].into_iter().take(row.lists.len()).map(Lent::after);
         let first = row.outputs.first().map(|output| match output {
             Output::Values => self.values.after(),
             Output::Bytes => self.written.after(),

@@ -70,8 +70,8 @@ pub struct Row {
     pub often: usize,
     /// What the bytes of a case are, if the call takes any.
     pub bytes: Option<&'static str>,
-    /// How many words are handed in.
-    pub words: usize,
+    /// What its lists of values are, two at most: words, or a query.
+    pub lists: &'static [&'static str],
     /// The outputs, which are lent last.
     pub outputs: &'static [Output],
     /// The names of the numbers, the rooms of the outputs first.
@@ -86,6 +86,11 @@ pub struct Row {
 /// The tags of what is read.
 const READ: &[u8] = &[0, 1, 2, 3, 4];
 
+/// The lists of a call that takes a word, two words, or the beginning of a word.
+const WORD: &[&str] = &["word"];
+const TWO_WORDS: &[&str] = &["first word", "second word"];
+const QUERY: &[&str] = &["query"];
+
 /// The row of a call that takes a word.
 const ON_WORD: Row = Row {
     call: Call::Read,
@@ -93,7 +98,7 @@ const ON_WORD: Row = Row {
     maker: Maker::Words,
     often: 1,
     bytes: None,
-    words: 1,
+    lists: WORD,
     outputs: &[],
     numbers: &[],
     tags: READ,
@@ -111,7 +116,7 @@ const TO_VALUES: Row = Row {
 
 /// The row of a call that takes a book.
 const ON_BOOK: Row =
-    Row { maker: Maker::Books, bytes: Some("book"), words: 0, tags: &[0, 11], ..ON_WORD };
+    Row { maker: Maker::Books, bytes: Some("book"), lists: &[], tags: &[0, 11], ..ON_WORD };
 
 /// The tags of what is found or removed.
 const FOUND: &[u8] = &[0, 1, 2, 3, 4, 8, 11, 13];
@@ -156,7 +161,7 @@ pub const ROWS: [Row; 29] = [
         call: Call::Write,
         name: "write",
         bytes: Some("records"),
-        words: 0,
+        lists: &[],
         tags: &[0, 5, 6],
         ..TO_VALUES
     },
@@ -175,14 +180,14 @@ pub const ROWS: [Row; 29] = [
         call: Call::Compare,
         name: "compare",
         often: 2,
-        words: 2,
+        lists: TWO_WORDS,
         apart: &["first", "second"],
         ..ON_WORD
     },
     Row {
         call: Call::WordOrder,
         name: "order of words",
-        words: 2,
+        lists: TWO_WORDS,
         apart: &["first", "second"],
         ..ON_WORD
     },
@@ -205,7 +210,7 @@ pub const ROWS: [Row; 29] = [
         call: Call::LookAlike,
         name: "look alike",
         maker: Maker::Labels,
-        words: 2,
+        lists: TWO_WORDS,
         tags: &[0, 1, 2, 3, 4, 21, 22, 23],
         apart: &["first", "second", "alike"],
         ..ON_WORD
@@ -214,7 +219,7 @@ pub const ROWS: [Row; 29] = [
         call: Call::Decode,
         name: "decode",
         bytes: Some("line"),
-        words: 0,
+        lists: &[],
         tags: &[0, 1, 5, 7],
         ..TO_VALUES
     },
@@ -222,7 +227,7 @@ pub const ROWS: [Row; 29] = [
         call: Call::BookAdd,
         name: "book add",
         often: 8,
-        words: 1,
+        lists: WORD,
         numbers: &["stock"],
         tags: ADDED,
         apart: &["tidied"],
@@ -232,20 +237,27 @@ pub const ROWS: [Row; 29] = [
         call: Call::BookPreview,
         name: "book preview",
         maker: Maker::Previews,
-        words: 1,
+        lists: WORD,
         numbers: &["stock"],
         tags: ADDED,
         apart: &["tidies"],
         ..ON_BOOK
     },
-    Row { call: Call::BookRemove, name: "book remove", often: 4, words: 1, tags: FOUND, ..ON_BOOK },
+    Row {
+        call: Call::BookRemove,
+        name: "book remove",
+        often: 4,
+        lists: WORD,
+        tags: FOUND,
+        ..ON_BOOK
+    },
     Row { call: Call::BookTidy, name: "book tidy", often: 2, ..ON_BOOK },
-    Row { call: Call::BookFind, name: "book find", often: 3, words: 1, tags: FOUND, ..ON_BOOK },
+    Row { call: Call::BookFind, name: "book find", often: 3, lists: WORD, tags: FOUND, ..ON_BOOK },
     Row {
         call: Call::BookFindPrefix,
         name: "book find prefix",
         often: 4,
-        words: 1,
+        lists: QUERY,
         outputs: &[Output::Values],
         numbers: &["room"],
         tags: &[0, 1, 2, 3, 4, 5, 8, 11],
@@ -281,7 +293,7 @@ pub const ROWS: [Row; 29] = [
     Row {
         call: Call::BookPrefixEntries,
         name: "book prefix entries",
-        words: 1,
+        lists: QUERY,
         tags: &[0, 1, 2, 3, 4, 8, 11],
         ..ON_BOOK
     },
@@ -316,12 +328,7 @@ impl Call {
 
     /// Whether two words are handed in, so that a refusal says which.
     pub fn takes_two_words(self) -> bool {
-        self.row().words == 2
-    }
-
-    /// Whether a word is handed in.
-    pub fn takes_word(self) -> bool {
-        self.row().words > 0
+        self.row().lists == TWO_WORDS
     }
 
     /// Whether a book is handed in.

@@ -37,12 +37,7 @@ impl fmt::Display for Case {
             write!(f, "\n  {name} ({} bytes):", self.bytes.len())?;
             self.bytes.iter().try_for_each(|byte| write!(f, " {byte:02X}"))?;
         }
-        let names: &[&str] = match self.call {
-            call if call.takes_two_words() => &["first word", "second word"],
-            call if call.takes_word() => &["word"],
-            _ => &[],
-        };
-        for (name, word) in names.iter().zip([&self.word, &self.second]) {
+        for (name, word) in self.call.row().lists.iter().zip([&self.word, &self.second]) {
             write!(f, "\n  {name} ({} values):", word.len())?;
             word.iter().try_for_each(|value| write!(f, " {value:04X}"))?;
         }

@@ -6,7 +6,7 @@ use super::words::{self, valid};
 use super::{near, needed};
 use crate::call::{Call, Maker};
 use crate::case::Case;
-use oracle::limits::{BOOK_LIMIT, BOOK_RECORDS_LIMIT, BOOK_RECORD_HEAD, WORD_LIMIT};
+use oracle::limits::{BOOK_LIMIT, BOOK_RECORD_HEAD, WORD_LIMIT};
 use oracle::lists::{crowded, row_of_length, shuffle_runs};
 use oracle::random::Random;
 use std::sync::LazyLock;
@@ -35,23 +35,21 @@ pub fn of_call(random: &mut Random, shelf: &Shelf, call: Call) -> Case {
             damage(random, shelf, &mut case.bytes);
         }
     }
-    case.word = match call {
-        Call::BookFindPrefix | Call::BookPrefixEntries => query(random, shelf),
-        call if call.takes_word() => word(random, shelf, call),
-        _ => Vec::new(),
+    case.word = match call.row().lists {
+        [] => Vec::new(),
+        ["query"] => query(random, shelf),
+        _ => word(random, shelf, call),
     };
-    case.numbers = match call {
-        Call::BookAdd | Call::BookPreview => [stock(random), 0],
-        Call::BookFindPrefix => [near(random, fitting(&case)), 0],
-        Call::BookRank => [rank(random, shelf), 0],
-        Call::BookOrder => [near(random, oracle::book::check(&case.bytes).unwrap_or(0)), 0],
-        Call::BookWord => {
+    case.numbers = match call.number_names() {
+        [] => [0; 2],
+        ["stock"] => [stock(random), 0],
+        ["rank"] => [rank(random, shelf), 0],
+        ["room", "start"] => {
             let start = start(random, shelf);
             let count = case.bytes.get(start.saturating_add(2)).copied().unwrap_or(0);
             [near(random, usize::from(count)), start]
         }
-        call if call.row().outputs.is_empty() => [0; 2],
-        _ => needed(&case).map(|needed| near(random, needed)),
+        _ => [near(random, needed(&case)[0]), 0],
     };
     case
 }
@@ -64,12 +62,6 @@ fn without_sorting(random: &mut Random, call: Call) -> Call {
         Call::BookEntries | Call::BookPrefixEntries => Call::BookCheck,
         call => call,
     }
-}
-
-/// How many live records of a book continue the query; none where there is no book or no query.
-fn fitting(case: &Case) -> usize {
-    let mut starts = [0; BOOK_RECORDS_LIMIT];
-    oracle::book::find_prefix(&case.bytes, &case.word, &mut starts).unwrap_or(0)
 }
 
 /// Where a record starts, or where none does: within one, at the end of the records, or beyond.

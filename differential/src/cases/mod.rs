@@ -13,7 +13,7 @@ use crate::case::Case;
 use crate::library::Library;
 use crate::outcome::{Answer, Outcome};
 use crate::reference::Reference;
-use oracle::limits::{KEY_SIZE, RECORD_SIZE, SPELLED_LIMIT, WORD_LIMIT};
+use oracle::limits::{BOOK_RECORDS_LIMIT, KEY_SIZE, RECORD_SIZE, SPELLED_LIMIT, WORD_LIMIT};
 use oracle::random::Random;
 use shelf::Shelf;
 use std::mem::swap;
@@ -137,7 +137,8 @@ fn syllables(case: &Case) -> usize {
 
 /// How much is written where there is room enough; zeros where the case is refused.
 fn needed(case: &Case) -> [usize; 2] {
-    accepted(&Case { numbers: [ENOUGH; 2], ..case.clone() })
+    let enough = if case.call.takes_book() { BOOK_RECORDS_LIMIT } else { ENOUGH };
+    accepted(&Case { numbers: [enough; 2], ..case.clone() })
 }
 
 /// The numbers with which the other implementation accepts a case; zeros where it does not.
