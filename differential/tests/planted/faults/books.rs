@@ -3,6 +3,7 @@
 use super::made::Made;
 use super::Seen::{Answers, Left};
 use super::{fault, Fault};
+use differential::Answer;
 use differential::Call::{BookAdd, BookRemove, BookTidy};
 use jogcairn::{Book, BOOK_RECORD_HEAD};
 
@@ -47,10 +48,8 @@ pub const FAULTS: &[Fault] = &[
         refuse_as_full(it, it.tag() == 0 && end > 0 && end == it.case.bytes.len(), end)
     }),
     fault(BookTidy, "records before a wrong one tidied", Left(11), |it| {
-        let right = first_free(&it.case.bytes);
-        if it.tag() == 11 && right <= it.case.bytes.len() {
-            // What cannot be tidied stays as it is.
-            let _ = Book::new(&mut it.book()[..right]).tidy();
+        if let Answer::Refused { number: 11, place, .. } = it.answer {
+            Book::new(&mut it.book()[..place]).tidy().expect("a book");
         }
     }),
     fault(BookTidy, "a zero behind the book", Left(0), |it| {
@@ -195,7 +194,7 @@ fn refuse_as_full(it: &mut Made, does: bool, place: usize) {
 
 /// Whether an add tidied.
 fn tidied(it: &Made) -> bool {
-    matches!(&it.answer, differential::Answer::Accepted(numbers) if numbers[1] == 1)
+    matches!(&it.answer, Answer::Accepted(numbers) if numbers[1] == 1)
 }
 
 /// Tidies what an add left that had room behind the last record, where there is something to tidy.
