@@ -1,4 +1,6 @@
 // What follows the number of a line that is refused, in the same words whatever is asked of the line.
+#![tactic(auto)]
+
 ghost use Rattle.std.specs.Prelude.{◌+◌, ◌≤◌, length};
 ghost use Rattle.refusals.specs.Refusal.{number_of, place_of};
 ghost use Rattle.answer_text.specs.Answer.{refused_text, answer_text_limit};

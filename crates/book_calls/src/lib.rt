@@ -1,4 +1,6 @@
 // The calls on a book that take no word, for every buffer.
+#![tactic(auto)]
+
 ghost use Rattle.std.specs.Prelude.{◌≡◌};
 ghost use Rattle.refusals.specs.Outcome.{outcome_of, reply_outcome};
 ghost use Rattle.entries.specs.Entries.{entries};

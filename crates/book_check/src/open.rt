@@ -12,7 +12,7 @@ use memory::casts::wide;
 pub const BOOK_LIMIT: usize = 16384;
 
 // What a buffer is: a book, with the number of its live records and its first free byte, or none, with the first wrong place.
-#[derive(Drop)]
+#[derive(Clone, Copy)]
 pub enum Opening {
     Book { live: usize, free: usize },
     Wrong(usize),

@@ -1,4 +1,6 @@
 // The records whose keys begin with the weights of a query.
+#![tactic(auto)]
+
 ghost use Rattle.std.specs.Prelude.{◌≡◌};
 ghost use Rattle.book_fitting.specs.Fitting.{has_prefix, KeyWithin, AllWithin, KeptRight};
 

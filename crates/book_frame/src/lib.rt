@@ -1,4 +1,6 @@
 // The record at a place of a buffer: its mark, its count, and whether its word is readable.
+#![tactic(auto)]
+
 ghost use Rattle.std.specs.Prelude.{◌≡◌, ◌&&◌, ◌++◌, map, ◌+◌, ◌≤◌, ◌<◌, eqb, length, get_or, take, drop};
 ghost use Rattle.formula.specs.Limits.{limit};
 ghost use Rattle.entries.specs.Limits.{book_limit};

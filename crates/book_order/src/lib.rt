@@ -1,4 +1,6 @@
 // Two records of a book in word order.
+#![tactic(auto)]
+
 ghost use Rattle.std.specs.Prelude.{◌≡◌, ◌+◌, ◌*◌, ◌≤◌, ◌<◌, length, get_or, take, drop};
 ghost use Rattle.weighing.specs.Order.{order_values, front_of};
 ghost use Rattle.entries.specs.Limits.{book_limit};

@@ -1,4 +1,6 @@
 // The record that starts at a place of a book: its word, its stock number, and whether it is live.
+#![tactic(auto)]
+
 ghost use Rattle.std.specs.Prelude.{◌≤◌, T, length};
 ghost use Rattle.refusals.specs.Outcome.{reply_outcome};
 ghost use Rattle.entries.specs.Limits.{book_limit};

@@ -6,7 +6,7 @@ use formula::Word;
 use refusals::Counted;
 
 // The weights of a word, six bytes a syllable and zeros behind them, with the number of syllables; zeros with a refusal.
-#[derive(Drop)]
+#[derive(Clone, Copy)]
 pub struct Key {
     pub answer: Counted,
     pub bytes: [u8; Word::KEY],

@@ -1,10 +1,12 @@
 // The word type with its limits, and how far a word is read. What a syllable and a row of syllables are is said in specs/.
+#![tactic(auto)]
+
 ghost use Rattle.std.specs.Prelude.{◌≡◌, []};
 ghost use Rattle.formula.specs.Held.{word_of};
 ghost use Rattle.formula.specs.Packed.{unread};
 
 // A word by value: the first `count` of `values`; the others are zero.
-#[derive(Drop)]
+#[derive(Clone, Copy)]
 pub struct Word {
     pub values: [u16; Word::LIMIT],
     pub count: usize,
@@ -54,7 +56,7 @@ impl Word {
 
 // How far a word is read: the number of its syllables so far; the last of them, packed in one number; and the one before it, with the last head as
 // its final and the link left out.
-#[derive(Drop)]
+#[derive(Clone, Copy)]
 pub struct Window {
     pub count: usize,
     pub last: u64,

@@ -1,4 +1,6 @@
 // Numbers, keys, values and single bytes as text, written into a lent list at a place. Each function answers the place behind what it wrote.
+#![tactic(auto)]
+
 ghost use Rattle.std.specs.Prelude.{suc, ◌+◌, ◌*◌, ◌≤◌, ◌<◌, ◌≡◌, [], ◌∷◌, length};
 ghost use Rattle.formula.specs.Limits.{limit};
 ghost use Rattle.key_text.specs.Text.{digit_of, decimal_of, hexadecimal_of, hyphen_behind, syllable_text, key_text, value_text, values_text};

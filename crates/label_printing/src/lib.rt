@@ -1,4 +1,6 @@
 // What is printed for a line behind its number where labels are asked for: the skeleton of its label, or why it is refused.
+#![tactic(auto)]
+
 ghost use Rattle.std.specs.Prelude.{◌+◌, ◌≤◌, length};
 ghost use Rattle.memory.specs.Put.{PutWithin};
 ghost use Rattle.skeletons.specs.Skeleton.{skeleton_limit};

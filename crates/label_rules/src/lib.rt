@@ -1,4 +1,6 @@
 // The three rules that a label meets, tested over the stored form of a word.
+#![tactic(auto)]
+
 ghost use Rattle.std.specs.Prelude.{◌≡◌, ◌<◌, length, ◌||◌};
 ghost use Rattle.std.proofs.Math.ListN.{get_elem?};
 ghost use Rattle.letters.specs.Letters.{is_stop, is_sign};

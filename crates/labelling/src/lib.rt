@@ -1,4 +1,6 @@
 // Labels of a web shop: whether a word is one, and its skeleton. Each word is normalised first; a row of syllables is its own stored form.
+#![tactic(auto)]
+
 ghost use Rattle.std.specs.Prelude.{◌≡◌, ◌≤◌, leb, length};
 ghost use Rattle.refusals.specs.Outcome.{outcome_of};
 ghost use Rattle.recogniser.specs.Answer.{Reads, Readable};

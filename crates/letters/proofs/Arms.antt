@@ -7,7 +7,7 @@ use mathlib.Core.List.{List, [], ◌∷◌, map}
 use Prim.Native.Nat.{ℕ}
 use lib.Dec.{T}
 use lib.ListN.{length, replicate}
-use mir.Syntax.{Body, skip, seq, assign, block, loop, cond, switch, exit, return, call, Arms, arm, default, no_default}
+use mir.Syntax.{Body, skip, seq, assign, block, loop, cond, switch, exit, return, unreachable, call, call_v, lend_static, Arms, arm, default, no_default}
 use mir.Val.{has_key}
 use types.Run.{OneOf, hit}
 use Rattle.letters.proofs.Picks.{or_no}
@@ -31,6 +31,9 @@ arms_of (cond test first second) = []
 arms_of (exit depth) = []
 arms_of return = []
 arms_of (call name arguments place) = []
+arms_of unreachable = []
+arms_of (call_v a b c d) = []
+arms_of (lend_static a b c) = []
 
 -- f is r at each of the arm's keys, so it is at x
 pub same_at : {A : Type 0} (f : ℕ → A) (r : A) (ks : List ℕ) → replicate (length ks) r ≡ map f ks → (x : ℕ) → OneOf ks x → r ≡ f x

@@ -12,7 +12,7 @@ const MEDIAL_WEIGHTS: [u8; 16] = [
 ];
 
 // What a value or a set weighs, where it is of the class that is asked about.
-#[derive(Drop)]
+#[derive(Clone, Copy)]
 pub enum Weighed {
     Weight(u8),
     Nothing,

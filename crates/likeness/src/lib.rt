@@ -1,4 +1,6 @@
 // Whether two labels look alike: whether their skeletons are the same.
+#![tactic(auto)]
+
 ghost use Rattle.std.specs.Prelude.{◌≡◌};
 ghost use Rattle.refusals.specs.Pair.{pair_outcome_of};
 ghost use Rattle.likeness.specs.Likeness.{LookAlikeAnswers, likeness_of};

@@ -1,4 +1,6 @@
 // What is printed for a line: its number, and the answer to what is asked of it.
+#![tactic(auto)]
+
 ghost use Rattle.std.specs.Prelude.{◌+◌, ◌≤◌, length};
 ghost use Rattle.answer_text.specs.Answer.{answer_text_limit, AnswerPut};
 ghost use Rattle.line_printing.specs.Printed.{Answers, printed_limit, LinePut};
@@ -12,7 +14,7 @@ use printing::put_word;
 pub const PRINTED_LIMIT: usize = DECIMAL_LIMIT + 1 + ANSWER_TEXT_LIMIT + 1;
 
 // What is asked of each line of a list: the key of its word, or the skeleton of its label.
-#[derive(Drop)]
+#[derive(Clone, Copy)]
 pub enum Task {
     Words,
     Labels,

@@ -1,5 +1,7 @@
 // A chunk of input to lines. A line may begin in one chunk and end in another, so its first bytes are held beside the
 // chunk, pending.
+#![tactic(auto)]
+
 ghost use Rattle.std.specs.Prelude.{◌≤◌, length};
 ghost use Rattle.line_splitting.specs.Taken.{held_limit, EndFound, Holds, Ready, Taken};
 ghost use Rattle.line_splitting.specs.Following.{Passes};
@@ -13,7 +15,7 @@ pub const HELD_LIMIT: usize = Word::LINE_LIMIT + 1;
 
 // How far a chunk is: the place in it, how many bytes of the open line are held, the number of the last line that ended, and how many
 // bytes of the output are used.
-#[derive(Drop)]
+#[derive(Clone, Copy)]
 pub struct Progress {
     pub at: usize,
     pub held: usize,

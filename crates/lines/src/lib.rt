@@ -1,4 +1,6 @@
 // A line of UTF-8 bytes as code values: the word that it holds, or why it is refused.
+#![tactic(auto)]
+
 ghost use Rattle.std.specs.Prelude.{◌≡◌, ◌≤◌, length};
 ghost use Rattle.lines.specs.Line.{is_three, DecodeRight, refused_line};
 ghost use Rattle.lines.specs.Three.{three_of, three_at};
@@ -7,14 +9,14 @@ use formula::Word;
 use refusals::{Counted, Refusal};
 
 // How many values a line has, and beside it the word; where the line is refused, a word of no values.
-#[derive(Drop)]
+#[derive(Clone, Copy)]
 pub struct Decoded {
     pub answer: Counted,
     pub word: Word,
 }
 
 // What three bytes are.
-#[derive(Drop)]
+#[derive(Clone, Copy)]
 enum Three {
     Value(u16),
     Faulty,

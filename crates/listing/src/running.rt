@@ -11,7 +11,7 @@ use line_splitting::{HELD_LIMIT, Progress, pass_chunk};
 const CALLS: u64 = 0x4000_0000_0000;
 
 // What a read or a write did: it moved bytes, met the end of the input (a write: took nothing), was interrupted by a signal, or failed.
-#[derive(Drop)]
+#[derive(Clone, Copy)]
 enum Transfer {
     Bytes(usize),
     End,
@@ -20,7 +20,7 @@ enum Transfer {
 }
 
 // What a read brought: the answer of the call, the error number that it left, what the two mean, and how many calls were left then.
-#[derive(Drop)]
+#[derive(Clone, Copy)]
 struct Input {
     answer: isize,
     error: i32,
@@ -30,7 +30,7 @@ struct Input {
 
 // The line that is open between two reads: how many of its bytes are held, and the number of the last line that ended. All that was
 // printed is written by then, so nothing here counts it.
-#[derive(Drop)]
+#[derive(Clone, Copy)]
 struct OpenLine {
     held: usize,
     number: u64,
@@ -38,7 +38,7 @@ struct OpenLine {
 
 // How a chunk ended: with all that is printed for its lines written, or with a write that failed. Each tells how many bytes the writes
 // took, and the latter how many that were ready they did not.
-#[derive(Drop)]
+#[derive(Clone, Copy)]
 enum Passed {
     Whole { line: OpenLine, taken: usize },
     Stopped { taken: usize, missing: usize },

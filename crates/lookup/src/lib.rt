@@ -1,4 +1,6 @@
 // Where a word stands in a book: a pass over the records of a buffer that is opened.
+#![tactic(auto)]
+
 ghost use Rattle.std.specs.Prelude.{◌≡◌, ◌&&◌, map, ◌+◌, ◌≤◌, ◌<◌, T, eqb, length, get_or, take, drop};
 ghost use Rattle.formula.specs.Lists.{same_list};
 ghost use Rattle.entries.specs.Limits.{book_limit, head_size};
@@ -11,7 +13,7 @@ use book_frame::{HEAD, has_mark, value_of};
 use memory::casts::wide;
 
 // What a buffer says of a word: it is no book, the word's live record, or that there is none, with the first free byte and the live length.
-#[derive(Drop)]
+#[derive(Clone, Copy)]
 pub enum Look {
     Wrong(usize),
     Live { start: usize, stock: u32 },

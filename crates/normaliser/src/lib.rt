@@ -1,4 +1,6 @@
 // The normaliser: a word of any values to its stored form, which is then read.
+#![tactic(auto)]
+
 ghost use Rattle.std.specs.Prelude.{◌≡◌};
 ghost use Rattle.refusals.specs.Outcome.{outcome_of};
 ghost use Rattle.refusals.specs.Output.{Puts};
@@ -13,7 +15,7 @@ pub mod form; // form.rt: the stored form of any word
 pub mod typed; // typed.rt: where a value of the stored form was typed
 
 // A stored word by value, and how it reads. With a refusal the word is empty.
-#[derive(Drop)]
+#[derive(Clone, Copy)]
 struct Normalised {
     answer: Counted,
     word: Word,

@@ -1,4 +1,6 @@
 // A record, a key and a decoded line, written to lent output.
+#![tactic(auto)]
+
 ghost use Rattle.refusals.specs.Outcome.{outcome_of, reply_outcome};
 ghost use Rattle.outputs.specs.Outputs.{RecordWritten, KeyWritten, DecodeWritten};
 

@@ -1,4 +1,6 @@
 // Answers as one number of 64 bits each, for callers in other languages.
+#![tactic(auto)]
+
 ghost use Rattle.std.specs.Prelude.{◌≡◌};
 ghost use Rattle.refusals.specs.Refusal.{number_of, place_of};
 ghost use Rattle.refusals.specs.Outcome.{outcome_of, reply_outcome};

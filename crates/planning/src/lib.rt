@@ -1,4 +1,6 @@
 // The answers of find, add and remove to a word in storage order, decided by reading alone.
+#![tactic(auto)]
+
 ghost use Rattle.std.specs.Prelude.{◌≡◌, List};
 ghost use Rattle.refusals.specs.Outcome.{outcome_of, reply_outcome};
 ghost use Rattle.entries.specs.Entries.{Entry, entries};
@@ -26,7 +28,7 @@ pub fn find(book: &[u8], word: &[u16]) -> Reply
 
 // What add does: it refuses, or it puts a record behind the last one, or, where the record fits only then, behind the live records of the tidied book. The
 // records that are tidied end at `free`.
-#[derive(Drop)]
+#[derive(Clone, Copy)]
 pub enum Plan {
     Refused(Refusal),
     Behind { start: usize },
@@ -34,7 +36,7 @@ pub enum Plan {
 }
 
 // What a preview tells: the answer of add, the byte where its record would start, and whether it would tidy.
-#[derive(Drop)]
+#[derive(Clone, Copy)]
 pub struct Preview {
     pub answer: Reply,
     pub start: usize,

@@ -1,4 +1,6 @@
 // The live records of a book whose words begin with the syllables of a query, in word order.
+#![tactic(auto)]
+
 ghost use Rattle.refusals.specs.Outcome.{outcome_of};
 ghost use Rattle.recogniser.specs.Answer.{Readable};
 ghost use Rattle.book_keys.specs.Filing.{row_of};

@@ -1,4 +1,6 @@
 // What is printed for a line behind its number: the key of its word, or why it is refused.
+#![tactic(auto)]
+
 ghost use Rattle.std.specs.Prelude.{◌+◌, ◌≤◌, ◌≡◌, length};
 ghost use Rattle.formula.specs.Limits.{limit};
 ghost use Rattle.memory.specs.Put.{PutWithin};

@@ -1,4 +1,6 @@
 // The live records of a book in word order: all of them, and the one with so many before it.
+#![tactic(auto)]
+
 ghost use Rattle.std.specs.Prelude.{◌≡◌};
 ghost use Rattle.refusals.specs.Outcome.{outcome_of, reply_outcome};
 ghost use Rattle.entries.specs.Entries.{entries};

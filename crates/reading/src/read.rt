@@ -8,7 +8,7 @@ use refusals::{Counted, Refusal};
 use scanning::scan_word;
 
 // A word as read. `syllables` has its syllables first, each packed in one number, and zeros behind them or with a refusal.
-#[derive(Drop)]
+#[derive(Clone, Copy)]
 pub struct Reading {
     pub answer: Counted,
     pub syllables: [u64; Word::LIMIT],

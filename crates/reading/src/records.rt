@@ -8,7 +8,7 @@ use letters::weight::weight_or;
 use refusals::{Counted, Refusal};
 use syllables::parts;
 
-#[derive(Drop)]
+#[derive(Clone, Copy)]
 pub enum RecordAnswer {
     Found,
     NoSyllable,
@@ -16,7 +16,7 @@ pub enum RecordAnswer {
 }
 
 // Eight bytes, and whether there is such a syllable; zeros where there is none.
-#[derive(Drop)]
+#[derive(Clone, Copy)]
 pub struct SyllableRecord {
     pub answer: RecordAnswer,
     pub bytes: [u8; Word::RECORD],

@@ -14,7 +14,7 @@ use transitions::tables::{Rules, next, rules_of};
 const WAITING: usize = 4;
 
 // The values before `at` are read, and the one at `at` is refused, unless it is the end.
-#[derive(Drop)]
+#[derive(Clone, Copy)]
 pub struct Walk {
     pub at: usize,
     pub state: usize,

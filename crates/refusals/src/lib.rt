@@ -1,11 +1,13 @@
 // What a call answers: numbers that it tells, or one of the refusals of documents 01 and 02, each with its number and its place.
+#![tactic(auto)]
+
 ghost use Rattle.std.specs.Prelude.{◌≡◌};
 ghost use Rattle.refusals.specs.Refusal.{number_of, place_of};
 
 use formula::Word;
 
 // A variant for each numbered refusal, in the order of the numbers; it holds its place where that varies.
-#[derive(Drop)]
+#[derive(Clone, Copy)]
 pub enum Refusal {
     TooLong,
     Foreign(usize),
@@ -76,14 +78,14 @@ impl Refusal {
 }
 
 // A number that a call tells, or why it is refused.
-#[derive(Drop)]
+#[derive(Clone, Copy)]
 pub enum Counted {
     Count(usize),
     Refused(Refusal),
 }
 
 // What a call replies: one number, two numbers, that there is nothing of the number asked for, or why it is refused.
-#[derive(Drop)]
+#[derive(Clone, Copy)]
 pub enum Reply {
     One(usize),
     Two(usize, usize),
@@ -92,7 +94,7 @@ pub enum Reply {
 }
 
 // What a call on two words answers: a number that it tells of both, or which of them is refused and why.
-#[derive(Drop)]
+#[derive(Clone, Copy)]
 pub enum Paired {
     Told(usize),
     FirstRefused(Refusal),

@@ -1,4 +1,6 @@
 // One pass over a word: how far it is read, its syllables, and where each begins.
+#![tactic(auto)]
+
 ghost use Rattle.std.specs.Prelude.{◌≡◌, ◌-◌, ◌≤◌, length};
 ghost use Rattle.formula.specs.Limits.{limit};
 ghost use Rattle.scanning.specs.Scanned.{Scanned};
@@ -9,7 +11,7 @@ use transitions::classes::begins;
 use transitions::tables::{Rules, gain, next, rules_of};
 
 // The values before `at` are read, and the one at `at` is refused, unless it is the end.
-#[derive(Drop)]
+#[derive(Clone, Copy)]
 pub struct Scan {
     pub at: usize,
     pub state: usize,

@@ -1,4 +1,6 @@
 // The skeleton of a label: its stored form, with the values that look like others replaced.
+#![tactic(auto)]
+
 ghost use Rattle.std.specs.Prelude.{◌≡◌, ◌+◌, ◌≤◌, ◌<◌, length};
 ghost use Rattle.memory.specs.Put.{Put, Written};
 ghost use Rattle.skeletons.specs.Skeleton.{replaced, skeleton_of};

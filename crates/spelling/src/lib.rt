@@ -1,4 +1,6 @@
 // Words spelled out: each syllable by itself, with its final as a letter and 103A.
+#![tactic(auto)]
+
 ghost use Rattle.std.specs.Prelude.{◌≡◌, ◌≤◌, length};
 ghost use Rattle.formula.specs.Limits.{limit};
 ghost use Rattle.refusals.specs.Outcome.{reply_outcome};

@@ -1,4 +1,6 @@
 // Storage order: the form in which a word is stored, whatever values it has.
+#![tactic(auto)]
+
 ghost use Rattle.std.specs.Prelude.{◌≡◌, ◌++◌, ◌+◌, ◌-◌, ◌≤◌, length, take, drop, get_or};
 ghost use Rattle.letters.specs.Choice.{pick};
 ghost use Rattle.formula.specs.Limits.{limit};
@@ -29,7 +31,7 @@ pub const MARKS: u8 = 16;
 pub type RankTable = [u8; 64];
 
 // Where the stored values begin in the array, and the rank of the first of them.
-#[derive(Drop)]
+#[derive(Clone, Copy)]
 struct Front {
     place: usize,
     rank: u8,

@@ -1,4 +1,6 @@
 // The tests on one syllable record, whose bytes are head, medial weight, vowel weight, tall, final number, second final number, link and tone weight.
+#![tactic(auto)]
+
 ghost use Rattle.std.specs.Prelude.{◌≡◌, ◌+◌, ◌≤◌, length, take, drop};
 ghost use Rattle.formula.specs.Limits.{record_size};
 ghost use Rattle.letters.specs.Letters.{is_independent_vowel};

@@ -34,7 +34,7 @@ const GREAT_SA: u16 = 0x103F;
 const KINZI_LETTER: u8 = 5;
 
 // The first `count` of `values`; the others are zero.
-#[derive(Drop)]
+#[derive(Clone, Copy)]
 pub struct Text {
     pub values: [u16; 4],
     pub count: usize,

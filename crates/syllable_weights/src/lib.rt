@@ -1,4 +1,6 @@
 // The weights of document 01, "Weights", of a packed syllable.
+#![tactic(auto)]
+
 ghost use Rattle.std.specs.Prelude.{◌≡◌, ◌+◌, ◌≤◌};
 ghost use Rattle.std.proofs.lemmas.List.Edits.{sets};
 ghost use Rattle.letters.specs.Weights.{medial_table};

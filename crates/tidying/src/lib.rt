@@ -1,4 +1,6 @@
 // Tidying a book: its live records are moved to the front, one behind the other, and the rest is zeros.
+#![tactic(auto)]
+
 ghost use Rattle.refusals.specs.Outcome.{accepts, outcome_of};
 ghost use Rattle.entries.specs.Book.{Opened};
 ghost use Rattle.tidying.specs.Tidy.{Closed, TidyRight};

@@ -8,7 +8,7 @@ use crate::classes::class_of;
 // What a value does at each state. Three bits a state, the first lowest, pick one of at most seven outcomes, or 0 for a refusal. An outcome has a
 // byte of `outcomes`, five bits for the state after it and above them what becomes of the count (0 one fewer, 1 as many, 2 one more), and a byte
 // of `amounts`, what it adds to the packed syllable; the lowest bytes are the refusal's and the bit from which on is added.
-#[derive(Drop)]
+#[derive(Clone, Copy)]
 pub struct Rules {
     pub picks: u64,
     pub outcomes: u64,

@@ -1,4 +1,6 @@
 // Where each value of a stored form was typed: the places of a word, sorted as its values are.
+#![tactic(auto)]
+
 ghost use Rattle.std.specs.Prelude.{◌≡◌, ◌++◌, ◌+◌, ◌-◌, ◌≤◌, length, take, drop, get_or, replicate};
 ghost use Rattle.formula.specs.Limits.{limit};
 ghost use Rattle.storage.specs.Stored.{insert_by};

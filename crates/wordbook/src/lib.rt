@@ -1,4 +1,6 @@
 // The word book: the calls on a book in a lent buffer that take a word, for every buffer and every word.
+#![tactic(auto)]
+
 ghost use Rattle.refusals.specs.Outcome.{outcome_of, reply_outcome};
 ghost use Rattle.storage.specs.Stored.{stored_form};
 ghost use Rattle.entries.specs.Entries.{entries};

@@ -1,4 +1,6 @@
 // The writer: the word that a row of syllable records gives, eight bytes a syllable in word order.
+#![tactic(auto)]
+
 ghost use Rattle.refusals.specs.Outcome.{outcome_of};
 ghost use Rattle.writing.specs.Write.{WriteRight};
 

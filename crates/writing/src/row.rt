@@ -8,7 +8,7 @@ use syllable_record::{may_follow, record_at};
 use syllable_text::part;
 
 // How many values the records are written with, if they are those of a row and the values are few enough.
-#[derive(Drop)]
+#[derive(Clone, Copy)]
 pub enum Size {
     Values(usize),
     NoSuchRow,

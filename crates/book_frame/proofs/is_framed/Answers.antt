@@ -1,0 +1,57 @@
+-- `book_frame::is_framed` meets its contract: each test is one of the definition's.
+-- Assumes nothing.
+use borrow.Author.Rules.{rules}
+use mathlib.Core.Path.{◌≡◌, sym}
+use mathlib.Core.Logic.{◌⊎◌, inl, inr, ⊎_elim}
+use Prim.Native.Nat.{◌+◌}
+use native.Mathlib.Omega.{arith}
+use borrow.Author.Tests.{not-true, not-false}
+use lib.ListN.{get_or}
+use Rattle.letters.proofs.Tests.{is_true, is_false}
+use Rattle.entries.proofs.Records.{framed_true, framed_is}
+use Rattle.book_frame.proofs.Marks.{mark_met, mark_missed}
+use Rattle.book_frame.proofs.is_framed.Goals as goal
+
+pub returns-then-book-at-lt8 : goal.returns-then-book-at-lt8
+returns-then-book-at-lt8 c = sym (is_false _ (λ t. let f = framed_true _ _ t in let z : ⊥ = omega (arith, f.room, f.some) in z))
+
+pub returns-then-not-has_mark-2 : goal.returns-then-not-has_mark-2
+returns-then-not-has_mark-2 c =
+    sym
+    (is_false _
+    (λ t. let f = framed_true _ _ t in
+    ⊎_elim
+    (λ e. mark_missed _ _ 0x4D 0x57 _ c.has_mark.ensures (not-true _ c.if-not-has_mark.true-raw) f.first e)
+    (λ e. mark_missed _ _ 0x4D 0x2D _ c.has_mark-then-not-has_mark.ensures (not-true _ c.if-not-has_mark-2.true-raw) f.first e) f.mark))
+
+pub returns-then-count-lt1 : goal.returns-then-count-lt1
+returns-then-count-lt1 c =
+    sym (is_false _ (λ t. let f = framed_true _ _ t in let z : ⊥ = omega (arith, f.some, c.wide-count.ensures) in z))
+
+pub returns-then-count-gt-LIMIT : goal.returns-then-count-gt-LIMIT
+returns-then-count-gt-LIMIT c =
+    sym (is_false _ (λ t. let f = framed_true _ _ t in let z : ⊥ = omega (arith, f.short, c.wide-count.ensures) in z))
+
+pub returns-then-book-at : goal.returns-then-book-at
+returns-then-book-at c =
+    sym (is_false _ (λ t. let f = framed_true _ _ t in let z : ⊥ = omega (arith, f.room, c.wide-count.ensures) in z))
+
+pub returns : goal.returns
+returns c =
+    let marked : let s = c.args in
+    (get_or s.book.now s.at 0 ≡ 0x4D) × ((get_or s.book.now (s.at + 1) 0 ≡ 0x57) ⊎ (get_or s.book.now (s.at + 1) 0 ≡ 0x2D)) =
+    ⊎_elim
+    (λ w. let m = mark_met _ _ 0x4D 0x2D _ w.2.ensures (not-false _ w.3.left) in (m.0, inr m.1))
+    (λ w. let m = mark_met _ _ 0x4D 0x57 _ c.has_mark.ensures (not-false _ w.left) in (m.0, inl m.1)) c.if-not-has_mark.branch in
+    let e = c.wide-count.ensures.0 in
+    let m = marked in
+    sym
+    (is_true _
+    (framed_is _ _
+    (record {
+      first = m.0;
+      mark = m.1;
+      some = omega (arith, e, c.if-count-lt1.false);
+      short = omega (arith, e, c.if-count-gt-LIMIT.false);
+      room = omega (arith, e, c.if-book-at.false);
+    })))

@@ -1,0 +1,127 @@
+-- `book_keys::file_records` meets its contract. The invariant: the live records among those that are passed are filed. The measure is what is left
+-- before the free bytes. Assumes nothing.
+use borrow.Author.Rules.{rules}
+use mathlib.Core.Path.{◌≡◌, ap}
+use mathlib.Core.Logic.{⊎_elim}
+use mathlib.Core.List.{List}
+use Prim.Native.Nat.{ℕ, ◌+◌, ◌-◌, ◌<◌}
+use native.Mathlib.Omega.{arith}
+use lib.ListN.{length, get_or, set}
+use Rattle.entries.specs.Limits.{head_size}
+use Rattle.entries.proofs.Records.{framed_is}
+use Rattle.entries.proofs.Walk.{Turn}
+use Rattle.book_frame.proofs.Marks.{mark_met, mark_missed}
+use Rattle.book_keys.proofs.Collecting.{Collected, collect_start, collect_as, at_record, collect_room, collect_long, turn_readable, collect_fits}
+use Rattle.book_keys.proofs.Collecting.{collect_live, collect_removed, collect_end}
+use Rattle.book_keys.proofs.file_records.Goals as goal
+
+pub loop-at-init : goal.loop-at-init
+loop-at-init c = collect_start _ _ _ _ c.requires.0
+
+pub has_mark-requires : goal.has_mark-requires
+has_mark-requires c =
+    let at_turn : Turn c.args.book.now c.loop-at.at c.args.free c.loop-at.invariant.list c.loop-at.invariant.seen c.loop-at.invariant.rest =
+    at_record _ _ _ _ _ _ _ _ c.loop-at.invariant c.loop-at-test.true in
+    let f = at_turn.stands.frame in omega (arith, f.room)
+
+pub file_key-requires : goal.file_key-requires
+file_key-requires c =
+    let at_turn : Turn c.args.book.now c.loop-at.at c.args.free c.loop-at.invariant.list c.loop-at.invariant.seen c.loop-at.invariant.rest =
+    at_record _ _ _ _ _ _ _ _ c.loop-at.invariant c.loop-at-test.true in
+    let i = c.loop-at.invariant in
+    let t = at_turn in (
+      i.walk.is_book.short,
+      collect_room _ _ _ _ _ _ _ _ i c.pre.1,
+      framed_is _ _ t.stands.frame,
+      turn_readable _ _ _ _ _ _ _ _ i t,
+    )
+
+pub start_of-requires : goal.start_of-requires
+start_of-requires c =
+    let at_turn : Turn c.args.book.now c.loop-at.at c.args.free c.loop-at.invariant.list c.loop-at.invariant.seen c.loop-at.invariant.rest =
+    at_record _ _ _ _ _ _ _ _ c.loop-at.invariant c.loop-at-test.true in
+    let low : c.loop-at.at < 16377 =
+    let f = at_turn.stands.frame in omega (arith, f.room, f.some, c.loop-at.invariant.walk.is_book.short) in
+    let l = low in omega arith
+
+pub offset_bounds-starts-live : goal.offset_bounds-starts-live
+offset_bounds-starts-live c =
+    let at_turn : Turn c.args.book.now c.loop-at.at c.args.free c.loop-at.invariant.list c.loop-at.invariant.seen c.loop-at.invariant.rest =
+    at_record _ _ _ _ _ _ _ _ c.loop-at.invariant c.loop-at-test.true in
+    let fits : c.loop-at.live < length c.loop-at.starts =
+    let live = (mark_met (get_or c.args.book.now c.loop-at.at 0) _ 0x4D 0x57 _ c.has_mark.ensures c.if-has_mark.true).1 in
+    collect_fits _ _ _ _ _ _ _ _ c.loop-at.invariant at_turn live c.requires.2 in
+    let l = fits in
+    omega (arith, collect_long _ _ _ _ _ _ _ _ c.loop-at.invariant)
+
+pub bounds-starts-live : goal.bounds-starts-live
+bounds-starts-live c =
+    let at_turn : Turn c.args.book.now c.loop-at.at c.args.free c.loop-at.invariant.list c.loop-at.invariant.seen c.loop-at.invariant.rest =
+    at_record _ _ _ _ _ _ _ _ c.loop-at.invariant c.loop-at-test.true in
+    let fits : c.loop-at.live < length c.loop-at.starts =
+    let live = (mark_met (get_or c.args.book.now c.loop-at.at 0) _ 0x4D 0x57 _ c.has_mark.ensures c.if-has_mark.true).1 in
+    collect_fits _ _ _ _ _ _ _ _ c.loop-at.invariant at_turn live c.requires.2 in
+    fits
+
+pub overflow_add-live : goal.overflow_add-live
+overflow_add-live c =
+    let at_turn : Turn c.args.book.now c.loop-at.at c.args.free c.loop-at.invariant.list c.loop-at.invariant.seen c.loop-at.invariant.rest =
+    at_record _ _ _ _ _ _ _ _ c.loop-at.invariant c.loop-at-test.true in
+    let fits : c.loop-at.live < length c.loop-at.starts =
+    let live = (mark_met (get_or c.args.book.now c.loop-at.at 0) _ 0x4D 0x57 _ c.has_mark.ensures c.if-has_mark.true).1 in
+    collect_fits _ _ _ _ _ _ _ _ c.loop-at.invariant at_turn live c.requires.2 in
+    let l = fits in
+    omega (arith, collect_long _ _ _ _ _ _ _ _ c.loop-at.invariant)
+
+pub overflow_add-at : goal.overflow_add-at
+overflow_add-at c =
+    let at_turn : Turn c.args.book.now c.loop-at.at c.args.free c.loop-at.invariant.list c.loop-at.invariant.seen c.loop-at.invariant.rest =
+    at_record _ _ _ _ _ _ _ _ c.loop-at.invariant c.loop-at-test.true in
+    let low : c.loop-at.at < 16377 =
+    let f = at_turn.stands.frame in omega (arith, f.room, f.some, c.loop-at.invariant.walk.is_book.short) in
+    let l = low in omega arith
+
+pub bounds-book-at : goal.bounds-book-at
+bounds-book-at c =
+    let at_turn : Turn c.args.book.now c.loop-at.at c.args.free c.loop-at.invariant.list c.loop-at.invariant.seen c.loop-at.invariant.rest =
+    at_record _ _ _ _ _ _ _ _ c.loop-at.invariant c.loop-at-test.true in
+    let f = at_turn.stands.frame in omega (arith, f.room)
+
+pub overflow_add-at-in-loop-at : goal.overflow_add-at-in-loop-at
+overflow_add-at-in-loop-at c = omega (arith, c.wide.ensures.1)
+
+pub overflow_add-at-in-loop-at-2 : goal.overflow_add-at-in-loop-at-2
+overflow_add-at-in-loop-at-2 c =
+    let at_turn : Turn c.args.book.now c.loop-at.at c.args.free c.loop-at.invariant.list c.loop-at.invariant.seen c.loop-at.invariant.rest =
+    at_record _ _ _ _ _ _ _ _ c.loop-at.invariant c.loop-at-test.true in
+    let low : c.loop-at.at < 16377 =
+    let f = at_turn.stands.frame in omega (arith, f.room, f.some, c.loop-at.invariant.walk.is_book.short) in
+    let l = low in omega (arith, c.wide.ensures.1)
+
+pub loop-at-smaller : goal.loop-at-smaller
+loop-at-smaller c = omega (arith, c.loop-at-test.true)
+
+pub loop-at-preserved : goal.loop-at-preserved
+loop-at-preserved c =
+    let at_turn : Turn c.args.book.now c.loop-at.at c.args.free c.loop-at.invariant.list c.loop-at.invariant.seen c.loop-at.invariant.rest =
+    at_record _ _ _ _ _ _ _ _ c.loop-at.invariant c.loop-at-test.true in
+    let l = c.loop-at in
+    let t = at_turn in
+    let e : l.at + (head_size + c.wide.result) ≡ l.at + head_size + get_or c.args.book.now (l.at + 2) 0 = omega (arith, c.wide.ensures.0) in
+    ⊎_elim
+    (λ w. collect_as _ _ _ _ _ _ _ _ _ _ _ _ w.4 w.5 w.6 e
+    (collect_live _ _ _ _ _ _ _ _ l.invariant t
+    (mark_met (get_or c.args.book.now l.at 0) _ 0x4D 0x57 _ c.has_mark.ensures w.0.taken).1 _ _ w.2.ensures
+    (ap (set l.starts l.live) w.3.ensures)))
+    (λ w. collect_as _ _ _ _ _ _ _ _ _ _ _ _ w.1 w.2 w.3 e
+    (collect_removed _ _ _ _ _ _ _ _ l.invariant t
+    (λ live. mark_missed (get_or c.args.book.now l.at 0) _ 0x4D 0x57 _ c.has_mark.ensures w.0.left t.stands.frame.first live)))
+    c.if-has_mark.branch
+
+pub shape_of-starts : goal.shape_of-starts
+shape_of-starts c = collect_long _ _ _ _ _ _ _ _ c.loop-at.invariant
+
+pub returns : goal.returns
+returns c =
+    let l = c.loop-at in
+    collect_end _ _ _ _ _ _ l.live l.at l.invariant c.pre.1 c.pre.2 c.loop-at-test.false

@@ -1,0 +1,17 @@
+-- `book_order::order_parts` meets its contract: it compares the two parts.
+-- Assumes nothing.
+use borrow.Author.Rules.{rules}
+use mathlib.Core.Path.{◌≡◌, ◌∙◌}
+use Prim.Native.Nat.{◌+◌, ◌-◌}
+use native.Mathlib.Omega.{arith}
+use lib.ListN.{take, drop}
+use Rattle.weighing.specs.Order.{order_values}
+use Rattle.book_order.proofs.order_parts.Goals as goal
+
+pub returns : goal.returns
+returns c =
+    let s = c.args in
+    let n : s.first + s.first-size - s.first ≡ s.first-size = omega arith in
+    let m : s.second + s.second-size - s.second ≡ s.second-size = omega arith in
+    c.order_bytes.ensures
+    ∙ (λ i. order_values (take (n i) (drop s.first s.bytes.now)) (take (m i) (drop s.second s.bytes.now)))

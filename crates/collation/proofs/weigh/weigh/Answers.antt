@@ -1,0 +1,12 @@
+-- `collation::weigh::weigh` meets its contract: a row of syllables is weighed as it is, and any other word by its stored form.
+-- Assumes nothing.
+use borrow.Author.Rules.{rules}
+use Rattle.collation.proofs.Weighing.{row_weighed, refused_zeros}
+use Rattle.collation.proofs.weigh.weigh.Goals as goal
+
+pub returns-in-Count : goal.returns-in-Count
+returns-in-Count c = row_weighed c.args.word.now c.fill-answer.result _ c.fill-answer.ensures c.in-Count.field-0 c.in-Count.is
+
+pub weigh_stored-requires : goal.weigh_stored-requires
+weigh_stored-requires c =
+    refused_zeros c.args.word.now c.fill-answer.result _ c.fill-answer.ensures c.in_default.field-0 c.in_default.is

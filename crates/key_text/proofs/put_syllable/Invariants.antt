@@ -1,0 +1,17 @@
+use mathlib.Core.Path.{◌≡◌}
+use Prim.Native.Nat.{◌-◌, ◌≤◌}
+use native.Mathlib.Omega.{arith}
+use native.Mathlib.Numerals.{add-one}
+use Rattle.formula.specs.Limits.{weight_count}
+use Rattle.weighing.specs.Keys.{used_bytes}
+use Rattle.memory.specs.Put.{Put}
+use Rattle.key_text.specs.Text.{hexadecimals_of, syllable_text}
+use Rattle.memory.proofs.Putting.{put_nothing, put_after, put_length}
+use Rattle.key_text.proofs.Keys.{hexadecimals_length}
+use Rattle.key_text.proofs.put_syllable.Given as goal
+
+abbrev pub invariant-loop-done : goal.invariant-loop-done
+invariant-loop-done l = Put l.initial.out l.at (hexadecimals_of l.done l.key l.first) l.out l.next × (l.done ≤ weight_count)
+
+abbrev pub decreases-loop-done : goal.decreases-loop-done
+decreases-loop-done l = weight_count - l.done

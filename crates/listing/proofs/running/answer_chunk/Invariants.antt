@@ -1,0 +1,12 @@
+use mathlib.Core.Path.{◌∙◌}
+use Prim.Native.Nat.{◌-◌, ◌≤◌}
+use native.Mathlib.Omega.{arith}
+use lib.ListN.{length, length-take}
+use Rattle.listing.proofs.Passing.{Passing, passing_none, passing_ready, passing_fits, passing_more, passing_short, passing_whole}
+use Rattle.listing.proofs.running.answer_chunk.Given as goal
+
+abbrev pub invariant-loop-reached : goal.invariant-loop-reached
+invariant-loop-reached l = Passing l.task l.chunk l.initial.pending l.initial.out l.initial.reached l.pending l.out l.reached l.taken
+
+abbrev pub decreases-loop-reached : goal.decreases-loop-reached
+decreases-loop-reached l = length l.chunk - l.reached.at

@@ -1,0 +1,58 @@
+-- `outputs::put_key` meets its contract: the weights are written out where there is room for them.
+-- Assumes nothing.
+use borrow.Author.Rules.{rules}
+use mathlib.Core.Path.{refl, sym}
+use native.Mathlib.Omega.{arith}
+use Rattle.collation.proofs.Weighing.{Weighed}
+use Rattle.outputs.proofs.Keying.{refused_right, short_right, written_right}
+use Rattle.outputs.proofs.put_key.Goals as goal
+
+pub returns-then-output-lt-KEY : goal.returns-then-output-lt-KEY
+returns-then-output-lt-KEY c =
+    short_right (record {
+      word = c.args.word.now;
+      answer = c.weigh-answer.result;
+      bytes = _;
+      right = c.weigh-answer.ensures;
+      count = c.in-Count.count;
+      told = c.in-Count.is;
+    }) _ _ c.if-output-lt-KEY.true refl
+
+pub slice_bounds-put_bytes-end : goal.slice_bounds-put_bytes-end
+slice_bounds-put_bytes-end c =
+    sym (record {
+      word = c.args.word.now;
+      answer = c.weigh-answer.result;
+      bytes = _;
+      right = c.weigh-answer.ensures;
+      count = c.in-Count.count;
+      told = c.in-Count.is;
+    }).right.room
+
+pub put_bytes-requires : goal.put_bytes-requires
+put_bytes-requires c =
+    omega (
+      arith,
+      (record {
+        word = c.args.word.now;
+        answer = c.weigh-answer.result;
+        bytes = _;
+        right = c.weigh-answer.ensures;
+        count = c.in-Count.count;
+        told = c.in-Count.is;
+      }).right.room,
+    )
+
+pub returns-in-Refused : goal.returns-in-Refused
+returns-in-Refused c = refused_right c.args.word.now c.weigh-answer.result _ c.weigh-answer.ensures _ c.in-Refused.is _ _ refl
+
+pub returns-else-output-lt-KEY : goal.returns-else-output-lt-KEY
+returns-else-output-lt-KEY c =
+    written_right (record {
+      word = c.args.word.now;
+      answer = c.weigh-answer.result;
+      bytes = _;
+      right = c.weigh-answer.ensures;
+      count = c.in-Count.count;
+      told = c.in-Count.is;
+    }) _ _ c.if-output-lt-KEY.false c.put_bytes.ensures

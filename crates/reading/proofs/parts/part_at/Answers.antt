@@ -1,0 +1,47 @@
+-- `reading::parts::part_at` meets its contract: the part stands where `part_place` says.
+-- Assumes nothing.
+use mathlib.Core.Path.{◌≡◌, subst}
+use Prim.Native.Nat.{◌+◌, ◌-◌}
+use native.Mathlib.Omega.{arith}
+use borrow.Author.Rules.{rules}
+use Rattle.refusals.specs.Outcome.{reply_outcome}
+use Rattle.refusals.specs.declared.Reply.{Reply}
+use Rattle.reading.specs.Parts.{HasPart, PartAnswers}
+use Rattle.reading.proofs.Parted.{part_right, part_none}
+use Rattle.reading.proofs.parts.part_at.Goals as goal
+
+pub returns-in_default : goal.returns-in_default
+returns-in_default c =
+    let s = c.args in
+    part_none s.word.now s.number c.part_place.result c.in_default.in_default-own.keys2 c.part_place.ensures
+
+pub overflow_add-end : goal.overflow_add-end
+overflow_add-end c =
+    let has : let g = c.place-1.given.0 in let s = c.args in
+    HasPart s.word.now s.number g.0 g.1.0 =
+    subst (λ (a : Reply). PartAnswers c.args.word.now c.args.number (reply_outcome a)) c.in-Two.is c.part_place.ensures in
+    omega (arith, has.within, has.admissible.short)
+
+pub offset_bounds-word-place : goal.offset_bounds-word-place
+offset_bounds-word-place c =
+    let has : let g = c.place-1.given.0 in let s = c.args in
+    HasPart s.word.now s.number g.0 g.1.0 =
+    subst (λ (a : Reply). PartAnswers c.args.word.now c.args.number (reply_outcome a)) c.in-Two.is c.part_place.ensures in
+    omega (arith, has.within, has.admissible.short)
+
+pub slice_bounds-result-end-2 : goal.slice_bounds-result-end-2
+slice_bounds-result-end-2 c =
+    let has : let g = c.place-1.given.0 in let s = c.args in
+    HasPart s.word.now s.number g.0 g.1.0 =
+    subst (λ (a : Reply). PartAnswers c.args.word.now c.args.number (reply_outcome a)) c.in-Two.is c.part_place.ensures in
+    omega (arith, has.within)
+
+pub returns : goal.returns
+returns c =
+    let has : let g = c.place-1.given.0 in let s = c.args in
+    HasPart s.word.now s.number g.0 g.1.0 =
+    subst (λ (a : Reply). PartAnswers c.args.word.now c.args.number (reply_outcome a)) c.in-Two.is c.part_place.ensures in
+    let s = c.args in
+    let g = c.place-1.given.0 in
+    let e : g.0 + g.1.0 - g.0 ≡ g.1.0 = omega arith in
+    rw e (part_right s.word.now s.number g.0 g.1.0 has)

@@ -1,0 +1,19 @@
+-- `syllable_text::text::put` meets its contract: the values of the text are copied.
+-- Assumes nothing.
+use mathlib.Core.Path.{refl, sym, ◌∙◌}
+use native.Mathlib.Omega.{arith}
+use borrow.Author.Rules.{rules}
+use lib.Seq.{length-take-le}
+use Rattle.memory.proofs.Stores.{sets_paste}
+use Rattle.syllable_text.proofs.text.put.Goals as goal
+
+pub slice_bounds-put_values-end : goal.slice_bounds-put_values-end
+slice_bounds-put_values-end c = sym (length-take-le _ _ c.requires.held)
+
+pub put_values-requires : goal.put_values-requires
+put_values-requires c =
+    let room = c.requires in
+    omega (arith, length-take-le c.args.text.count c.args.text.values room.held)
+
+pub returns : goal.returns
+returns c = record { put = c.put_values.ensures ∙ sets_paste _ _ _ _ c.requires.held c.requires.fits; behind_it = refl }

@@ -1,0 +1,56 @@
+-- `wordbook::add` meets its contract: the word's refusal, with no byte changed, or what adding its stored form answers and writes.
+-- Assumes nothing.
+use borrow.Author.Rules.{rules}
+use mathlib.Core.Path.{refl, sym, subst}
+use mathlib.Core.List.{List}
+use Prim.Native.Nat.{ℕ}
+use lib.ListN.{length}
+use lib.Seq.{length-take-le}
+use Rattle.formula.specs.Limits.{limit}
+use Rattle.refusals.specs.Outcome.{reply_outcome}
+use Rattle.storage.specs.Stored.{stored_form}
+use Rattle.entries.specs.Entries.{entries}
+use Rattle.entries.specs.Book.{zeros}
+use Rattle.entries.specs.Change.{Storable}
+use Rattle.entries.specs.Outcome.{add_of}
+use Rattle.book_change.specs.Written.{AddRight}
+use Rattle.wordbook.specs.Calls.{FormAt, CallAnswers, word_refused, word_stored}
+use Rattle.wordbook.proofs.Stored.{stored_storable, entered_form, entered_refused, form_fits, form_front}
+use Rattle.wordbook.proofs.add.Goals as goal
+
+pub slice_bounds-values-end : goal.slice_bounds-values-end
+slice_bounds-values-end c =
+    let form : FormAt c.args.word.now (zeros limit) c.enter.new.values c.in-Count.count =
+    entered_form _ (zeros limit) _ _ c.enter.ensures _ c.in-Count.is in
+    form_fits form
+
+pub slice_bounds-add-end : goal.slice_bounds-add-end
+slice_bounds-add-end c =
+    let form : FormAt c.args.word.now (zeros limit) c.enter.new.values c.in-Count.count =
+    entered_form _ (zeros limit) _ _ c.enter.ensures _ c.in-Count.is in
+    sym (length-take-le _ _ (form_fits form))
+
+pub add-requires : goal.add-requires
+add-requires c =
+    let form : FormAt c.args.word.now (zeros limit) c.enter.new.values c.in-Count.count =
+    entered_form _ (zeros limit) _ _ c.enter.ensures _ c.in-Count.is in
+    let h = form in
+    subst Storable (sym (form_front h)) (stored_storable _ h.stored)
+
+pub returns-in-Refused : goal.returns-in-Refused
+returns-in-Refused c =
+    record { answers = word_refused (entered_refused _ (zeros limit) _ _ c.enter.ensures _ c.in-Refused.is); bytes = refl }
+
+pub returns-in-Count : goal.returns-in-Count
+returns-in-Count c =
+    let form : FormAt c.args.word.now (zeros limit) c.enter.new.values c.in-Count.count =
+    entered_form _ (zeros limit) _ _ c.enter.ensures _ c.in-Count.is in
+    let s = c.args in
+    let h = form in
+    let outcome = reply_outcome c.add.result in
+    let r : AddRight (stored_form s.word.now) s.stock s.book.now c.add.new.book outcome =
+    subst (λ (w : List ℕ). AddRight w s.stock s.book.now c.add.new.book outcome) (form_front h) c.add.ensures in
+    record {
+      answers = subst (CallAnswers s.word.now (add_of (entries s.book.now) (length s.book.now) (stored_form s.word.now))) (sym r.answer) (word_stored h.stored);
+      bytes = r.bytes;
+    }

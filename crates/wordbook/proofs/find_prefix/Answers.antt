@@ -1,0 +1,54 @@
+-- `wordbook::find_prefix` meets its contract: the query's refusal, with nothing written, or what the book answers to its stored form.
+-- Assumes nothing.
+use borrow.Author.Rules.{rules}
+use mathlib.Core.Path.{refl, sym, subst}
+use mathlib.Core.List.{List}
+use Prim.Native.Nat.{ℕ}
+use lib.Seq.{length-take-le}
+use Rattle.formula.specs.Limits.{limit}
+use Rattle.recogniser.specs.Answer.{Readable}
+use Rattle.refusals.specs.Outcome.{outcome_of}
+use Rattle.refusals.specs.Output.{refused}
+use Rattle.entries.specs.Book.{zeros}
+use Rattle.book_keys.specs.Filing.{row_of}
+use Rattle.prefix_search.specs.Prefix.{PrefixRight}
+use Rattle.wordbook.specs.Calls.{FormAt}
+use Rattle.wordbook.specs.Prefix.{query_refused}
+use Rattle.wordbook.proofs.Stored.{stored_storable, entered_form, entered_refused, form_fits, form_front}
+use Rattle.wordbook.proofs.Prefix.{queried}
+use Rattle.wordbook.proofs.find_prefix.Goals as goal
+
+pub slice_bounds-values-end : goal.slice_bounds-values-end
+slice_bounds-values-end c =
+    let form : FormAt c.args.query.now (zeros limit) c.enter.new.values c.in-Count.count =
+    entered_form _ (zeros limit) _ _ c.enter.ensures _ c.in-Count.is in
+    form_fits form
+
+pub slice_bounds-find_prefix-end : goal.slice_bounds-find_prefix-end
+slice_bounds-find_prefix-end c =
+    let form : FormAt c.args.query.now (zeros limit) c.enter.new.values c.in-Count.count =
+    entered_form _ (zeros limit) _ _ c.enter.ensures _ c.in-Count.is in
+    sym (length-take-le _ _ (form_fits form))
+
+pub find_prefix-requires : goal.find_prefix-requires
+find_prefix-requires c =
+    let form : FormAt c.args.query.now (zeros limit) c.enter.new.values c.in-Count.count =
+    entered_form _ (zeros limit) _ _ c.enter.ensures _ c.in-Count.is in
+    let h = form in
+    subst Readable (sym (form_front h)) (stored_storable _ h.stored).readable
+
+pub returns-in-Refused : goal.returns-in-Refused
+returns-in-Refused c =
+    refused
+    (query_refused (entered_refused _ (zeros limit) _ _ c.enter.ensures _ c.in-Refused.is)) refl
+
+pub returns-in-Count : goal.returns-in-Count
+returns-in-Count c =
+    let form : FormAt c.args.query.now (zeros limit) c.enter.new.values c.in-Count.count =
+    entered_form _ (zeros limit) _ _ c.enter.ensures _ c.in-Count.is in
+    let s = c.args in
+    let h = form in
+    let outcome = outcome_of c.find_prefix.result in
+    queried s.book.now s.query.now s.starts.now _ outcome h.stored
+    (subst (λ (w : List ℕ). PrefixRight s.book.now (row_of w) s.starts.now c.find_prefix.new.starts outcome) (form_front h)
+    c.find_prefix.ensures)
