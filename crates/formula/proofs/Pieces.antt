@@ -56,3 +56,15 @@ no_medial_is (group ra w h) i = absurd i
 
 pub no_vowel_is : (v : Vowel) → T (is_no_vowel v) → v ≡ no_vowel
 no_vowel_is no_vowel i = refl
+no_vowel_is (vowel_aa _) i = elim i [ ]
+no_vowel_is vowel_i i = elim i [ ]
+no_vowel_is vowel_ii i = elim i [ ]
+no_vowel_is vowel_u i = elim i [ ]
+no_vowel_is vowel_uu i = elim i [ ]
+no_vowel_is vowel_e i = elim i [ ]
+no_vowel_is vowel_ai i = elim i [ ]
+no_vowel_is (vowel_e_aa _) i = elim i [ ]
+no_vowel_is (vowel_e_aa_killer _) i = elim i [ ]
+no_vowel_is vowel_am i = elim i [ ]
+no_vowel_is vowel_i_u i = elim i [ ]
+no_vowel_is vowel_u_am i = elim i [ ]

@@ -260,6 +260,29 @@ close_out h x more (syllable y m v f t ∷ a) w k =
 -- a head alone is what it says
 bare_is : (h : ℕ) (m : MedialGroup) (v : Vowel) (f : Final) (t : ToneMark) → T (is_bare m v f t) → syllable h m v f t ≡ bare h
 bare_is h (group neither false false) no_vowel no_final no_tone q = refl
+bare_is h (group neither false false) no_vowel no_final dot q = elim q [ ]
+bare_is h (group neither false false) no_vowel no_final visarga q = elim q [ ]
+bare_is h (group neither false false) no_vowel (plain _) t q = elim q [ ]
+bare_is h (group neither false false) no_vowel (plain_pair _ _) t q = elim q [ ]
+bare_is h (group neither false false) no_vowel (stacked _) t q = elim q [ ]
+bare_is h (group neither false false) no_vowel kinzi t q = elim q [ ]
+bare_is h (group neither false false) no_vowel great_sa t q = elim q [ ]
+bare_is h (group neither false false) (Rattle.letters.specs.Marks.vowel_aa _) f t q = elim q [ ]
+bare_is h (group neither false false) Rattle.letters.specs.Marks.vowel_i f t q = elim q [ ]
+bare_is h (group neither false false) Rattle.letters.specs.Marks.vowel_ii f t q = elim q [ ]
+bare_is h (group neither false false) Rattle.letters.specs.Marks.vowel_u f t q = elim q [ ]
+bare_is h (group neither false false) Rattle.letters.specs.Marks.vowel_uu f t q = elim q [ ]
+bare_is h (group neither false false) Rattle.letters.specs.Marks.vowel_e f t q = elim q [ ]
+bare_is h (group neither false false) Rattle.letters.specs.Marks.vowel_ai f t q = elim q [ ]
+bare_is h (group neither false false) (Rattle.letters.specs.Marks.vowel_e_aa _) f t q = elim q [ ]
+bare_is h (group neither false false) (Rattle.letters.specs.Marks.vowel_e_aa_killer _) f t q = elim q [ ]
+bare_is h (group neither false false) Rattle.letters.specs.Marks.vowel_am f t q = elim q [ ]
+bare_is h (group neither false false) Rattle.letters.specs.Marks.vowel_i_u f t q = elim q [ ]
+bare_is h (group neither false false) Rattle.letters.specs.Marks.vowel_u_am f t q = elim q [ ]
+bare_is h (group neither false true) v f t q = elim q [ ]
+bare_is h (group neither true _) v f t q = elim q [ ]
+bare_is h (group Rattle.letters.specs.Marks.ya _ _) v f t q = elim q [ ]
+bare_is h (group Rattle.letters.specs.Marks.ra _ _) v f t q = elim q [ ]
 
 top_is : (s r : Syllable) (a : Row) (x : ℕ) (o : Option Row) → s ≡ r → KeptOk (s ∷ a) → (KeptOk (r ∷ a) → Out (r ∷ a) x o) → Out (s ∷ a) x o
 top_is s r a x o e k f = subst (λ (u : Syllable). Out (u ∷ a) x o) (sym e) (f (subst (λ (u : Syllable). KeptOk (u ∷ a)) e k))

@@ -38,6 +38,8 @@ room_toned (plain_pair c d) t e = refl
 room_toned (stacked c) t e = refl
 room_toned kinzi t e = refl
 room_toned great_sa t e = refl
+room_toned no_final no_tone e = elim e [ ]
+room_toned (plain c) no_tone e = elim e [ ]
 
 module _ (x : ℕ) (moved : State → Transition) (h : ℕ) where
   -- what the letter makes of a final without a tone, by the state that it has after it and by its link
@@ -234,6 +236,20 @@ stack_refused true no_tone pair_final i = refl
 stack_refused true dot s i = refl
 stack_refused true visarga s i = refl
 stack_refused false t s i = refl
+stack_refused true no_tone plain_final_lem i = elim i [ ]
+stack_refused true no_tone nga_final i = elim i [ ]
+stack_refused true no_tone head_stays i = elim i [ ]
+stack_refused true no_tone head_second i = elim i [ ]
+stack_refused true no_tone head_closes i = elim i [ ]
+stack_refused true no_tone head_nga i = elim i [ ]
+stack_refused true no_tone Rattle.states.specs.State.after_ya_ra i = elim i [ ]
+stack_refused true no_tone Rattle.states.specs.State.after_wa i = elim i [ ]
+stack_refused true no_tone Rattle.states.specs.State.after_ha i = elim i [ ]
+stack_refused true no_tone Rattle.states.specs.State.with_e i = elim i [ ]
+stack_refused true no_tone Rattle.states.specs.State.with_e_aa i = elim i [ ]
+stack_refused true no_tone Rattle.states.specs.State.with_i i = elim i [ ]
+stack_refused true no_tone Rattle.states.specs.State.with_u i = elim i [ ]
+stack_refused true no_tone Rattle.states.specs.State.with_vowel i = elim i [ ]
 
 toned_refused : (c : Bool) (t : ToneMark) (s : State) → T (is_open_state s) → T (not (is_open_state (pick c (tone_state t s) done)))
     → on_stacker (pick c (tone_state t s) done) ≡ refuse

@@ -89,6 +89,8 @@ toned_state visarga s false i = refl
 
 no_tone_weight : (t : ToneMark) → T (is_no_tone t) → tone_weight t ≡ 0
 no_tone_weight no_tone i = refl
+no_tone_weight dot i = elim i [ ]
+no_tone_weight visarga i = elim i [ ]
 
 tone_on : (x : ℕ) (p q : Bool) (o : Option ToneMark) (h : ℕ) (m : MedialGroup) (v : Vowel) (f : Final) (t : ToneMark) (a : Row) → p ≡ q
     → (T q → T (is_no_tone t)) → T (tone_right x o)

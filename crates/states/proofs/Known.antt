@@ -48,6 +48,11 @@ shows_open with_e_aa t = (refl, refl, refl, refl)
 shows_open with_i t = (refl, refl, refl, refl)
 shows_open with_u t = (refl, refl, refl, refl)
 shows_open with_vowel t = (refl, refl, refl, refl)
+shows_open done t = elim t [ ]
+shows_open Rattle.states.specs.State.pair_final t = elim t [ ]
+shows_open plain_final_lem t = elim t [ ]
+shows_open nga_final t = elim t [ ]
+shows_open waiting t = elim t [ ]
 
 -- a syllable with neither final nor tone is open, whatever its head carries
 abbrev open_at : MedialGroup → Vowel → State → Bool
@@ -118,6 +123,18 @@ waits_by true (plain_pair c d) visarga i k n = refl
 waits_by true (stacked c) no_tone i k n = refl
 waits_by true kinzi no_tone i k n = refl
 waits_by false no_final no_tone i k n = refl
+waits_by false no_final dot i k n = elim i [ ]
+waits_by false no_final visarga i k n = elim i [ ]
+waits_by false (plain c) t i k n = elim i [ ]
+waits_by false (plain_pair c d) t i k n = elim i [ ]
+waits_by false (stacked c) t i k n = elim i [ ]
+waits_by false kinzi t i k n = elim i [ ]
+waits_by false great_sa t i k n = elim i [ ]
+waits_by true (stacked c) dot i k n = elim k [ ]
+waits_by true (stacked c) visarga i k n = elim k [ ]
+waits_by true kinzi dot i k n = elim k [ ]
+waits_by true kinzi visarga i k n = elim k [ ]
+waits_by true great_sa t i k n = elim n [ ]
 
 pub waiting_is : (kept : Row) → KeptOk kept → T (is_not_great_sa (end_of kept)) → is waiting (state_of kept) ≡ not (is_closed (end_of kept))
 waiting_is [] k n = refl
@@ -162,6 +179,22 @@ open_state h m v a c =
 
 no_marks_state : (m : MedialGroup) (v : Vowel) (s : State) → T (is_no_medial m) → T (is_no_vowel v) → vowel_state v (medial_state m s) ≡ s
 no_marks_state (group neither false false) no_vowel s i j = refl
+no_marks_state (group neither false false) (Rattle.letters.specs.Marks.vowel_aa _) s i j = elim j [ ]
+no_marks_state (group neither false false) Rattle.letters.specs.Marks.vowel_i s i j = elim j [ ]
+no_marks_state (group neither false false) Rattle.letters.specs.Marks.vowel_ii s i j = elim j [ ]
+no_marks_state (group neither false false) Rattle.letters.specs.Marks.vowel_u s i j = elim j [ ]
+no_marks_state (group neither false false) Rattle.letters.specs.Marks.vowel_uu s i j = elim j [ ]
+no_marks_state (group neither false false) Rattle.letters.specs.Marks.vowel_e s i j = elim j [ ]
+no_marks_state (group neither false false) Rattle.letters.specs.Marks.vowel_ai s i j = elim j [ ]
+no_marks_state (group neither false false) (Rattle.letters.specs.Marks.vowel_e_aa _) s i j = elim j [ ]
+no_marks_state (group neither false false) (Rattle.letters.specs.Marks.vowel_e_aa_killer _) s i j = elim j [ ]
+no_marks_state (group neither false false) Rattle.letters.specs.Marks.vowel_am s i j = elim j [ ]
+no_marks_state (group neither false false) Rattle.letters.specs.Marks.vowel_i_u s i j = elim j [ ]
+no_marks_state (group neither false false) Rattle.letters.specs.Marks.vowel_u_am s i j = elim j [ ]
+no_marks_state (group neither false true) v s i j = elim i [ ]
+no_marks_state (group neither true _) v s i j = elim i [ ]
+no_marks_state (group Rattle.letters.specs.Marks.ya _ _) v s i j = elim i [ ]
+no_marks_state (group Rattle.letters.specs.Marks.ra _ _) v s i j = elim i [ ]
 
 -- and of one whose head carries a final and no marks
 pub unmarked_state : (h : ℕ) (m : MedialGroup) (v : Vowel) (f : Final) (t : ToneMark) (a : Row) → carries_marks h ≡ false → T (carries_final h)
@@ -171,3 +204,10 @@ unmarked_state h m v no_final no_tone a e c i o =
     let p : T (is_no_medial m && is_no_vowel v) = subst (λ (b : Bool). T (b || (is_no_medial m && is_no_vowel v))) e (apart h m v no_final no_tone i).marks in
     sym (carried (carries_final h) _ c)
     ∙ no_marks_state m v _ (both_left (is_no_medial m) (is_no_vowel v) p) (both_right (is_no_medial m) (is_no_vowel v) p) ∙ (rw e refl)
+unmarked_state h m v no_final dot a e c i o = elim o [ ]
+unmarked_state h m v no_final visarga a e c i o = elim o [ ]
+unmarked_state h m v (plain _) t a e c i o = elim o [ ]
+unmarked_state h m v (plain_pair _ _) t a e c i o = elim o [ ]
+unmarked_state h m v (stacked _) t a e c i o = elim o [ ]
+unmarked_state h m v kinzi t a e c i o = elim o [ ]
+unmarked_state h m v great_sa t a e c i o = elim o [ ]

@@ -56,6 +56,18 @@ shut x pair_final t = record { medial = refl; vowel = refl; killer = refl }
 shut x plain_final_lem t = record { medial = refl; vowel = refl; killer = refl }
 shut x nga_final t = record { medial = refl; vowel = refl; killer = refl }
 shut x waiting t = record { medial = refl; vowel = refl; killer = refl }
+shut x Rattle.states.specs.State.head_stays t = elim t [ ]
+shut x Rattle.states.specs.State.head_second t = elim t [ ]
+shut x Rattle.states.specs.State.head_closes t = elim t [ ]
+shut x Rattle.states.specs.State.head_nga t = elim t [ ]
+shut x Rattle.states.specs.State.after_ya_ra t = elim t [ ]
+shut x Rattle.states.specs.State.after_wa t = elim t [ ]
+shut x Rattle.states.specs.State.after_ha t = elim t [ ]
+shut x Rattle.states.specs.State.with_e t = elim t [ ]
+shut x Rattle.states.specs.State.with_e_aa t = elim t [ ]
+shut x Rattle.states.specs.State.with_i t = elim t [ ]
+shut x Rattle.states.specs.State.with_u t = elim t [ ]
+shut x with_vowel t = elim t [ ]
 
 pub refused : (x bit : ℕ) (t : Transition) (kept : Row) (o : Option Row) → t ≡ refuse → o ≡ none → Agrees x bit t kept o
 refused x bit t kept o e i = rw e i
@@ -133,6 +145,13 @@ medial_open x h m v no_final no_tone a i c o =
     (λ (n : MedialGroup). syllable h n v no_final no_tone ∷ a)
     (syllable h m v no_final no_tone ∷ a) (is_no_vowel v && true) (medial_and x m) (λ n. open_state h n v a c) (λ n e. adds_medial (omega (arith, e)))
     (both_left (grown medial_set m (medial_and x m)) _ r))
+medial_open x h m v no_final Rattle.letters.specs.Marks.dot a i c o = elim o [ ]
+medial_open x h m v no_final Rattle.letters.specs.Marks.visarga a i c o = elim o [ ]
+medial_open x h m v (Rattle.formula.specs.Syllable.plain _) t a i c o = elim o [ ]
+medial_open x h m v (Rattle.formula.specs.Syllable.plain_pair _ _) t a i c o = elim o [ ]
+medial_open x h m v (Rattle.formula.specs.Syllable.stacked _) t a i c o = elim o [ ]
+medial_open x h m v Rattle.formula.specs.Syllable.kinzi t a i c o = elim o [ ]
+medial_open x h m v Rattle.formula.specs.Syllable.great_sa t a i c o = elim o [ ]
 
 not_marked : (c p o : Bool) → (c && o) ≡ false → (c && (p && o)) ≡ false
 not_marked true p o e = and_no_right p o e
@@ -168,6 +187,13 @@ vowel_open x h m v no_final no_tone a i c o =
     (λ (n : Vowel). syllable h m n no_final no_tone ∷ a)
     (syllable h m v no_final no_tone ∷ a) true (vowel_and x v) (λ n. open_state h m n a c) (λ n e. adds_vowel (omega (arith, e)))
     (both_left (grown vowel_byte v (vowel_and x v)) _ r))
+vowel_open x h m v no_final Rattle.letters.specs.Marks.dot a i c o = elim o [ ]
+vowel_open x h m v no_final Rattle.letters.specs.Marks.visarga a i c o = elim o [ ]
+vowel_open x h m v (Rattle.formula.specs.Syllable.plain _) t a i c o = elim o [ ]
+vowel_open x h m v (Rattle.formula.specs.Syllable.plain_pair _ _) t a i c o = elim o [ ]
+vowel_open x h m v (Rattle.formula.specs.Syllable.stacked _) t a i c o = elim o [ ]
+vowel_open x h m v Rattle.formula.specs.Syllable.kinzi t a i c o = elim o [ ]
+vowel_open x h m v Rattle.formula.specs.Syllable.great_sa t a i c o = elim o [ ]
 
 pub vowel_followed : (x : ℕ) (kept : Row) → KeptOk kept → T (is_vowel_mark x) → Follows x 24 (on_vowel x) (step_vowel x) kept
 unfolding pick
