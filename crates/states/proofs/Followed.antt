@@ -86,6 +86,7 @@ toned_state dot s true i = refl
 toned_state dot s false i = refl
 toned_state visarga s true i = refl
 toned_state visarga s false i = refl
+toned_state no_tone s c i = elim i [ ]
 
 no_tone_weight : (t : ToneMark) → T (is_no_tone t) → tone_weight t ≡ 0
 no_tone_weight no_tone i = refl

@@ -148,6 +148,7 @@ admits_by x (plain c) n = refl
 admits_by x (plain_pair c d) n = refl
 admits_by x (stacked c) n = refl
 admits_by x kinzi n = refl
+admits_by x great_sa n = elim n [ ]
 
 pub admits_is : (x : ℕ) (kept : Row) → KeptOk kept → T (is_not_great_sa (end_of kept)) → admits (end_of kept) x ≡ takes_head x (state_of kept)
 admits_is x kept k n = admits_by x (end_of kept) n ∙ ap (λ (w : Bool). not w || is_final_letter x) (sym (waiting_is kept k n))
