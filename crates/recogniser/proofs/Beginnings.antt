@@ -59,6 +59,10 @@ tone_was : (t n : ToneMark) (g : ℕ) → 0x100000000 * tone_weight n ≡ 0x1000
 tone_was no_tone n g e i = tt
 tone_was dot no_tone g e i = let z : ⊥ = omega arith in absurd z
 tone_was visarga no_tone g e i = let z : ⊥ = omega arith in absurd z
+tone_was dot dot g e i = elim i [ ]
+tone_was dot visarga g e i = elim i [ ]
+tone_was visarga dot g e i = elim i [ ]
+tone_was visarga visarga g e i = elim i [ ]
 
 -- what a letter joins is a final, and where that is a single one it joins a single one or none
 made_final : {c : ℕ} {f made : Final} → Joins c f made → (is_no_final made ≡ false) × (T (is_single made) → T (is_single f))

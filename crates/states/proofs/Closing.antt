@@ -8,7 +8,7 @@ use Prim.Native.Nat.{ℕ, ◌-◌, ◌*◌, ◌^◌, ◌≤◌}
 use native.Mathlib.Omega.{arith}
 use lib.Dec.{T, eqb, eqb→eq}
 use Rattle.letters.specs.Choice.{pick}
-use Rattle.letters.specs.Marks.{neither, MedialGroup, group, Vowel, no_vowel, ToneMark, no_tone, dot, visarga}
+use Rattle.letters.specs.Marks.{neither, MedialGroup, group, Vowel, no_vowel, ToneMark, no_tone, dot, visarga, ra, vowel_aa, vowel_ai, vowel_am, vowel_e, vowel_e_aa, vowel_e_aa_killer, vowel_i, vowel_i_u, vowel_ii, vowel_u, vowel_u_am, vowel_uu, ya}
 use Rattle.letters.specs.Weights.{is_final_letter}
 use Rattle.letters.proofs.Picks.{and_no_right}
 use Rattle.letters.proofs.Tests.{is_true, or_second, or_false}
@@ -156,6 +156,22 @@ bare_cases P m v at_bare at_rest = go (is_no_medial m && is_no_vowel v) refl
   where
     here : (n : MedialGroup) (u : Vowel) → T (is_no_medial n && is_no_vowel u) → P n u
     here (group neither false false) no_vowel t = at_bare
+    here (group neither false false) (vowel_aa _) t = elim t [ ]
+    here (group neither false false) vowel_i t = elim t [ ]
+    here (group neither false false) vowel_ii t = elim t [ ]
+    here (group neither false false) vowel_u t = elim t [ ]
+    here (group neither false false) vowel_uu t = elim t [ ]
+    here (group neither false false) vowel_e t = elim t [ ]
+    here (group neither false false) vowel_ai t = elim t [ ]
+    here (group neither false false) (vowel_e_aa _) t = elim t [ ]
+    here (group neither false false) (vowel_e_aa_killer _) t = elim t [ ]
+    here (group neither false false) vowel_am t = elim t [ ]
+    here (group neither false false) vowel_i_u t = elim t [ ]
+    here (group neither false false) vowel_u_am t = elim t [ ]
+    here (group neither false true) u t = elim t [ ]
+    here (group neither true _) u t = elim t [ ]
+    here (group ya _ _) u t = elim t [ ]
+    here (group ra _ _) u t = elim t [ ]
 
     go : (b : Bool) → (is_no_medial m && is_no_vowel v) ≡ b → P m v
     go true e = here m v (subst T (sym e) tt)
@@ -182,6 +198,13 @@ module _ (x : ℕ) where
       on_open x 22 on_killer _ h m v a (λ (b : Bool). killed (vowel_and 0x103A v) (syllable h m v no_final no_tone) a) c
       (same_equal _ _ (both_right (grown link_byte v (vowel_and 0x103A v)) _ r))
       (killed_marked x h m v a (vowel_and 0x103A v) c e (both_left (grown link_byte v (vowel_and 0x103A v)) _ r)))
+  killer_open h m v no_final dot a c o = elim o [ ]
+  killer_open h m v no_final visarga a c o = elim o [ ]
+  killer_open h m v (plain _) t a c o = elim o [ ]
+  killer_open h m v (plain_pair _ _) t a c o = elim o [ ]
+  killer_open h m v (stacked _) t a c o = elim o [ ]
+  killer_open h m v kinzi t a c o = elim o [ ]
+  killer_open h m v great_sa t a c o = elim o [ ]
 
 killer_none : (o : Option Vowel) (h : ℕ) (m : MedialGroup) (v : Vowel) (f : Final) (t : ToneMark) (a : Row)
     → (carries_marks h && is_open f t) ≡ false → killed o (syllable h m v f t) a ≡ none
@@ -297,6 +320,8 @@ stacker_followed x (syllable h m v no_final t ∷ a) k =
     stack_open : (t : ToneMark) → T (carries_marks h) → T (is_no_tone t)
         → Follows x 22 on_stacker step_stacker (syllable h m v no_final t ∷ a)
     stack_open no_tone c o = stacker_open x h m v a c
+    stack_open dot c o = elim o [ ]
+    stack_open visarga c o = elim o [ ]
 stacker_followed x (syllable h m v (plain c) t ∷ a) k =
     kinzi_followed x (carries_final h) h m v c t a (or_false (carries_final h) (apart h m v (plain c) t k.1).closing) refl
 stacker_followed x (syllable h m v (plain_pair c d) t ∷ a) k = refused x 22 _ _ none (stack_refused (carries_final h) t pair_final tt) refl
