@@ -1,5 +1,6 @@
 -- `book_order::is_before` meets its contract: the weights of the two keys decide, and where they are equal the bytes of the two words.
 -- Assumes nothing.
+use borrow.Enum.Refused.{opened}
 use borrow.Author.Rules.{rules}
 use mathlib.Core.Path.{◌≡◌, ◌∙◌}
 use mathlib.Core.List.{List}
@@ -73,7 +74,7 @@ returns-in_default c =
     let second_count : c.wide-2.result ≡ length (row_of (word_at c.args.book.now c.args.second)) =
     c.wide-2.ensures.0 ∙ key_count _ c.args.keys.now c.args.second c.pre.3 in
     weights_decide c.args.book.now c.args.keys.now c.args.first c.args.second c.pre.2 c.pre.3 _ _
-    first_count second_count c.order_keys-by_weights.result c.order_keys-by_weights.ensures c.in_default.in_default-own.keys2
+    first_count second_count c.order_keys-by_weights.result c.order_keys-by_weights.ensures (opened c.in_default.in_default-own.keys2)
     c.is_less.result c.is_less.ensures
 
 pub overflow_add-first : goal.overflow_add-first

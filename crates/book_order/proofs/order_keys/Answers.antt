@@ -1,5 +1,6 @@
 -- `book_order::order_keys` meets its contract: the first eight bytes decide, or the whole parts are compared.
 -- Assumes nothing.
+use borrow.Enum.Refused.{opened}
 use mathlib.Core.Path.{◌≡◌, ap, sym, ◌∙◌}
 use mathlib.Core.List.{[], ◌∷◌}
 use mathlib.Core.Logic.{inl, inr}
@@ -19,4 +20,4 @@ found o whole (inl e) t = sym (decided o whole t) ∙ ap (λ (p : Order). in_tur
 found o whole (inr e) t = e
 
 pub returns-in_default : goal.returns-in_default
-returns-in_default c = found c.order_fronts-order.result _ c.order_fronts-order.ensures c.in_default.in_default-own.keys2
+returns-in_default c = found c.order_fronts-order.result _ c.order_fronts-order.ensures (opened c.in_default.in_default-own.keys2)

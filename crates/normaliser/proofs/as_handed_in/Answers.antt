@@ -1,5 +1,6 @@
 -- `normaliser::as_handed_in` meets its contract: number 2 is that of `Foreign` alone.
 -- Assumes nothing.
+use borrow.Enum.Refused.{opened}
 use mathlib.Core.Path.{◌≡◌, refl, ap}
 use mathlib.Core.Bool.{false, false≢true}
 use mathlib.Core.List.{◌∷◌}
@@ -26,5 +27,5 @@ returns-in-Foreign c =
 pub returns : goal.returns
 returns c =
     let r = c.args.refusal in
-    let other = same_at (λ (tag : ℕ). eqb tag 1) false (0 ∷ up_from 2 14) refl _ c.in_default.in_default-own.keys2 in
+    let other = same_at (λ (tag : ℕ). eqb tag 1) false (0 ∷ up_from 2 14) refl _ (opened c.in_default.in_default-own.keys2) in
     record { same = λ _. refl; first = λ (e : number_of r ≡ 2). absurd (false≢true (rw (is_foreign_lem r e) at other)) }

@@ -1,5 +1,6 @@
 -- `collation::compare::compare` meets its contract: the first heads tell the order, or else the keys do.
 -- Assumes nothing.
+use borrow.Enum.Refused.{opened}
 use borrow.Author.Rules.{rules}
 use Rattle.collation.proofs.Apart.{heads_answer}
 use Rattle.collation.proofs.compare.compare.Goals as goal
@@ -7,5 +8,5 @@ use Rattle.collation.proofs.compare.compare.Goals as goal
 pub returns : goal.returns
 returns c =
     let s = c.args in
-    heads_answer s.first.now s.second.now c.order_heads-order.result c.order_heads-order.ensures c.in_default.in_default-own.keys2 c.answer_of.result
+    heads_answer s.first.now s.second.now c.order_heads-order.result c.order_heads-order.ensures (opened c.in_default.in_default-own.keys2) c.answer_of.result
     c.answer_of.ensures

@@ -1,5 +1,6 @@
 -- `listing::running::read_chunk` meets its contract: it hands back what one read brought, an interrupted one only where no calls are left. The loop's invariant: the last read told that and the calls left, and the chunk keeps its length. The measure is the number of calls that are left.
 -- Assumes nothing.
+use borrow.Enum.Refused.{opened}
 use mathlib.Core.Path.{◌≡◌, refl, ◌∙◌}
 use Prim.Native.Nat.{ℕ}
 use native.Mathlib.Omega.{arith}
@@ -22,7 +23,7 @@ shape_of-chunk-in_default c = c.loop-calls.invariant.0 ∙ c.read_once-input.aut
 
 pub returns-in_default : goal.returns-in_default
 returns-in_default c =
-    record { reads = counted c.loop-calls.invariant.1; whole = λ e. absurd (not_interrupted _ c.in_default.in_default-own.keys2 e) }
+    record { reads = counted c.loop-calls.invariant.1; whole = λ e. absurd (not_interrupted _ (opened c.in_default.in_default-own.keys2) e) }
 
 pub overflow_sub-calls : goal.overflow_sub-calls
 overflow_sub-calls c = omega arith

@@ -1,5 +1,6 @@
 -- `recogniser::foreign::is_foreign` meets its contract: a value is admitted unless its kind is foreign.
 -- Assumes nothing.
+use borrow.Enum.Refused.{opened}
 use mathlib.Core.Path.{◌≡◌, refl, ap, sym, ◌∙◌}
 use mathlib.Core.Bool.{Bool, true, false, not, false≢true}
 use mathlib.Core.List.{[], ◌∷◌}
@@ -25,5 +26,5 @@ pub returns : goal.returns
 unfolding is_foreign
 returns c =
     let x = c.args.x in
-    let other = same_at (λ (tag : ℕ). eqb tag 11) false (0 ∷ 1 ∷ 2 ∷ 3 ∷ 4 ∷ 5 ∷ 6 ∷ 7 ∷ 8 ∷ 9 ∷ 10 ∷ []) refl _ c.in_default.in_default-own.keys2 in
+    let other = same_at (λ (tag : ℕ). eqb tag 11) false (0 ∷ 1 ∷ 2 ∷ 3 ∷ 4 ∷ 5 ∷ 6 ∷ 7 ∷ 8 ∷ 9 ∷ 10 ∷ []) refl _ (opened c.in_default.in_default-own.keys2) in
     unless (is_admitted x) (λ (e : is_admitted x ≡ false). false≢true (rw (c.kind_of-kind.ensures ∙ unadmitted_foreign x e) at other))

@@ -20,7 +20,7 @@ returns-then-begins c =
     let more : c.args.change ≡ 2 =
     one_more c.requires _ c.begins.ensures c.if-begins.true in
     let a = c.args in
-    after_head a.window a.change a.gain a.x _ _ more c.begun-head.ensures.0 c.Joined-by.ensures
+    after_head a.window a.change a.gain a.x _ _ more c.begun-head.ensures.0 c.joined_by.ensures
 
 pub overflow_add-result-2 : goal.overflow_add-result-2
 overflow_add-result-2 c = let r = c.requires.room in omega arith
