@@ -22,8 +22,8 @@ bounds-output-next c = omega (arith, copied_long _ _ _ _ _ c.loop-next.invariant
 pub loop-next-preserved : goal.loop-next-preserved
 loop-next-preserved c =
     let l = c.loop-next in
-    copied-value c.args.book.now c.args.from c.args.count c.requires.0 c.args.output.now l.output l.next c.value_of_lem.result
-    l.invariant c.loop-next-test.true c.value_of_lem.ensures
+    copied-value c.args.book.now c.args.from c.args.count c.requires.0 c.args.output.now l.output l.next c.value_of.result
+    l.invariant c.loop-next-test.true c.value_of.ensures
 
 pub shape_of-output : goal.shape_of-output
 shape_of-output c = copied_long _ _ _ _ _ c.loop-next.invariant

@@ -26,7 +26,7 @@ returns-then-not-is_framed c =
 pub bounds-book-at : goal.bounds-book-at
 bounds-book-at c =
     let framed_on : is_framed c.args.book.now c.args.at ≡ true =
-    sym c.is_framed.ensures ∙ not-false _ c.if-not-is_framed.false in
+    sym c.is_framed.ensures ∙ c.if-not-is_framed.false in
     let frame : Framed c.args.book.now c.args.at =
     framed_true _ _ (of_true _ framed_on) in
     let f = frame in omega (arith, f.room, f.some)
@@ -34,7 +34,7 @@ bounds-book-at c =
 pub values_of-values-requires : goal.values_of-values-requires
 values_of-values-requires c =
     let framed_on : is_framed c.args.book.now c.args.at ≡ true =
-    sym c.is_framed.ensures ∙ not-false _ c.if-not-is_framed.false in
+    sym c.is_framed.ensures ∙ c.if-not-is_framed.false in
     let frame : Framed c.args.book.now c.args.at =
     framed_true _ _ (of_true _ framed_on) in
     let f = frame in
@@ -43,7 +43,7 @@ values_of-values-requires c =
 pub slice_bounds-values-end : goal.slice_bounds-values-end
 slice_bounds-values-end c =
     let framed_on : is_framed c.args.book.now c.args.at ≡ true =
-    sym c.is_framed.ensures ∙ not-false _ c.if-not-is_framed.false in
+    sym c.is_framed.ensures ∙ c.if-not-is_framed.false in
     let frame : Framed c.args.book.now c.args.at =
     framed_true _ _ (of_true _ framed_on) in
     let f = frame in omega (arith, f.short, c.wide-count.ensures.0, c.values_of-values.ensures.1)
@@ -51,7 +51,7 @@ slice_bounds-values-end c =
 pub slice_bounds-is_row-end : goal.slice_bounds-is_row-end
 slice_bounds-is_row-end c =
     let framed_on : is_framed c.args.book.now c.args.at ≡ true =
-    sym c.is_framed.ensures ∙ not-false _ c.if-not-is_framed.false in
+    sym c.is_framed.ensures ∙ c.if-not-is_framed.false in
     let frame : Framed c.args.book.now c.args.at =
     framed_true _ _ (of_true _ framed_on) in
     let f = frame in
@@ -62,7 +62,7 @@ slice_bounds-is_row-end c =
 pub returns : goal.returns
 returns c =
     let framed_on : is_framed c.args.book.now c.args.at ≡ true =
-    sym c.is_framed.ensures ∙ not-false _ c.if-not-is_framed.false in
+    sym c.is_framed.ensures ∙ c.if-not-is_framed.false in
     let b = c.args.book.now in
     let at = c.args.at in
     let e : take c.wide-count.result c.values_of-values.result ≡ word_at b at =

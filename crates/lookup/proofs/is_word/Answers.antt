@@ -16,8 +16,8 @@ loop-next-init c = (omega arith, λ k h. let z : ⊥ = omega arith in absurd z)
 pub returns-then-value_of-word : goal.returns-then-value_of-word
 returns-then-value_of-word c =
     let value : let s = c.args in
-    c.value_of_lem.result ≡ value_of (get_or s.book.now (s.from + c.loop-next.next) 0) =
-    c.value_of_lem.ensures in
+    c.value_of.result ≡ value_of (get_or s.book.now (s.from + c.loop-next.next) 0) =
+    c.value_of.ensures in
     sym
     (word_differs c.args.book.now c.args.word.now c.args.from c.loop-next.next c.requires c.loop-next-test.true
     (λ e. c.if-value_of-word.true (value ∙ e)))
@@ -25,8 +25,8 @@ returns-then-value_of-word c =
 pub loop-next-preserved : goal.loop-next-preserved
 loop-next-preserved c =
     let value : let s = c.args in
-    c.value_of_lem.result ≡ value_of (get_or s.book.now (s.from + c.loop-next.next) 0) =
-    c.value_of_lem.ensures in
+    c.value_of.result ≡ value_of (get_or s.book.now (s.from + c.loop-next.next) 0) =
+    c.value_of.ensures in
     (omega arith, below_more _ _ c.loop-next.invariant.1 (sym value ∙ c.if-value_of-word.false))
 
 pub returns : goal.returns

@@ -18,4 +18,4 @@ pub returns : goal.returns
 returns c =
     values_right
     (told_word _ c.decode-decoded.result c.decode-decoded.ensures _ c.in_default.is)
-    c.key_of_lem.ensures
+    c.key_of.ensures

@@ -77,7 +77,7 @@ returns-then-not-is_record c =
 pub overflow_add-at : goal.overflow_add-at
 overflow_add-at c =
     let good : is_framed c.args.book.now c.loop-at.at && is_readable (word_at c.args.book.now c.loop-at.at) ≡ true =
-    sym c.is_record.ensures ∙ not-false _ c.if-not-is_record.false in
+    sym c.is_record.ensures ∙ c.if-not-is_record.false in
     let framed_on : T (is_framed c.args.book.now c.loop-at.at) =
     let l = c.loop-at in
     frame_here c.args.book.now l.at l.live l.heads l.links l.inv.1 c.if-book-at-eq0.false good in
@@ -90,7 +90,7 @@ overflow_add-at c =
 pub bounds-book-at-in-loop-at : goal.bounds-book-at-in-loop-at
 bounds-book-at-in-loop-at c =
     let good : is_framed c.args.book.now c.loop-at.at && is_readable (word_at c.args.book.now c.loop-at.at) ≡ true =
-    sym c.is_record.ensures ∙ not-false _ c.if-not-is_record.false in
+    sym c.is_record.ensures ∙ c.if-not-is_record.false in
     let framed_on : T (is_framed c.args.book.now c.loop-at.at) =
     let l = c.loop-at in
     frame_here c.args.book.now l.at l.live l.heads l.links l.inv.1 c.if-book-at-eq0.false good in
@@ -101,7 +101,7 @@ bounds-book-at-in-loop-at c =
 pub has_mark-requires : goal.has_mark-requires
 has_mark-requires c =
     let good : is_framed c.args.book.now c.loop-at.at && is_readable (word_at c.args.book.now c.loop-at.at) ≡ true =
-    sym c.is_record.ensures ∙ not-false _ c.if-not-is_record.false in
+    sym c.is_record.ensures ∙ c.if-not-is_record.false in
     let framed_on : T (is_framed c.args.book.now c.loop-at.at) =
     let l = c.loop-at in
     frame_here c.args.book.now l.at l.live l.heads l.links l.inv.1 c.if-book-at-eq0.false good in
@@ -112,7 +112,7 @@ has_mark-requires c =
 pub overflow_add-at-then-has_mark : goal.overflow_add-at-then-has_mark
 overflow_add-at-then-has_mark c =
     let good : is_framed c.args.book.now c.loop-at.at && is_readable (word_at c.args.book.now c.loop-at.at) ≡ true =
-    sym c.is_record.ensures ∙ not-false _ c.if-not-is_record.false in
+    sym c.is_record.ensures ∙ c.if-not-is_record.false in
     let framed_on : T (is_framed c.args.book.now c.loop-at.at) =
     let l = c.loop-at in
     frame_here c.args.book.now l.at l.live l.heads l.links l.inv.1 c.if-book-at-eq0.false good in
@@ -125,7 +125,7 @@ overflow_add-at-then-has_mark c =
 pub bucket_of-bucket-requires : goal.bucket_of-bucket-requires
 bucket_of-bucket-requires c =
     let good : is_framed c.args.book.now c.loop-at.at && is_readable (word_at c.args.book.now c.loop-at.at) ≡ true =
-    sym c.is_record.ensures ∙ not-false _ c.if-not-is_record.false in
+    sym c.is_record.ensures ∙ c.if-not-is_record.false in
     let framed_on : T (is_framed c.args.book.now c.loop-at.at) =
     let l = c.loop-at in
     frame_here c.args.book.now l.at l.live l.heads l.links l.inv.1 c.if-book-at-eq0.false good in
@@ -139,7 +139,7 @@ pub is_repeated-requires : goal.is_repeated-requires
 unfolding bucket_at
 is_repeated-requires c =
     let good : is_framed c.args.book.now c.loop-at.at && is_readable (word_at c.args.book.now c.loop-at.at) ≡ true =
-    sym c.is_record.ensures ∙ not-false _ c.if-not-is_record.false in
+    sym c.is_record.ensures ∙ c.if-not-is_record.false in
     let framed_on : T (is_framed c.args.book.now c.loop-at.at) =
     let l = c.loop-at in
     frame_here c.args.book.now l.at l.live l.heads l.links l.inv.1 c.if-book-at-eq0.false good in
@@ -180,7 +180,7 @@ bounds-heads-bucket c = c.bucket_of-bucket.ensures.1
 pub offset_bounds-links-at : goal.offset_bounds-links-at
 offset_bounds-links-at c =
     let good : is_framed c.args.book.now c.loop-at.at && is_readable (word_at c.args.book.now c.loop-at.at) ≡ true =
-    sym c.is_record.ensures ∙ not-false _ c.if-not-is_record.false in
+    sym c.is_record.ensures ∙ c.if-not-is_record.false in
     let framed_on : T (is_framed c.args.book.now c.loop-at.at) =
     let l = c.loop-at in
     frame_here c.args.book.now l.at l.live l.heads l.links l.inv.1 c.if-book-at-eq0.false good in
@@ -193,7 +193,7 @@ offset_bounds-links-at c =
 pub bounds-links-at : goal.bounds-links-at
 bounds-links-at c =
     let good : is_framed c.args.book.now c.loop-at.at && is_readable (word_at c.args.book.now c.loop-at.at) ≡ true =
-    sym c.is_record.ensures ∙ not-false _ c.if-not-is_record.false in
+    sym c.is_record.ensures ∙ c.if-not-is_record.false in
     let framed_on : T (is_framed c.args.book.now c.loop-at.at) =
     let l = c.loop-at in
     frame_here c.args.book.now l.at l.live l.heads l.links l.inv.1 c.if-book-at-eq0.false good in
@@ -206,7 +206,7 @@ bounds-links-at c =
 pub link_to-requires : goal.link_to-requires
 link_to-requires c =
     let good : is_framed c.args.book.now c.loop-at.at && is_readable (word_at c.args.book.now c.loop-at.at) ≡ true =
-    sym c.is_record.ensures ∙ not-false _ c.if-not-is_record.false in
+    sym c.is_record.ensures ∙ c.if-not-is_record.false in
     let framed_on : T (is_framed c.args.book.now c.loop-at.at) =
     let l = c.loop-at in
     frame_here c.args.book.now l.at l.live l.heads l.links l.inv.1 c.if-book-at-eq0.false good in
@@ -225,7 +225,7 @@ bounds-heads-bucket-then-has_mark c = c.bucket_of-bucket.ensures.1
 pub overflow_add-live : goal.overflow_add-live
 overflow_add-live c =
     let good : is_framed c.args.book.now c.loop-at.at && is_readable (word_at c.args.book.now c.loop-at.at) ≡ true =
-    sym c.is_record.ensures ∙ not-false _ c.if-not-is_record.false in
+    sym c.is_record.ensures ∙ c.if-not-is_record.false in
     let framed_on : T (is_framed c.args.book.now c.loop-at.at) =
     let l = c.loop-at in
     frame_here c.args.book.now l.at l.live l.heads l.links l.inv.1 c.if-book-at-eq0.false good in
@@ -243,7 +243,7 @@ overflow_add-at-in-loop-at c = let w = c.wide-count.ensures.1 in omega arith
 pub overflow_add-at-in-loop-at-2 : goal.overflow_add-at-in-loop-at-2
 overflow_add-at-in-loop-at-2 c =
     let good : is_framed c.args.book.now c.loop-at.at && is_readable (word_at c.args.book.now c.loop-at.at) ≡ true =
-    sym c.is_record.ensures ∙ not-false _ c.if-not-is_record.false in
+    sym c.is_record.ensures ∙ c.if-not-is_record.false in
     let framed_on : T (is_framed c.args.book.now c.loop-at.at) =
     let l = c.loop-at in
     frame_here c.args.book.now l.at l.live l.heads l.links l.inv.1 c.if-book-at-eq0.false good in
@@ -258,7 +258,7 @@ overflow_add-at-in-loop-at-2 c =
 pub loop-at-smaller : goal.loop-at-smaller
 loop-at-smaller c =
     let good : is_framed c.args.book.now c.loop-at.at && is_readable (word_at c.args.book.now c.loop-at.at) ≡ true =
-    sym c.is_record.ensures ∙ not-false _ c.if-not-is_record.false in
+    sym c.is_record.ensures ∙ c.if-not-is_record.false in
     let framed_on : T (is_framed c.args.book.now c.loop-at.at) =
     let l = c.loop-at in
     frame_here c.args.book.now l.at l.live l.heads l.links l.inv.1 c.if-book-at-eq0.false good in
@@ -272,7 +272,7 @@ pub loop-at-preserved : goal.loop-at-preserved
 unfolding bucket_at
 loop-at-preserved c =
     let good : is_framed c.args.book.now c.loop-at.at && is_readable (word_at c.args.book.now c.loop-at.at) ≡ true =
-    sym c.is_record.ensures ∙ not-false _ c.if-not-is_record.false in
+    sym c.is_record.ensures ∙ c.if-not-is_record.false in
     let framed_on : T (is_framed c.args.book.now c.loop-at.at) =
     let l = c.loop-at in
     frame_here c.args.book.now l.at l.live l.heads l.links l.inv.1 c.if-book-at-eq0.false good in
