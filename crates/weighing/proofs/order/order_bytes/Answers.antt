@@ -6,10 +6,12 @@ use Prim.Native.Nat.{◌-◌}
 use native.Mathlib.Omega.{arith}
 use borrow.Author.Rules.{rules}
 use borrow.Author.Tests.{ltb-true, ltb-false}
+use borrow.Enum.Refused.{opened}
 use lib.ListN.{length}
 use Rattle.weighing.specs.Order.{order_numbers, order_values}
 use Rattle.weighing.proofs.Passing.{AlikeTo, start, next, differs, ended}
 use Rattle.weighing.proofs.order.order_bytes.Goals as goal
+use Rattle.weighing.proofs.order.order_bytes.Goals.{then-loop-at-test+else-at-second, else-loop-at-test}
 
 pub loop-at-init : goal.loop-at-init
 loop-at-init c = start order_numbers c.args.first.now c.args.second.now
@@ -31,7 +33,7 @@ unfolding order_values
 returns-in_default c =
     let s = c.args in
     differs order_numbers s.first.now s.second.now c.loop-at.at 0 c.loop-at.invariant (omega arith)
-    (omega (arith, ltb-true)) c.order_numbers-order.result c.order_numbers-order.ensures c.in_default.in_default-own.keys2
+    (omega (arith, ltb-true)) c.order_numbers-order.result c.order_numbers-order.ensures (opened c.in_default.in_default-own.keys2)
 
 pub overflow_add-at : goal.overflow_add-at
 overflow_add-at c = omega arith
@@ -51,4 +53,4 @@ returns c =
     let s = c.args in
     c.order_numbers.ensures
     ∙ ended order_numbers s.first.now s.second.now c.loop-at.at c.loop-at.invariant
-    (⊎_elim (λ w. inr (omega (arith, ltb-false, w.1.left))) (λ w. inl (omega (arith, w.left))) c.loop-at-test.branch)
+    (elim c.loop-at-test.branch [ then-loop-at-test+else-at-second w ↦ inr (omega arith) | else-loop-at-test w ↦ inl (omega arith) ])

@@ -6,10 +6,12 @@ use Prim.Native.Nat.{◌-◌}
 use native.Mathlib.Omega.{arith}
 use borrow.Author.Rules.{rules}
 use borrow.Author.Tests.{ltb-true, ltb-false}
+use borrow.Enum.Refused.{opened}
 use lib.ListN.{length}
 use Rattle.weighing.specs.Order.{order_numbers, order_values}
 use Rattle.weighing.proofs.Passing.{AlikeTo, start, next, differs, ended}
 use Rattle.weighing.proofs.order.order_values.Goals as goal
+use Rattle.weighing.proofs.order.order_values.Goals.{then-loop-place-test+else-place-second, else-loop-place-test}
 
 pub loop-place-init : goal.loop-place-init
 loop-place-init c = start order_numbers c.args.first.now c.args.second.now
@@ -37,7 +39,7 @@ unfolding order_values
 returns-in_default c =
     let s = c.args in
     differs order_numbers s.first.now s.second.now c.loop-place.place 0 c.loop-place.invariant (omega arith)
-    (omega (arith, ltb-true)) c.order_numbers-order.result c.order_numbers-order.ensures c.in_default.in_default-own.keys2
+    (omega (arith, ltb-true)) c.order_numbers-order.result c.order_numbers-order.ensures (opened c.in_default.in_default-own.keys2)
 
 pub overflow_add-place : goal.overflow_add-place
 overflow_add-place c = omega arith
@@ -57,4 +59,4 @@ returns c =
     let s = c.args in
     c.order_numbers.ensures
     ∙ ended order_numbers s.first.now s.second.now c.loop-place.place c.loop-place.invariant
-    (⊎_elim (λ w. inr (omega (arith, ltb-false, w.1.left))) (λ w. inl (omega (arith, w.left))) c.loop-place-test.branch)
+    (elim c.loop-place-test.branch [ then-loop-place-test+else-place-second w ↦ inr (omega arith) | else-loop-place-test w ↦ inl (omega arith) ])
