@@ -12,7 +12,7 @@ pub put-requires : goal.put-requires
 put-requires c = omega arith
 
 pub shape_of-out-then-count-eq0 : goal.shape_of-out-then-count-eq0
-shape_of-out-then-count-eq0 c = c.put.auto.0
+shape_of-out-then-count-eq0 c = c.put.auto.out
 
 pub returns-then-count-eq0 : goal.returns-then-count-eq0
 returns-then-count-eq0 c = rw c.if-count-eq0.true c.put.ensures
@@ -31,7 +31,7 @@ overflow_add-done c = omega arith
 pub put_hyphen-next-requires : goal.put_hyphen-next-requires
 put_hyphen-next-requires c =
     let room = further_room c.loop-done.invariant c.loop-done-test.true c.requires.1 c.requires.0 in
-    omega (arith, c.put_syllable-next.ensures.next, c.put_syllable-next.auto.0, syllable_length c.args.key.now c.loop-done.done)
+    omega (arith, c.put_syllable-next.ensures.next, c.put_syllable-next.auto.out, syllable_length c.args.key.now c.loop-done.done)
 
 pub loop-done-smaller : goal.loop-done-smaller
 loop-done-smaller c = omega arith

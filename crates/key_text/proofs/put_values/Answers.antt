@@ -14,7 +14,7 @@ pub put-requires : goal.put-requires
 put-requires c = omega arith
 
 pub shape_of-out-then-values-eq0 : goal.shape_of-out-then-values-eq0
-shape_of-out-then-values-eq0 c = c.put.auto.0
+shape_of-out-then-values-eq0 c = c.put.auto.out
 
 pub returns-then-values-eq0 : goal.returns-then-values-eq0
 returns-then-values-eq0 c = rw c.if-values-eq0.true c.put.ensures
@@ -39,7 +39,7 @@ overflow_add-done c = omega arith
 pub put_hyphen-next-requires : goal.put_hyphen-next-requires
 put_hyphen-next-requires c =
     let room = further_room c.loop-done.invariant c.loop-done-test.true (le_refl _) c.requires.0 in
-    omega (arith, c.put_value-next.ensures.next, c.put_value-next.auto.0, value_length (get_or c.args.values.now c.loop-done.done 0))
+    omega (arith, c.put_value-next.ensures.next, c.put_value-next.auto.out, value_length (get_or c.args.values.now c.loop-done.done 0))
 
 pub loop-done-smaller : goal.loop-done-smaller
 loop-done-smaller c = omega arith
