@@ -8,7 +8,6 @@ use Rattle.memory.proofs.Putting.{put_after}
 use Rattle.key_text.proofs.Decimal.{decimal_short}
 use Rattle.answer_text.specs.Answer.{refused_text}
 use Rattle.answer_text.proofs.Refused.{refused_short}
-use borrow.Author.Rules.{rules}
 use Rattle.answer_text.proofs.put_refused.Goals as goal
 
 pub put-spaced-requires : goal.put-spaced-requires

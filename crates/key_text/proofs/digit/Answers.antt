@@ -1,7 +1,6 @@
 -- `key_text::digit` meets its contract: each branch is a case of the definition.
 -- Assumes nothing.
 use native.Mathlib.Omega.{arith}
-use borrow.Author.Rules.{rules}
 use borrow.Author.Tests.{lt-ltb, le-ltb}
 use Rattle.letters.specs.Choice.{pick}
 use Rattle.key_text.specs.Text.{digit_of}

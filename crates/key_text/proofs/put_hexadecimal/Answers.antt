@@ -1,6 +1,5 @@
 -- `key_text::put_hexadecimal` meets its contract: its two digits are written one behind the other.
 -- Assumes nothing.
-use borrow.Author.Rules.{rules}
 use Rattle.memory.proofs.Putting.{put_after}
 use Rattle.key_text.proofs.put_hexadecimal.Goals as goal
 

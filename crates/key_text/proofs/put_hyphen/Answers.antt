@@ -1,6 +1,5 @@
 -- `key_text::put_hyphen` meets its contract: each branch is a case of the definition.
 -- Assumes nothing.
-use borrow.Author.Rules.{rules}
 use borrow.Author.Tests.{lt-ltb, le-ltb}
 use Rattle.letters.specs.Choice.{pick}
 use Rattle.memory.proofs.Putting.{put_nothing}

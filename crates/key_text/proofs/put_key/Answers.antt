@@ -1,10 +1,8 @@
 -- `key_text::put_key` meets its contract. The loop's invariant is `Further`: the syllables that were written stand with a hyphen behind each, but for the last of all. The measure is what is left of the count.
 -- Assumes nothing.
-use Prim.Native.Nat.{◌-◌}
 use native.Mathlib.Omega.{arith}
 use Rattle.memory.proofs.Putting.{put_length}
-use Rattle.key_text.specs.Text.{syllable_text, syllable_text_size}
-use Rattle.key_text.proofs.Hyphens.{Further, further_none, further_more, further_room, all_written}
+use Rattle.key_text.proofs.Hyphens.{further_none, further_more, further_room, all_written}
 use Rattle.key_text.proofs.Keys.{syllable_length}
 use Rattle.key_text.proofs.put_key.Goals as goal
 

@@ -1,9 +1,6 @@
 use Prim.Native.Nat.{◌-◌}
-use native.Mathlib.Omega.{arith}
-use Rattle.memory.proofs.Putting.{put_length}
 use Rattle.key_text.specs.Text.{syllable_text, syllable_text_size}
-use Rattle.key_text.proofs.Hyphens.{Further, further_none, further_more, further_room, all_written}
-use Rattle.key_text.proofs.Keys.{syllable_length}
+use Rattle.key_text.proofs.Hyphens.{Further}
 use Rattle.key_text.proofs.put_key.Given as goal
 
 abbrev pub invariant-loop-done : goal.invariant-loop-done

@@ -1,13 +1,11 @@
 -- `key_text::put_syllable` meets its contract. The loop's invariant: the weights so far are written, two digits for each. The measure is the number of weights that are left.
 -- Assumes nothing.
 use mathlib.Core.Path.{◌≡◌}
-use Prim.Native.Nat.{◌-◌, ◌≤◌}
 use native.Mathlib.Omega.{arith}
 use native.Mathlib.Numerals.{add-one}
 use Rattle.formula.specs.Limits.{weight_count}
 use Rattle.weighing.specs.Keys.{used_bytes}
-use Rattle.memory.specs.Put.{Put}
-use Rattle.key_text.specs.Text.{hexadecimals_of, syllable_text}
+use Rattle.key_text.specs.Text.{syllable_text}
 use Rattle.memory.proofs.Putting.{put_nothing, put_after, put_length}
 use Rattle.key_text.proofs.Keys.{hexadecimals_length}
 use Rattle.key_text.proofs.put_syllable.Goals as goal

@@ -1,13 +1,7 @@
-use mathlib.Core.Path.{◌≡◌}
 use Prim.Native.Nat.{◌-◌, ◌≤◌}
-use native.Mathlib.Omega.{arith}
-use native.Mathlib.Numerals.{add-one}
 use Rattle.formula.specs.Limits.{weight_count}
-use Rattle.weighing.specs.Keys.{used_bytes}
 use Rattle.memory.specs.Put.{Put}
-use Rattle.key_text.specs.Text.{hexadecimals_of, syllable_text}
-use Rattle.memory.proofs.Putting.{put_nothing, put_after, put_length}
-use Rattle.key_text.proofs.Keys.{hexadecimals_length}
+use Rattle.key_text.specs.Text.{hexadecimals_of}
 use Rattle.key_text.proofs.put_syllable.Given as goal
 
 abbrev pub invariant-loop-done : goal.invariant-loop-done

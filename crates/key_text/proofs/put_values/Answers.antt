@@ -1,12 +1,11 @@
 -- `key_text::put_values` meets its contract. The loop's invariant is `Further`: the values that were written stand with a hyphen behind each, but for the last of all. The measure is what is left of the values.
 -- Assumes nothing.
-use Prim.Native.Nat.{◌-◌}
 use native.Mathlib.Nat.{le_refl}
 use native.Mathlib.Omega.{arith}
-use lib.ListN.{length, get_or}
+use lib.ListN.{get_or}
 use Rattle.memory.proofs.Putting.{put_length}
-use Rattle.key_text.specs.Text.{value_text_at, value_text_size}
-use Rattle.key_text.proofs.Hyphens.{Further, further_none, further_more, further_room, all_written}
+use Rattle.key_text.specs.Text.{value_text_at}
+use Rattle.key_text.proofs.Hyphens.{further_none, further_more, further_room, all_written}
 use Rattle.key_text.proofs.Values.{value_length, value_length_at}
 use Rattle.key_text.proofs.put_values.Goals as goal
 

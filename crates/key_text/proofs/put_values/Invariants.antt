@@ -1,11 +1,7 @@
 use Prim.Native.Nat.{◌-◌}
-use native.Mathlib.Nat.{le_refl}
-use native.Mathlib.Omega.{arith}
-use lib.ListN.{length, get_or}
-use Rattle.memory.proofs.Putting.{put_length}
+use lib.ListN.{length}
 use Rattle.key_text.specs.Text.{value_text_at, value_text_size}
-use Rattle.key_text.proofs.Hyphens.{Further, further_none, further_more, further_room, all_written}
-use Rattle.key_text.proofs.Values.{value_length, value_length_at}
+use Rattle.key_text.proofs.Hyphens.{Further}
 use Rattle.key_text.proofs.put_values.Given as goal
 
 abbrev pub invariant-loop-done : goal.invariant-loop-done

@@ -1,15 +1,12 @@
 -- `weighing::order::order_values` meets its contract: what is passed is equal, so the order is that of what is left, which the first difference or
 -- the first end decides. The measure is what is left of the first list. Assumes nothing.
 use mathlib.Core.Path.{sym, ◌∙◌}
-use mathlib.Core.Logic.{inl, inr, ⊎_elim}
-use Prim.Native.Nat.{◌-◌}
+use mathlib.Core.Logic.{inl, inr}
 use native.Mathlib.Omega.{arith}
-use borrow.Author.Rules.{rules}
-use borrow.Author.Tests.{ltb-true, ltb-false}
+use borrow.Author.Tests.{ltb-true}
 use borrow.Enum.Refused.{opened}
-use lib.ListN.{length}
 use Rattle.weighing.specs.Order.{order_numbers, order_values}
-use Rattle.weighing.proofs.Passing.{AlikeTo, start, next, differs, ended}
+use Rattle.weighing.proofs.Passing.{start, next, differs, ended}
 use Rattle.weighing.proofs.order.order_values.Goals as goal
 use Rattle.weighing.proofs.order.order_values.Goals.{then-loop-place-test+else-place-second, else-loop-place-test}
 

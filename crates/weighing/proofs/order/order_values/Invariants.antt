@@ -1,12 +1,7 @@
-use mathlib.Core.Path.{sym, ◌∙◌}
-use mathlib.Core.Logic.{inl, inr, ⊎_elim}
 use Prim.Native.Nat.{◌-◌}
-use native.Mathlib.Omega.{arith}
-use borrow.Author.Rules.{rules}
-use borrow.Author.Tests.{ltb-true, ltb-false}
 use lib.ListN.{length}
-use Rattle.weighing.specs.Order.{order_numbers, order_values}
-use Rattle.weighing.proofs.Passing.{AlikeTo, start, next, differs, ended}
+use Rattle.weighing.specs.Order.{order_numbers}
+use Rattle.weighing.proofs.Passing.{AlikeTo}
 use Rattle.weighing.proofs.order.order_values.Given as goal
 
 abbrev pub invariant-loop-place : goal.invariant-loop-place
