@@ -30,7 +30,7 @@ unfolding order_values
 returns-in_default c =
     let s = c.args in
     differs order_numbers s.first.now s.second.now c.loop-at.at 0 c.loop-at.invariant (omega arith)
-    (omega (arith, ltb-true)) c.order_numbers-order.result c.order_numbers-order.ensures (opened c.in_default.in_default-own.keys2)
+    (omega (arith, ltb-true)) c.order_numbers-order.result c.order_numbers-order.ensures (search opened)
 
 pub overflow_add-at : goal.overflow_add-at
 overflow_add-at c = omega arith

@@ -36,7 +36,7 @@ unfolding order_values
 returns-in_default c =
     let s = c.args in
     differs order_numbers s.first.now s.second.now c.loop-place.place 0 c.loop-place.invariant (omega arith)
-    (omega (arith, ltb-true)) c.order_numbers-order.result c.order_numbers-order.ensures (opened c.in_default.in_default-own.keys2)
+    (omega (arith, ltb-true)) c.order_numbers-order.result c.order_numbers-order.ensures (search opened)
 
 pub overflow_add-place : goal.overflow_add-place
 overflow_add-place c = omega arith
