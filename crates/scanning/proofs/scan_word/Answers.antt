@@ -17,6 +17,7 @@ use Rattle.recogniser.proofs.Walking.{state_bound, walk_refused}
 use Rattle.scanning.specs.Scanned.{Reached}
 use Rattle.scanning.proofs.Reach.{completed, at_start, count_fits, Turned, turn_fits, turned}
 use Rattle.scanning.proofs.scan_word.Goals as goal
+use Rattle.scanning.proofs.scan_word.Goals.{then-begins, else-begins}
 
 pub loop-at-init : goal.loop-at-init
 loop-at-init c = rw c.unread-window.ensures (omega arith, at_start c.args.word.now)
@@ -159,10 +160,12 @@ loop-at-preserved c =
     c.window_after-window.result c.window_after-window.ensures in
     let t = turns in (
       omega arith,
-      ⊎_elim
-          (λ w. t.begun (more w.0.taken) w.1.result w.1.ensures w.2.result w.2.ensures c.if-begins.syllables w.3 c.if-begins.starts w.4)
-          (λ w. t.stays (no_more w.0.left) c.if-begins.syllables w.1 c.if-begins.starts w.2)
-          c.if-begins.branch,
+      elim c.if-begins.branch [
+        then-begins w ↦
+          t.begun (more w.if-begins.true) w.less-finished.result w.less-finished.ensures w.closed_by.result w.closed_by.ensures c.if-begins.syllables
+          w.syllables-is c.if-begins.starts w.starts-is
+      | else-begins w ↦ t.stays (no_more w.if-begins.false) c.if-begins.syllables w.syllables-is c.if-begins.starts w.starts-is
+      ],
     )
 
 pub offset_bounds-syllables-finished-2 : goal.offset_bounds-syllables-finished-2
