@@ -65,7 +65,7 @@ compose_front x (y ∷ values) = go (eqb y 0x1025) refl
   where
     go : (b : Bool) → eqb y 0x1025 ≡ b → compose (x ∷ y ∷ values) ≡ join_front x (compose (y ∷ values))
     go true e =
-        rw (eqb-true y 0x1025 e)
+        subst (λ (v : ℕ). compose (x ∷ v ∷ values) ≡ join_front x (compose (v ∷ values))) (sym (eqb-true y 0x1025 e))
         (compose_same x 0x1025 values (same_before x 0x1025 refl refl)
         ∙ on_vowel_lem (λ (l : List ℕ). x ∷ l ≡ join_front x l) (λ l. join_same x 0x1025 l (same_before x 0x1025 refl refl))
         (λ l. join_same x 0x1026 l (same_before x 0x1026 refl refl)) (λ l. join_same x 0x1009 l (same_before x 0x1009 refl refl)) values)
@@ -78,7 +78,7 @@ here_composed x y values h = go (eqb y 0x1025) refl
   where
     go : (b : Bool) → eqb y 0x1025 ≡ b → insert x (compose (y ∷ values)) ≡ x ∷ compose (y ∷ values)
     go true e =
-        rw (eqb-true y 0x1025 e)
+        subst (λ (v : ℕ). insert x (compose (v ∷ values)) ≡ x ∷ compose (v ∷ values)) (sym (eqb-true y 0x1025 e))
         (on_vowel_lem (λ (l : List ℕ). insert x l ≡ x ∷ l) (λ l. insert_here itself x 0x1025 l (behind_apart x 0x1025 refl))
         (λ l. insert_here itself x 0x1026 l (behind_apart x 0x1026 refl)) (λ l. insert_here itself x 0x1009 l (behind_apart x 0x1009 refl)) values)
     go false e = rw (compose_other y values e) (insert_here itself x y (compose values) h)

@@ -8,7 +8,7 @@ use native.Mathlib.Omega.{arith}
 use lib.Dec.{T, eqb, eqb→eq, leb, leb→le, not_T}
 use Rattle.letters.specs.Choice.{pick}
 use Rattle.letters.specs.Letters.{is_consonant}
-use Rattle.letters.specs.Marks.{MedialGroup, medial_text, Vowel, no_vowel, vowel_text, ToneMark, no_tone, dot, visarga, tone_text}
+use Rattle.letters.specs.Marks.{MedialGroup, medial_text, Vowel, vowel_text, ToneMark, no_tone, dot, visarga, tone_text}
 use Rattle.letters.specs.Weights.{is_head, is_final_letter}
 use Rattle.letters.proofs.Picks.{or_no}
 use Rattle.letters.proofs.Tests.{or_left, or_second, is_true}

@@ -1,11 +1,7 @@
-use mathlib.Core.Path.{refl, ◌∙◌}
-use mathlib.Core.Logic.{⊎_elim}
 use Prim.Native.Nat.{◌-◌}
-use borrow.Author.Rules.{rules}
 use Rattle.formula.specs.Limits.{limit}
 use Rattle.storage.specs.Stored.{itself}
-use Rattle.storage.proofs.Ranks.{behind_mark}
-use Rattle.storage.proofs.Holding.{Inserting, inserting_more, inserted_last, inserted_before}
+use Rattle.storage.proofs.Holding.{Inserting}
 use Rattle.storage.proofs.insert_mark.Given as goal
 
 abbrev pub invariant-loop-place : goal.invariant-loop-place

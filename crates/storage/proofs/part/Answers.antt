@@ -1,6 +1,5 @@
 -- `storage::part` meets its contract: the part is copied to the front of zeros.
 -- Assumes nothing.
-use borrow.Author.Rules.{rules}
 use Rattle.storage.proofs.Passing.{part_held}
 use Rattle.storage.proofs.part.Goals as goal
 

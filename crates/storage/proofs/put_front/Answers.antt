@@ -3,7 +3,6 @@
 use Prim.Native.Nat.{◌%◌, ◌<◌}
 use native.Mathlib.Omega.{arith}
 use lib.ListN.{drop}
-use borrow.Author.Rules.{rules}
 use Rattle.storage.specs.Stored.{rank}
 use Rattle.storage.proofs.Holding.{behind_first, mark_put, value_put}
 use Rattle.storage.proofs.put_front.Goals as goal

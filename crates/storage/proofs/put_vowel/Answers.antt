@@ -1,7 +1,6 @@
 -- `storage::put_vowel` meets its contract: the value at the place says what the 1025 becomes.
 -- Assumes nothing.
 use mathlib.Core.Path.{sym, ◌∙◌}
-use borrow.Author.Rules.{rules}
 use Rattle.storage.proofs.Holding.{vowel_room, vowel_put, letter_put}
 use Rattle.storage.proofs.put_vowel.Goals as goal
 

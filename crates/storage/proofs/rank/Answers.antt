@@ -1,7 +1,6 @@
 -- `storage::rank` meets its contract: the table has the ranks of 1000 to 103F, and no mark stands outside.
 -- Assumes nothing.
 use mathlib.Core.Path.{sym}
-use borrow.Author.Rules.{rules}
 use Rattle.storage.proofs.Ranks.{rank_entry, rank_outside}
 use Rattle.storage.proofs.rank.Goals as goal
 

@@ -2,8 +2,7 @@
 -- Assumes nothing.
 use mathlib.Core.Path.{sym, ◌∙◌}
 use native.Mathlib.Omega.{arith}
-use borrow.Author.Rules.{rules}
-use Rattle.storage.proofs.Passing.{StoredFrom, stored_none, stored_more, stored_whole, stored_part}
+use Rattle.storage.proofs.Passing.{stored_none, stored_more, stored_whole, stored_part}
 use Rattle.storage.proofs.stored.Goals as goal
 
 pub loop-at-init : goal.loop-at-init

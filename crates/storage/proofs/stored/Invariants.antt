@@ -1,7 +1,4 @@
-use mathlib.Core.Path.{sym, ◌∙◌}
-use native.Mathlib.Omega.{arith}
-use borrow.Author.Rules.{rules}
-use Rattle.storage.proofs.Passing.{StoredFrom, stored_none, stored_more, stored_whole, stored_part}
+use Rattle.storage.proofs.Passing.{StoredFrom}
 use Rattle.storage.proofs.stored.Given as goal
 
 abbrev pub invariant-loop-at : goal.invariant-loop-at

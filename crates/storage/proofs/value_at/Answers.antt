@@ -3,7 +3,6 @@
 use mathlib.Core.Path.{sym}
 use native.Mathlib.Omega.{arith}
 use lib.ListN.{get_or-eq_default}
-use borrow.Author.Rules.{rules}
 use Rattle.storage.proofs.value_at.Goals as goal
 
 pub returns-else-place-lt-LIMIT : goal.returns-else-place-lt-LIMIT
