@@ -1,10 +1,6 @@
-use mathlib.Core.Path.{refl, ◌∙◌}
-use mathlib.Core.Logic.{⊎_elim}
 use Prim.Native.Nat.{◌-◌}
-use borrow.Author.Rules.{rules}
 use Rattle.formula.specs.Limits.{limit}
-use Rattle.storage.proofs.Ranks.{behind_rank}
-use Rattle.storage.proofs.Holding.{Inserting, inserting_more, inserted_last, inserted_before}
+use Rattle.storage.proofs.Holding.{Inserting}
 use Rattle.typed_places.specs.Typed.{typed_at}
 use Rattle.typed_places.proofs.insert_place.Given as goal
 

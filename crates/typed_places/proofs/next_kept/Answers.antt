@@ -1,7 +1,6 @@
 -- `typed_places::next_kept` meets its contract: both values are tested as rule 2 does.
 -- Assumes nothing.
 use mathlib.Core.Path.{sym, ◌∙◌}
-use borrow.Author.Rules.{rules}
 use Rattle.typed_places.proofs.Seeking.{next_other, next_taken, next_plain}
 use Rattle.typed_places.proofs.next_kept.Goals as goal
 

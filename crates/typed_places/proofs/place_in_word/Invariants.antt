@@ -1,12 +1,7 @@
-use mathlib.Core.Path.{◌≡◌, ap, ◌∙◌}
-use mathlib.Core.Logic.{⊎_elim}
-use Prim.Native.Nat.{ℕ, ◌-◌}
-use native.Mathlib.Omega.{arith}
+use mathlib.Core.Path.{◌≡◌}
 use lib.ListN.{length, get_or}
-use borrow.Author.Rules.{rules}
-use borrow.Author.Tests.{ltb-true, ltb-false}
 use Rattle.typed_places.specs.Typed.{typed_places}
-use Rattle.typed_places.proofs.Seeking.{filled_long, seen, seen_first, seen_next, seen_here, seen_none}
+use Rattle.typed_places.proofs.Seeking.{seen}
 use Rattle.typed_places.proofs.place_in_word.Given as goal
 
 abbrev pub invariant-loop-left : goal.invariant-loop-left

@@ -1,8 +1,7 @@
 -- `typed_places::sorted_places` meets its contract. The loop's invariant is `SortedFrom`: from a place on the places are sorted. The measure is what is left of the word.
 -- Assumes nothing.
 use native.Mathlib.Omega.{arith}
-use borrow.Author.Rules.{rules}
-use Rattle.typed_places.proofs.Passing.{SortedFrom, sorted_none, sorted_more, sorted_all}
+use Rattle.typed_places.proofs.Passing.{sorted_none, sorted_more, sorted_all}
 use Rattle.typed_places.proofs.sorted_places.Goals as goal
 
 pub loop-at-init : goal.loop-at-init

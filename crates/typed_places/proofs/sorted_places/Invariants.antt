@@ -1,6 +1,4 @@
-use native.Mathlib.Omega.{arith}
-use borrow.Author.Rules.{rules}
-use Rattle.typed_places.proofs.Passing.{SortedFrom, sorted_none, sorted_more, sorted_all}
+use Rattle.typed_places.proofs.Passing.{SortedFrom}
 use Rattle.typed_places.proofs.sorted_places.Given as goal
 
 abbrev pub invariant-loop-at : goal.invariant-loop-at

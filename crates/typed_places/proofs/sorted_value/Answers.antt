@@ -4,7 +4,6 @@ use mathlib.Core.Path.{sym, ap, ◌∙◌}
 use Prim.Native.Nat.{◌≤◌}
 use native.Mathlib.Omega.{arith}
 use lib.ListN.{length, get_or-eq_default}
-use borrow.Author.Rules.{rules}
 use Rattle.formula.specs.Limits.{limit}
 use Rattle.typed_places.specs.Typed.{typed_at}
 use Rattle.typed_places.proofs.Passing.{typed_past}

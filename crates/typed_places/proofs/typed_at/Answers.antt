@@ -3,7 +3,6 @@
 use mathlib.Core.Path.{refl, sym}
 use native.Mathlib.Omega.{arith}
 use lib.ListN.{get_or-eq_default}
-use borrow.Author.Rules.{rules}
 use Rattle.typed_places.specs.Typed.{typed_at}
 use Rattle.typed_places.proofs.typed_at.Goals as goal
 
