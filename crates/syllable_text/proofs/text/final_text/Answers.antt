@@ -9,7 +9,6 @@ use Rattle.formula.specs.Syllable.{no_final, great_sa, final_text}
 use Rattle.syllable_text.specs.Text.{text_of}
 use Rattle.letters.specs.Choice.{pick}
 use Rattle.syllable_record.specs.Decode.{final_of_numbers}
-use borrow.Author.Rules.{rules}
 use Rattle.syllable_text.proofs.text.final_text.Goals as goal
 
 -- neither a great sa nor an absent final is written

@@ -3,7 +3,6 @@
 use borrow.Author.Tests.{eq-eqb, ne_eqb}
 use Rattle.letters.specs.Choice.{pick}
 use Rattle.syllable_text.specs.Part.{head_after}
-use borrow.Author.Rules.{rules}
 use Rattle.syllable_text.proofs.text.head_value.Goals as goal
 
 pub returns-then-link-eq3 : goal.returns-then-link-eq3

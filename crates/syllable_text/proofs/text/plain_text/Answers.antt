@@ -4,7 +4,6 @@ use mathlib.Core.Path.{◌∙◌}
 use borrow.Author.Tests.{eq-eqb, ne_eqb}
 use Rattle.letters.specs.Choice.{pick}
 use Rattle.syllable_record.specs.Decode.{plain_of_numbers}
-use borrow.Author.Rules.{rules}
 use Rattle.syllable_text.proofs.text.plain_text.Goals as goal
 
 pub returns-then-second_final-eq0 : goal.returns-then-second_final-eq0

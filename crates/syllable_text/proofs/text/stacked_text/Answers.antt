@@ -4,7 +4,6 @@ use mathlib.Core.Path.{◌∙◌}
 use borrow.Author.Tests.{eq-eqb, ne_eqb}
 use Rattle.letters.specs.Choice.{pick}
 use Rattle.syllable_record.specs.Decode.{final_of_numbers}
-use borrow.Author.Rules.{rules}
 use Rattle.syllable_text.proofs.text.stacked_text.Goals as goal
 
 pub returns-then-letter-eq-KINZI_LETTER : goal.returns-then-letter-eq-KINZI_LETTER

@@ -3,7 +3,6 @@
 use borrow.Author.Tests.{ne_eqb}
 use Rattle.letters.specs.Choice.{pick}
 use Rattle.syllable_record.specs.Decode.{vowel_of_weight}
-use borrow.Author.Rules.{rules}
 use Rattle.syllable_text.proofs.text.vowel_text.Goals as goal
 
 pub returns-in-1 : goal.returns-in-1
