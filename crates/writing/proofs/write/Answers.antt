@@ -2,7 +2,6 @@
 -- Assumes nothing.
 use native.Mathlib.Omega.{arith}
 use Rattle.writing.proofs.Answers.{Sized, size_values, write_none, write_short, row_fits, write_done}
-use borrow.Author.Rules.{rules}
 use Rattle.writing.proofs.write.Goals as goal
 
 pub returns-in_default : goal.returns-in_default

@@ -1,12 +1,8 @@
 -- `writing::row::measure` meets its contract. The loop's invariant is `Measured`: the tests of what is left decide, and the values so far are counted. The measure is what is left of the bytes.
 -- Assumes nothing.
 use mathlib.Core.Path.{sym, ◌∙◌}
-use Prim.Native.Nat.{◌-◌}
 use native.Mathlib.Omega.{arith}
-use borrow.Author.Rules.{rules}
-use borrow.Author.Tests.{not-true, not-false}
-use lib.ListN.{length}
-use Rattle.writing.proofs.Measuring.{Measured, measured_none, measured_short, measured_wrong, measured_long, measured_more, measured_open, measured_all}
+use Rattle.writing.proofs.Measuring.{measured_none, measured_short, measured_wrong, measured_long, measured_more, measured_open, measured_all}
 use Rattle.writing.proofs.row.measure.Goals as goal
 
 pub loop-at-init : goal.loop-at-init
@@ -20,7 +16,7 @@ record_at-next-requires c = omega arith
 
 pub returns-then-not-may_follow : goal.returns-then-not-may_follow
 returns-then-not-may_follow c =
-    measured_wrong _ _ _ _ c.loop-at.invariant _ (omega arith) c.record_at-next.ensures (sym c.may_follow.ensures ∙ not-true _ c.if-not-may_follow.true-raw)
+    measured_wrong _ _ _ _ c.loop-at.invariant _ (omega arith) c.record_at-next.ensures (sym c.may_follow.ensures ∙ c.if-not-may_follow.true)
 
 pub overflow_add-count : goal.overflow_add-count
 overflow_add-count c = omega (arith, c.part_size-count.ensures.small)
@@ -38,7 +34,7 @@ loop-at-smaller c = omega arith
 pub loop-at-preserved : goal.loop-at-preserved
 loop-at-preserved c =
     measured_more _ _ _ _ c.loop-at.invariant _ (omega arith) c.record_at-next.ensures _ c.part_size-count.ensures
-    (sym c.may_follow.ensures ∙ not-false _ c.if-not-may_follow.false) (omega arith)
+    (sym c.may_follow.ensures ∙ c.if-not-may_follow.false) (omega arith)
 
 pub returns-then-link-gt1 : goal.returns-then-link-gt1
 returns-then-link-gt1 c = measured_open _ _ _ _ c.loop-at.invariant c.loop-at-test.false (omega arith)

@@ -1,11 +1,10 @@
 -- `writing::row::put_row` meets its contract. The loop's invariant is `Filled`: the output begins with the parts so far, and with what is left they are the word. The measure is what is left of the bytes.
 -- Assumes nothing.
-use Prim.Native.Nat.{◌+◌, ◌-◌, ◌≤◌}
+use Prim.Native.Nat.{◌+◌, ◌≤◌}
 use native.Mathlib.Omega.{arith}
-use borrow.Author.Rules.{rules}
 use lib.ListN.{length}
 use Rattle.formula.specs.Limits.{record_size}
-use Rattle.writing.proofs.Filling.{Filled, filled_none, filled_length, filled_whole, filled_all, filled_room, filled_more}
+use Rattle.writing.proofs.Filling.{filled_none, filled_length, filled_whole, filled_all, filled_room, filled_more}
 use Rattle.writing.proofs.row.put_row.Goals as goal
 
 pub loop-place-init : goal.loop-place-init
