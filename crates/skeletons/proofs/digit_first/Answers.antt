@@ -18,7 +18,6 @@ returns-in-4167 c = rw c.in-4167.is refl
 
 pub returns-in_default : goal.returns-in_default
 returns-in_default c =
-    let r = c.in_default.in_default-own.rest in
     let x = c.args.x in
     let h = c.requires in
-    four_apart x r.0.1 r.1 (λ (e : x ≡ 0x1025). omega arith) (λ (e : x ≡ 0x1029). omega arith)
+    four_apart x (λ (e : x ≡ 0x1040). omega arith) (λ (e : x ≡ 0x1047). omega arith) (λ (e : x ≡ 0x1025). omega arith) (λ (e : x ≡ 0x1029). omega arith)

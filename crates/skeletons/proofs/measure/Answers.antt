@@ -1,11 +1,10 @@
 -- `skeletons::measure` meets its contract. The loop's invariant is `Measured`: the size is that of what the values so far become. The measure is the
 -- number of values that are left.
 -- Assumes nothing.
-use mathlib.Core.Path.{◌≡◌, ap, ◌∙◌}
+use mathlib.Core.Path.{ap, ◌∙◌}
 use mathlib.Core.List.{List}
-use Prim.Native.Nat.{ℕ, ◌-◌, ◌≤◌}
+use Prim.Native.Nat.{ℕ}
 use native.Mathlib.Omega.{arith}
-use borrow.Author.Rules.{rules}
 use lib.ListN.{length, take, get_or, length-append}
 use lib.Seq.{take_all}
 use Rattle.skeletons.specs.Skeleton.{replaced, skeleton_of}
@@ -20,7 +19,7 @@ pub overflow_add-size : goal.overflow_add-size
 unfolding size_of
 overflow_add-size c =
     let word = c.args.word.now in
-    omega (arith, c.loop-at.invariant.is, c.type_size.ensures, next_within word c.loop-at.at c.loop-at-test.true, at_most_two word)
+    omega (arith, c.loop-at.invariant.is, c.size_of-size.ensures, next_within word c.loop-at.at c.loop-at-test.true, at_most_two word)
 
 pub loop-at-preserved : goal.loop-at-preserved
 unfolding size_of
@@ -29,7 +28,7 @@ loop-at-preserved c =
     let at = c.loop-at.at in
     record {
       within = let h = c.loop-at-test.true in omega arith;
-      is = omega (arith, c.loop-at.invariant.is, c.type_size.ensures, ap length (skeleton_next word at c.loop-at-test.true), length-append (skeleton_of (take at word)) (replaced (get_or word at 0)));
+      is = omega (arith, c.loop-at.invariant.is, c.size_of-size.ensures, ap length (skeleton_next word at c.loop-at-test.true), length-append (skeleton_of (take at word)) (replaced (get_or word at 0)));
     }
 
 pub returns : goal.returns

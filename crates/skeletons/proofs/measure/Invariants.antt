@@ -1,14 +1,13 @@
-use mathlib.Core.Path.{◌≡◌, ap, ◌∙◌}
+use mathlib.Core.Path.{◌≡◌}
 use mathlib.Core.List.{List}
 use Prim.Native.Nat.{ℕ, ◌-◌, ◌≤◌}
-use native.Mathlib.Omega.{arith}
-use borrow.Author.Rules.{rules}
-use lib.ListN.{length, take, get_or, length-append}
-use lib.Seq.{take_all}
-use Rattle.skeletons.specs.Skeleton.{replaced, skeleton_of}
-use Rattle.skeletons.specs.Parts.{size_of}
-use Rattle.skeletons.proofs.Filling.{skeleton_next, next_within, at_most_two}
+use lib.ListN.{length, take}
+use Rattle.skeletons.specs.Skeleton.{skeleton_of}
 use Rattle.skeletons.proofs.measure.Given as goal
+
+pub record Measured (word : List ℕ) (size at : ℕ) : Type 0 where
+  pub within : at ≤ length word
+  pub is : size ≡ length (skeleton_of (take at word))
 
 abbrev pub invariant-loop-at : goal.invariant-loop-at
 invariant-loop-at l = Measured l.word l.size l.at

@@ -1,11 +1,8 @@
 -- `skeletons::put` meets its contract. The loop's invariant is `Filled`: what the values so far become stands at the front. The measure is the number of
 -- values that are left.
 -- Assumes nothing.
-use Prim.Native.Nat.{◌-◌}
-use borrow.Author.Rules.{rules}
-use lib.ListN.{length}
 use Rattle.memory.proofs.Putting.{put_length}
-use Rattle.skeletons.proofs.Filling.{Filled, filled_none, filled_room, filled_on, filled_whole}
+use Rattle.skeletons.proofs.Filling.{filled_none, filled_room, filled_on, filled_whole}
 use Rattle.skeletons.proofs.put.Goals as goal
 
 pub loop-at-init : goal.loop-at-init

@@ -1,8 +1,6 @@
 use Prim.Native.Nat.{◌-◌}
-use borrow.Author.Rules.{rules}
 use lib.ListN.{length}
-use Rattle.memory.proofs.Putting.{put_length}
-use Rattle.skeletons.proofs.Filling.{Filled, filled_none, filled_room, filled_on, filled_whole}
+use Rattle.skeletons.proofs.Filling.{Filled}
 use Rattle.skeletons.proofs.put.Given as goal
 
 abbrev pub invariant-loop-at : goal.invariant-loop-at

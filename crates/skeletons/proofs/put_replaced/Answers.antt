@@ -2,7 +2,6 @@
 -- Assumes nothing.
 use mathlib.Core.Path.{ap}
 use native.Mathlib.Omega.{arith}
-use borrow.Author.Rules.{rules}
 use lib.ListN.{length, length-set}
 use Rattle.skeletons.proofs.Filling.{put_one, put_two}
 use Rattle.skeletons.proofs.Replacing.{two_values, one_value, some_value}
