@@ -4,6 +4,7 @@ use mathlib.Core.Path.{◌≡◌, refl, ap, sym, ◌∙◌}
 use mathlib.Core.Bool.{Bool, true, false}
 use mathlib.Core.List.{[]}
 use lib.Dec.{eqb}
+use native.Mathlib.Omega.{arith}
 use borrow.Author.Tests.{ne_eqb}
 use Rattle.formula.specs.Syllable.{no_final, great_sa, final_text}
 use Rattle.syllable_text.specs.Text.{text_of}
@@ -28,4 +29,4 @@ returns-in-2 c = rw c.in-2.is c.stacked_text.ensures
 pub returns-in_default : goal.returns-in_default
 unfolding final_of_numbers pick
 returns-in_default c =
-    rw (ne_eqb _ 1 c.in_default.in_default-own.rest.0.1, ne_eqb _ 2 c.in_default.in_default-own.rest.1) (c.none.ensures ∙ ap text_of (sym (unwritten (eqb c.args.link 3))))
+    rw (ne_eqb c.args.link 1 (λ e. omega arith), ne_eqb c.args.link 2 (λ e. omega arith)) (c.none.ensures ∙ ap text_of (sym (unwritten (eqb c.args.link 3))))

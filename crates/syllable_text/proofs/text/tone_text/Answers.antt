@@ -1,5 +1,6 @@
 -- `syllable_text::text::tone_text` meets its contract: each arm is the tone of its weight, and the last is neither.
 -- Assumes nothing.
+use native.Mathlib.Omega.{arith}
 use borrow.Author.Tests.{ne_eqb}
 use Rattle.letters.specs.Choice.{pick}
 use Rattle.syllable_record.specs.Decode.{tone_of_weight}
@@ -17,7 +18,7 @@ pub returns-in_default : goal.returns-in_default
 unfolding tone_of_weight pick
 returns-in_default c =
     rw (
-      ne_eqb _ 1 c.in_default.in_default-own.rest.0.1,
-      ne_eqb _ 2 c.in_default.in_default-own.rest.1,
+      ne_eqb c.args.weight 1 (λ e. omega arith),
+      ne_eqb c.args.weight 2 (λ e. omega arith),
     )
     c.none.ensures

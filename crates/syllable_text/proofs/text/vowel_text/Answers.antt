@@ -1,5 +1,6 @@
 -- `syllable_text::text::vowel_text` meets its contract: each arm is the vowel of its weight, and the last is none of the twelve.
 -- Assumes nothing.
+use native.Mathlib.Omega.{arith}
 use borrow.Author.Tests.{ne_eqb}
 use Rattle.letters.specs.Choice.{pick}
 use Rattle.syllable_record.specs.Decode.{vowel_of_weight}
@@ -57,17 +58,17 @@ pub returns-in_default : goal.returns-in_default
 unfolding vowel_of_weight pick
 returns-in_default c =
     rw (
-      ne_eqb _ 1 c.in_default.in_default-own.rest.0.0.0.0.0.0.0.0.0.0.0.1,
-      ne_eqb _ 2 c.in_default.in_default-own.rest.0.0.0.0.0.0.0.0.0.0.1,
-      ne_eqb _ 3 c.in_default.in_default-own.rest.0.0.0.0.0.0.0.0.0.1,
-      ne_eqb _ 4 c.in_default.in_default-own.rest.0.0.0.0.0.0.0.0.1,
-      ne_eqb _ 5 c.in_default.in_default-own.rest.0.0.0.0.0.0.0.1,
-      ne_eqb _ 6 c.in_default.in_default-own.rest.0.0.0.0.0.0.1,
-      ne_eqb _ 7 c.in_default.in_default-own.rest.0.0.0.0.0.1,
-      ne_eqb _ 8 c.in_default.in_default-own.rest.0.0.0.0.1,
-      ne_eqb _ 9 c.in_default.in_default-own.rest.0.0.0.1,
-      ne_eqb _ 10 c.in_default.in_default-own.rest.0.0.1,
-      ne_eqb _ 11 c.in_default.in_default-own.rest.0.1,
-      ne_eqb _ 12 c.in_default.in_default-own.rest.1,
+      ne_eqb c.args.weight 1 (λ e. omega arith),
+      ne_eqb c.args.weight 2 (λ e. omega arith),
+      ne_eqb c.args.weight 3 (λ e. omega arith),
+      ne_eqb c.args.weight 4 (λ e. omega arith),
+      ne_eqb c.args.weight 5 (λ e. omega arith),
+      ne_eqb c.args.weight 6 (λ e. omega arith),
+      ne_eqb c.args.weight 7 (λ e. omega arith),
+      ne_eqb c.args.weight 8 (λ e. omega arith),
+      ne_eqb c.args.weight 9 (λ e. omega arith),
+      ne_eqb c.args.weight 10 (λ e. omega arith),
+      ne_eqb c.args.weight 11 (λ e. omega arith),
+      ne_eqb c.args.weight 12 (λ e. omega arith),
     )
     c.none.ensures
