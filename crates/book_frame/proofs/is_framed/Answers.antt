@@ -11,6 +11,7 @@ use Rattle.letters.proofs.Tests.{is_true, is_false}
 use Rattle.entries.proofs.Records.{framed_true, framed_is}
 use Rattle.book_frame.proofs.Marks.{mark_met, mark_missed}
 use Rattle.book_frame.proofs.is_framed.Goals as goal
+use Rattle.book_frame.proofs.is_framed.Goals.{then-not-has_mark+else-not-has_mark-2, else-not-has_mark}
 
 pub returns-then-book-at-lt8 : goal.returns-then-book-at-lt8
 returns-then-book-at-lt8 c = sym (is_false _ (λ t. let f = framed_true _ _ t in let z : ⊥ = omega (arith, f.room, f.some) in z))
@@ -21,8 +22,8 @@ returns-then-not-has_mark-2 c =
     (is_false _
     (λ t. let f = framed_true _ _ t in
     ⊎_elim
-    (λ e. mark_missed _ _ 0x4D 0x57 _ c.has_mark.ensures (not-true _ c.if-not-has_mark.true-raw) f.first e)
-    (λ e. mark_missed _ _ 0x4D 0x2D _ c.has_mark-then-not-has_mark.ensures (not-true _ c.if-not-has_mark-2.true-raw) f.first e) f.mark))
+    (λ e. mark_missed _ _ 0x4D 0x57 _ c.has_mark.ensures (c.if-not-has_mark.true) f.first e)
+    (λ e. mark_missed _ _ 0x4D 0x2D _ c.has_mark-then-not-has_mark.ensures (c.if-not-has_mark-2.true) f.first e) f.mark))
 
 pub returns-then-count-lt1 : goal.returns-then-count-lt1
 returns-then-count-lt1 c =
@@ -38,13 +39,14 @@ returns-then-book-at c =
 
 pub returns : goal.returns
 returns c =
-    let marked : let s = c.args in
-    (get_or s.book.now s.at 0 ≡ 0x4D) × ((get_or s.book.now (s.at + 1) 0 ≡ 0x57) ⊎ (get_or s.book.now (s.at + 1) 0 ≡ 0x2D)) =
-    ⊎_elim
-    (λ w. let m = mark_met _ _ 0x4D 0x2D _ w.2.ensures (not-false _ w.3.left) in (m.0, inr m.1))
-    (λ w. let m = mark_met _ _ 0x4D 0x57 _ c.has_mark.ensures (not-false _ w.left) in (m.0, inl m.1)) c.if-not-has_mark.branch in
+    let s = c.args in
+    let m : (get_or s.book.now s.at 0 ≡ 0x4D) × ((get_or s.book.now (s.at + 1) 0 ≡ 0x57) ⊎ (get_or s.book.now (s.at + 1) 0 ≡ 0x2D)) =
+    elim c.if-not-has_mark.branch [
+      then-not-has_mark+else-not-has_mark-2 w ↦
+      let m = mark_met _ _ 0x4D 0x2D _ w.has_mark-then-not-has_mark.ensures w.if-not-has_mark-2.false in (m.0, inr m.1)
+      | else-not-has_mark w ↦ let m = mark_met _ _ 0x4D 0x57 _ c.has_mark.ensures w.if-not-has_mark.false in (m.0, inl m.1)
+    ] in
     let e = c.wide-count.ensures.0 in
-    let m = marked in
     sym
     (is_true _
     (framed_is _ _

@@ -21,7 +21,7 @@ use Rattle.book_frame.proofs.is_record.Goals as goal
 pub returns-then-not-is_framed : goal.returns-then-not-is_framed
 returns-then-not-is_framed c =
     let s = c.args in
-    ap (λ (t : Bool). t && is_readable (word_at s.book.now s.at)) (sym (not-true _ c.if-not-is_framed.true-raw) ∙ c.is_framed.ensures)
+    ap (λ (t : Bool). t && is_readable (word_at s.book.now s.at)) (sym c.if-not-is_framed.true ∙ c.is_framed.ensures)
 
 pub bounds-book-at : goal.bounds-book-at
 bounds-book-at c =
