@@ -14,6 +14,7 @@ use Rattle.entries.proofs.Records.{Framed, framed_true}
 use Rattle.book_check.specs.Chain.{Chained}
 use Rattle.book_check.proofs.Chains.{Walked, Standing, standing, walk_start, walk_next, walk_end, holds_at, compared, unequal}
 use Rattle.book_check.proofs.chain.is_repeated.Goals as goal
+use Rattle.book_check.proofs.chain.is_repeated.Goals.{then-book-start+else-is_same_part, else-book-start}
 
 pub overflow_add-count : goal.overflow_add-count
 overflow_add-count c = let f = framed_true _ _ c.requires.frame in omega (arith, f.room, c.requires.short)
@@ -35,18 +36,18 @@ overflow_add-start c =
     let frame : Framed c.args.book.now c.args.at =
     framed_true _ _ c.requires.frame in
     let stand : Standing c.args.book.now c.args.at (c.loop-place.place - 1) =
-    let r = c.pre in
+    let r = c.requires in
     standing _ _ r.list _ r.chained.drawn ((c.loop-place.invariant r.list r.chained).live c.loop-place-test.true) in
     let low : c.loop-place.place - 1 < 16377 =
     let s = stand in
     let f = frame in
-    omega (arith, s.before, f.room, c.pre.short) in
+    omega (arith, s.before, f.room, c.requires.short) in
     omega (arith, low)
 
 pub bounds-book-start : goal.bounds-book-start
 bounds-book-start c =
     let stand : Standing c.args.book.now c.args.at (c.loop-place.place - 1) =
-    let r = c.pre in
+    let r = c.requires in
     standing _ _ r.list _ r.chained.drawn ((c.loop-place.invariant r.list r.chained).live c.loop-place-test.true) in
     let s = stand in omega (arith, s.frame.room, s.frame.some)
 
@@ -55,12 +56,12 @@ overflow_add-start-then-book-start c =
     let frame : Framed c.args.book.now c.args.at =
     framed_true _ _ c.requires.frame in
     let stand : Standing c.args.book.now c.args.at (c.loop-place.place - 1) =
-    let r = c.pre in
+    let r = c.requires in
     standing _ _ r.list _ r.chained.drawn ((c.loop-place.invariant r.list r.chained).live c.loop-place-test.true) in
     let low : c.loop-place.place - 1 < 16377 =
     let s = stand in
     let f = frame in
-    omega (arith, s.before, f.room, c.pre.short) in
+    omega (arith, s.before, f.room, c.requires.short) in
     omega (arith, low)
 
 pub overflow_add-at : goal.overflow_add-at
@@ -75,7 +76,7 @@ is_same_part-requires c =
     let frame : Framed c.args.book.now c.args.at =
     framed_true _ _ c.requires.frame in
     let stand : Standing c.args.book.now c.args.at (c.loop-place.place - 1) =
-    let r = c.pre in
+    let r = c.requires in
     standing _ _ r.list _ r.chained.drawn ((c.loop-place.invariant r.list r.chained).live c.loop-place-test.true) in
     let s = stand in
     let f = frame in
@@ -98,12 +99,12 @@ offset_bounds-links-start c =
     let frame : Framed c.args.book.now c.args.at =
     framed_true _ _ c.requires.frame in
     let stand : Standing c.args.book.now c.args.at (c.loop-place.place - 1) =
-    let r = c.pre in
+    let r = c.requires in
     standing _ _ r.list _ r.chained.drawn ((c.loop-place.invariant r.list r.chained).live c.loop-place-test.true) in
     let low : c.loop-place.place - 1 < 16377 =
     let s = stand in
     let f = frame in
-    omega (arith, s.before, f.room, c.pre.short) in
+    omega (arith, s.before, f.room, c.requires.short) in
     omega (arith, low)
 
 pub bounds-links-start : goal.bounds-links-start
@@ -111,12 +112,12 @@ bounds-links-start c =
     let frame : Framed c.args.book.now c.args.at =
     framed_true _ _ c.requires.frame in
     let stand : Standing c.args.book.now c.args.at (c.loop-place.place - 1) =
-    let r = c.pre in
+    let r = c.requires in
     standing _ _ r.list _ r.chained.drawn ((c.loop-place.invariant r.list r.chained).live c.loop-place-test.true) in
     let low : c.loop-place.place - 1 < 16377 =
     let s = stand in
     let f = frame in
-    omega (arith, s.before, f.room, c.pre.short) in
+    omega (arith, s.before, f.room, c.requires.short) in
     omega (arith, low)
 
 pub loop-place-smaller : goal.loop-place-smaller
@@ -124,18 +125,20 @@ loop-place-smaller c =
     let frame : Framed c.args.book.now c.args.at =
     framed_true _ _ c.requires.frame in
     let stand : Standing c.args.book.now c.args.at (c.loop-place.place - 1) =
-    let r = c.pre in
+    let r = c.requires in
     standing _ _ r.list _ r.chained.drawn ((c.loop-place.invariant r.list r.chained).live c.loop-place-test.true) in
-    let equal : same_list (word_at c.args.book.now (c.loop-place.place - 1)) (word_at c.args.book.now c.args.at) ≡ c.is_same_part.result =
-    let n = c.wide in
-    compared c.args.book.now (c.loop-place.place - 1) c.args.at n.result _ (c.if-book-start.true ∙ sym n.ensures.0) (sym n.ensures.0) c.is_same_part.ensures in
     let other : same_list (word_at c.args.book.now (c.loop-place.place - 1)) (word_at c.args.book.now c.args.at) ≡ false =
-    ⊎_elim (λ w. equal (record { before = record { before = record { before = c; if1 = w.0 }; wide = w.1 }; is-same-part = w.2 }) ∙ w.3.left)
-    (λ w. unequal c.args.book.now (c.loop-place.place - 1) c.args.at stand.frame frame w.left) c.if-book-start.branch in
+    elim c.if-book-start.branch [
+      then-book-start+else-is_same_part w ↦
+      let n = w.wide in
+      compared c.args.book.now (c.loop-place.place - 1) c.args.at n.result _ (w.if-book-start.true ∙ sym n.ensures.0) (sym n.ensures.0) w.is_same_part.ensures
+      ∙ w.if-is_same_part.false
+      | else-book-start w ↦ unequal c.args.book.now (c.loop-place.place - 1) c.args.at stand.frame frame w.if-book-start.false
+    ] in
     let step : (es : List Entry) → let g = c.args in
     Chained c.args.book.now g.at es g.heads.now g.links.now → Walked c.args.book.now g.at es g.bucket c.place_of-place-in-loop-place.result × (c.place_of-place-in-loop-place.result < c.loop-place.place) =
     λ es ch. walk_next _ _ es _ _ _ _ _ ch (c.loop-place.invariant es ch) c.loop-place-test.true other c.place_of-place-in-loop-place.ensures in
-    let r = c.pre in
+    let r = c.requires in
     (step r.list r.chained).1
 
 pub loop-place-preserved : goal.loop-place-preserved
@@ -143,14 +146,16 @@ loop-place-preserved c =
     let frame : Framed c.args.book.now c.args.at =
     framed_true _ _ c.requires.frame in
     let stand : Standing c.args.book.now c.args.at (c.loop-place.place - 1) =
-    let r = c.pre in
+    let r = c.requires in
     standing _ _ r.list _ r.chained.drawn ((c.loop-place.invariant r.list r.chained).live c.loop-place-test.true) in
-    let equal : same_list (word_at c.args.book.now (c.loop-place.place - 1)) (word_at c.args.book.now c.args.at) ≡ c.is_same_part.result =
-    let n = c.wide in
-    compared c.args.book.now (c.loop-place.place - 1) c.args.at n.result _ (c.if-book-start.true ∙ sym n.ensures.0) (sym n.ensures.0) c.is_same_part.ensures in
     let other : same_list (word_at c.args.book.now (c.loop-place.place - 1)) (word_at c.args.book.now c.args.at) ≡ false =
-    ⊎_elim (λ w. equal (record { before = record { before = record { before = c; if1 = w.0 }; wide = w.1 }; is-same-part = w.2 }) ∙ w.3.left)
-    (λ w. unequal c.args.book.now (c.loop-place.place - 1) c.args.at stand.frame frame w.left) c.if-book-start.branch in
+    elim c.if-book-start.branch [
+      then-book-start+else-is_same_part w ↦
+      let n = w.wide in
+      compared c.args.book.now (c.loop-place.place - 1) c.args.at n.result _ (w.if-book-start.true ∙ sym n.ensures.0) (sym n.ensures.0) w.is_same_part.ensures
+      ∙ w.if-is_same_part.false
+      | else-book-start w ↦ unequal c.args.book.now (c.loop-place.place - 1) c.args.at stand.frame frame w.if-book-start.false
+    ] in
     let step : (es : List Entry) → let g = c.args in
     Chained c.args.book.now g.at es g.heads.now g.links.now → Walked c.args.book.now g.at es g.bucket c.place_of-place-in-loop-place.result × (c.place_of-place-in-loop-place.result < c.loop-place.place) =
     λ es ch. walk_next _ _ es _ _ _ _ _ ch (c.loop-place.invariant es ch) c.loop-place-test.true other c.place_of-place-in-loop-place.ensures in

@@ -22,6 +22,7 @@ use Rattle.book_check.specs.declared.open.Opening.TheVariants.{Book}
 use Rattle.book_frame.proofs.Marks.{mark_met, mark_missed}
 use Rattle.book_check.proofs.Passing.{Passed, too_long, passed_start, ends_zero, ends_full, no_record, repeated, frame_here, moved, zeros_end, zeros_stray, pass_removed, pass_live, says_right}
 use Rattle.book_check.proofs.open.open_book.Goals as goal
+use Rattle.book_check.proofs.open.open_book.Goals.{then-has_mark+else-is_repeated, else-has_mark}
 
 pub returns-then-book-gt-BOOK_LIMIT : goal.returns-then-book-gt-BOOK_LIMIT
 returns-then-book-gt-BOOK_LIMIT c =
@@ -72,7 +73,7 @@ returns-then-not-is_record c =
     (sym
     (ap opening_of
     (no_record c.args.book.now l.at l.live l.heads l.links l.invariant.1 c.if-book-at-eq0.false
-    (sym c.is_record.ensures ∙ not-true _ c.if-not-is_record.true-raw))))
+    (sym c.is_record.ensures ∙ c.if-not-is_record.true))))
 
 pub overflow_add-at : goal.overflow_add-at
 overflow_add-at c =
@@ -80,7 +81,7 @@ overflow_add-at c =
     sym c.is_record.ensures ∙ c.if-not-is_record.false in
     let framed_on : T (is_framed c.args.book.now c.loop-at.at) =
     let l = c.loop-at in
-    frame_here c.args.book.now l.at l.live l.heads l.links l.inv.1 c.if-book-at-eq0.false good in
+    frame_here c.args.book.now l.at l.live l.heads l.links l.invariant.1 c.if-book-at-eq0.false good in
     let frame : Framed c.args.book.now c.loop-at.at =
     framed_true _ _ framed_on in
     let low : c.loop-at.at < 16377 =
@@ -93,7 +94,7 @@ bounds-book-at-in-loop-at c =
     sym c.is_record.ensures ∙ c.if-not-is_record.false in
     let framed_on : T (is_framed c.args.book.now c.loop-at.at) =
     let l = c.loop-at in
-    frame_here c.args.book.now l.at l.live l.heads l.links l.inv.1 c.if-book-at-eq0.false good in
+    frame_here c.args.book.now l.at l.live l.heads l.links l.invariant.1 c.if-book-at-eq0.false good in
     let frame : Framed c.args.book.now c.loop-at.at =
     framed_true _ _ framed_on in
     let f = frame in omega (arith, f.room, f.some)
@@ -104,7 +105,7 @@ has_mark-requires c =
     sym c.is_record.ensures ∙ c.if-not-is_record.false in
     let framed_on : T (is_framed c.args.book.now c.loop-at.at) =
     let l = c.loop-at in
-    frame_here c.args.book.now l.at l.live l.heads l.links l.inv.1 c.if-book-at-eq0.false good in
+    frame_here c.args.book.now l.at l.live l.heads l.links l.invariant.1 c.if-book-at-eq0.false good in
     let frame : Framed c.args.book.now c.loop-at.at =
     framed_true _ _ framed_on in
     let f = frame in omega (arith, f.room)
@@ -115,7 +116,7 @@ overflow_add-at-then-has_mark c =
     sym c.is_record.ensures ∙ c.if-not-is_record.false in
     let framed_on : T (is_framed c.args.book.now c.loop-at.at) =
     let l = c.loop-at in
-    frame_here c.args.book.now l.at l.live l.heads l.links l.inv.1 c.if-book-at-eq0.false good in
+    frame_here c.args.book.now l.at l.live l.heads l.links l.invariant.1 c.if-book-at-eq0.false good in
     let frame : Framed c.args.book.now c.loop-at.at =
     framed_true _ _ framed_on in
     let low : c.loop-at.at < 16377 =
@@ -128,7 +129,7 @@ bucket_of-bucket-requires c =
     sym c.is_record.ensures ∙ c.if-not-is_record.false in
     let framed_on : T (is_framed c.args.book.now c.loop-at.at) =
     let l = c.loop-at in
-    frame_here c.args.book.now l.at l.live l.heads l.links l.inv.1 c.if-book-at-eq0.false good in
+    frame_here c.args.book.now l.at l.live l.heads l.links l.invariant.1 c.if-book-at-eq0.false good in
     let frame : Framed c.args.book.now c.loop-at.at =
     framed_true _ _ framed_on in
     let f = frame in
@@ -142,7 +143,7 @@ is_repeated-requires c =
     sym c.is_record.ensures ∙ c.if-not-is_record.false in
     let framed_on : T (is_framed c.args.book.now c.loop-at.at) =
     let l = c.loop-at in
-    frame_here c.args.book.now l.at l.live l.heads l.links l.inv.1 c.if-book-at-eq0.false good in
+    frame_here c.args.book.now l.at l.live l.heads l.links l.invariant.1 c.if-book-at-eq0.false good in
     let frame : Framed c.args.book.now c.loop-at.at =
     framed_true _ _ framed_on in
     let bucket : c.bucket_of-bucket.result ≡ bucket_at c.args.book.now c.loop-at.at =
@@ -150,12 +151,12 @@ is_repeated-requires c =
     ∙ ap (λ (n : ℕ). hash_of (take n (drop (c.loop-at.at + head_size) c.args.book.now)) 0) c.wide-count.ensures.0 in
     let l = c.loop-at in
     record {
-      short = l.inv.0;
+      short = l.invariant.0;
       frame = framed_on;
       bucket_is = bucket;
       bucket_small = c.bucket_of-bucket.ensures.1;
-      list = l.inv.1.list;
-      chained = l.inv.1.chained;
+      list = l.invariant.1.list;
+      chained = l.invariant.1.chained;
     }
 
 pub returns-then-is_repeated : goal.returns-then-is_repeated
@@ -168,8 +169,8 @@ returns-then-is_repeated c =
     right _
     (sym
     (ap opening_of
-    (repeated c.args.book.now l.at l.live l.heads l.links l.inv.1 c.if-book-at-eq0.left alive
-    (sym (c.is_repeated.ensures l.inv.1.list l.inv.1.chained) ∙ c.if-is_repeated.true))))
+    (repeated c.args.book.now l.at l.live l.heads l.links l.invariant.1 c.if-book-at-eq0.false alive
+    (sym (c.is_repeated.ensures l.invariant.1.list l.invariant.1.chained) ∙ c.if-is_repeated.true))))
 
 pub offset_bounds-heads-bucket : goal.offset_bounds-heads-bucket
 offset_bounds-heads-bucket c = let s = c.bucket_of-bucket.ensures.1 in omega arith
@@ -183,7 +184,7 @@ offset_bounds-links-at c =
     sym c.is_record.ensures ∙ c.if-not-is_record.false in
     let framed_on : T (is_framed c.args.book.now c.loop-at.at) =
     let l = c.loop-at in
-    frame_here c.args.book.now l.at l.live l.heads l.links l.inv.1 c.if-book-at-eq0.false good in
+    frame_here c.args.book.now l.at l.live l.heads l.links l.invariant.1 c.if-book-at-eq0.false good in
     let frame : Framed c.args.book.now c.loop-at.at =
     framed_true _ _ framed_on in
     let low : c.loop-at.at < 16377 =
@@ -196,7 +197,7 @@ bounds-links-at c =
     sym c.is_record.ensures ∙ c.if-not-is_record.false in
     let framed_on : T (is_framed c.args.book.now c.loop-at.at) =
     let l = c.loop-at in
-    frame_here c.args.book.now l.at l.live l.heads l.links l.inv.1 c.if-book-at-eq0.false good in
+    frame_here c.args.book.now l.at l.live l.heads l.links l.invariant.1 c.if-book-at-eq0.false good in
     let frame : Framed c.args.book.now c.loop-at.at =
     framed_true _ _ framed_on in
     let low : c.loop-at.at < 16377 =
@@ -209,7 +210,7 @@ link_to-requires c =
     sym c.is_record.ensures ∙ c.if-not-is_record.false in
     let framed_on : T (is_framed c.args.book.now c.loop-at.at) =
     let l = c.loop-at in
-    frame_here c.args.book.now l.at l.live l.heads l.links l.inv.1 c.if-book-at-eq0.false good in
+    frame_here c.args.book.now l.at l.live l.heads l.links l.invariant.1 c.if-book-at-eq0.false good in
     let frame : Framed c.args.book.now c.loop-at.at =
     framed_true _ _ framed_on in
     let low : c.loop-at.at < 16377 =
@@ -228,13 +229,13 @@ overflow_add-live c =
     sym c.is_record.ensures ∙ c.if-not-is_record.false in
     let framed_on : T (is_framed c.args.book.now c.loop-at.at) =
     let l = c.loop-at in
-    frame_here c.args.book.now l.at l.live l.heads l.links l.inv.1 c.if-book-at-eq0.false good in
+    frame_here c.args.book.now l.at l.live l.heads l.links l.invariant.1 c.if-book-at-eq0.false good in
     let frame : Framed c.args.book.now c.loop-at.at =
     framed_true _ _ framed_on in
     let low : c.loop-at.at < 16377 =
     let f = frame in omega (arith, f.room, f.some, c.loop-at.invariant.0) in
     let l = low in
-    let f = c.loop-at.inv.1.few in
+    let f = c.loop-at.invariant.1.few in
     omega arith
 
 pub overflow_add-at-in-loop-at : goal.overflow_add-at-in-loop-at
@@ -246,7 +247,7 @@ overflow_add-at-in-loop-at-2 c =
     sym c.is_record.ensures ∙ c.if-not-is_record.false in
     let framed_on : T (is_framed c.args.book.now c.loop-at.at) =
     let l = c.loop-at in
-    frame_here c.args.book.now l.at l.live l.heads l.links l.inv.1 c.if-book-at-eq0.false good in
+    frame_here c.args.book.now l.at l.live l.heads l.links l.invariant.1 c.if-book-at-eq0.false good in
     let frame : Framed c.args.book.now c.loop-at.at =
     framed_true _ _ framed_on in
     let low : c.loop-at.at < 16377 =
@@ -261,7 +262,7 @@ loop-at-smaller c =
     sym c.is_record.ensures ∙ c.if-not-is_record.false in
     let framed_on : T (is_framed c.args.book.now c.loop-at.at) =
     let l = c.loop-at in
-    frame_here c.args.book.now l.at l.live l.heads l.links l.inv.1 c.if-book-at-eq0.false good in
+    frame_here c.args.book.now l.at l.live l.heads l.links l.invariant.1 c.if-book-at-eq0.false good in
     let frame : Framed c.args.book.now c.loop-at.at =
     framed_true _ _ framed_on in
     let f = frame in
@@ -275,33 +276,27 @@ loop-at-preserved c =
     sym c.is_record.ensures ∙ c.if-not-is_record.false in
     let framed_on : T (is_framed c.args.book.now c.loop-at.at) =
     let l = c.loop-at in
-    frame_here c.args.book.now l.at l.live l.heads l.links l.inv.1 c.if-book-at-eq0.false good in
+    frame_here c.args.book.now l.at l.live l.heads l.links l.invariant.1 c.if-book-at-eq0.false good in
     let frame : Framed c.args.book.now c.loop-at.at =
     framed_true _ _ framed_on in
-    let alive : get_or c.args.book.now (c.loop-at.at + 1) 0 ≡ 0x57 =
-    (mark_met (get_or c.args.book.now c.loop-at.at 0) _ 0x4D 0x57 _ c.has_mark.ensures c.if-has_mark.true).1 in
-    let bucket : c.bucket_of-bucket.result ≡ bucket_at c.args.book.now c.loop-at.at =
-    c.bucket_of-bucket.ensures.0
-    ∙ ap (λ (n : ℕ). hash_of (take n (drop (c.loop-at.at + head_size) c.args.book.now)) 0) c.wide-count.ensures.0 in
-    let one_more : Passed c.args.book.now (c.loop-at.at + head_size + get_or c.args.book.now (c.loop-at.at + 2) 0) (c.loop-at.live + 1) (set c.loop-at.heads c.bucket_of-bucket.result c.link_to.result)
-    (set c.loop-at.links c.loop-at.at (get_or c.loop-at.heads c.bucket_of-bucket.result 0)) =
-    let l = c.loop-at in
-    pass_live c.args.book.now l.at l.live l.heads l.links l.inv.1 c.if-book-at-eq0.left good c.bucket_of-bucket.result _ c.link_to.result l.inv.0
-    alive (sym (c.is_repeated.ensures l.inv.1.list l.inv.1.chained) ∙ c.if-is_repeated.false) bucket c.bucket_of-bucket.ensures.1 refl
-    c.link_to.ensures in
     let l = c.loop-at in
     let e : l.at + (head_size + c.wide-count.result) ≡ l.at + head_size + get_or c.args.book.now (l.at + 2) 0 = omega (arith, c.wide-count.ensures.0) in (
-      l.inv.0,
-      ⊎_elim
-          (λ w. moved c.args.book.now _ _ _ _ _ _ _ _ e w.9 w.7 w.8
-          (one_more
-          (record {
-            before = record { before = record { before = record { before = record { before = record { before = record { before = c; if5 = w.0 }; bucket_of = w.1 }; heads = w.2 }; links = w.3 }; is-repeated = w.4 }; if6 = w.5 };
-            link-to = w.6;
-          })))
-          (λ w. moved c.args.book.now _ _ _ _ _ _ _ _ e w.3 w.1 w.2
-          (pass_removed c.args.book.now l.at l.live l.heads l.links l.inv.1 c.if-book-at-eq0.left good
-          (λ live. mark_missed _ _ 0x4D 0x57 _ c.has_mark.ensures w.0.left frame.first live))) c.if-has_mark.branch,
+      l.invariant.0,
+      elim c.if-has_mark.branch [
+        then-has_mark+else-is_repeated w ↦
+        let alive : get_or c.args.book.now (l.at + 1) 0 ≡ 0x57 =
+        (mark_met (get_or c.args.book.now l.at 0) _ 0x4D 0x57 _ c.has_mark.ensures w.if-has_mark.true).1 in
+        let bucket : w.bucket_of-bucket.result ≡ bucket_at c.args.book.now l.at =
+        w.bucket_of-bucket.ensures.0 ∙ ap (λ (n : ℕ). hash_of (take n (drop (l.at + head_size) c.args.book.now)) 0) c.wide-count.ensures.0 in
+        moved c.args.book.now _ _ _ _ _ _ _ _ e w.live-is w.heads-is w.links-is
+        (pass_live c.args.book.now l.at l.live l.heads l.links l.invariant.1 c.if-book-at-eq0.false good w.bucket_of-bucket.result _ w.link_to.result l.invariant.0
+        alive (sym (w.is_repeated.ensures l.invariant.1.list l.invariant.1.chained) ∙ w.if-is_repeated.false) bucket w.bucket_of-bucket.ensures.1 refl
+        w.link_to.ensures)
+        | else-has_mark w ↦
+        moved c.args.book.now _ _ _ _ _ _ _ _ e w.live-is w.heads-is w.links-is
+        (pass_removed c.args.book.now l.at l.live l.heads l.links l.invariant.1 c.if-book-at-eq0.false good
+        (λ live. mark_missed _ _ 0x4D 0x57 _ c.has_mark.ensures w.if-has_mark.false frame.first live))
+      ],
     )
 
 pub returns : goal.returns
