@@ -29,7 +29,7 @@ pub has_prefix-requires : goal.has_prefix-requires
 has_prefix-requires c =
     let inside : c.loop-next.next < length c.args.starts.now =
     omega (arith, c.loop-next-test.true, keep_long _ _ _ _ _ _ c.loop-next.invariant) in
-    subst (KeyWithin c.args.keys.now) (sym (c.place_of.ensures ∙ keep_here _ _ _ _ _ _ c.loop-next.invariant)) (c.pre _ inside)
+    subst (KeyWithin c.args.keys.now) (sym (c.place_of.ensures ∙ keep_here _ _ _ _ _ _ c.loop-next.invariant)) (c.requires _ inside)
 
 pub offset_bounds-starts-count : goal.offset_bounds-starts-count
 offset_bounds-starts-count c =

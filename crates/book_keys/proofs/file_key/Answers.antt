@@ -61,7 +61,7 @@ pub overflow_mul-at : goal.overflow_mul-at
 overflow_mul-at c =
     let frame : Framed c.args.book.now c.args.at =
     framed_true _ _ c.requires.2 in
-    let f = frame in omega (arith, f.room, c.pre.0)
+    let f = frame in omega (arith, f.room, c.requires.0)
 
 pub put_key-requires : goal.put_key-requires
 put_key-requires c =
@@ -71,12 +71,11 @@ put_key-requires c =
     let e : take c.wide-count.result c.values_of-values.result ≡ (word_at c.args.book.now c.args.at) =
     c.values_of-values.ensures.0 ∙ ap (λ (n : ℕ). map value_of (take n (drop (c.args.at + head_size) c.args.book.now))) c.wide-count.ensures.0 in
     subst (λ (l : List ℕ). FillRight l c.fill-answer.result c.fill-answer.new.bytes) e c.fill-answer.ensures in
-    let a = c.answer-1.given in
-    let k = (key_within c.args.book.now c.args.at c.pre.0 frame c.pre.3).1 in (
-      filled_few (word_at c.args.book.now c.args.at) c.pre.3 c.fill-answer.result _ filled a.0.0 a.1,
-      filled_room (word_at c.args.book.now c.args.at) c.pre.3 c.fill-answer.result _ filled a.0.0 a.1,
-      omega (arith, c.pre.1, filed_key_length (row_of (word_at c.args.book.now c.args.at)), filled_count (word_at c.args.book.now c.args.at) c.pre.3 c.fill-answer.result _ filled a.0.0 a.1),
-      c.pre.1,
+    let k = (key_within c.args.book.now c.args.at c.requires.0 frame c.requires.3).1 in (
+      filled_few (word_at c.args.book.now c.args.at) c.requires.3 c.fill-answer.result _ filled c.in-Count.number c.in-Count.is,
+      filled_room (word_at c.args.book.now c.args.at) c.requires.3 c.fill-answer.result _ filled c.in-Count.number c.in-Count.is,
+      omega (arith, c.requires.1, filed_key_length (row_of (word_at c.args.book.now c.args.at)), filled_count (word_at c.args.book.now c.args.at) c.requires.3 c.fill-answer.result _ filled c.in-Count.number c.in-Count.is),
+      c.requires.1,
     )
 
 pub returns-in-Count : goal.returns-in-Count
@@ -85,9 +84,8 @@ returns-in-Count c =
     let e : take c.wide-count.result c.values_of-values.result ≡ (word_at c.args.book.now c.args.at) =
     c.values_of-values.ensures.0 ∙ ap (λ (n : ℕ). map value_of (take n (drop (c.args.at + head_size) c.args.book.now))) c.wide-count.ensures.0 in
     subst (λ (l : List ℕ). FillRight l c.fill-answer.result c.fill-answer.new.bytes) e c.fill-answer.ensures in
-    let a = c.answer-1.given in
     c.put_key.ensures
-    ∙ ap (sets c.args.keys.now (weight_count * c.args.at)) (filled_key (word_at c.args.book.now c.args.at) c.pre.3 c.fill-answer.result _ filled a.0.0 a.1)
+    ∙ ap (sets c.args.keys.now (weight_count * c.args.at)) (filled_key (word_at c.args.book.now c.args.at) c.requires.3 c.fill-answer.result _ filled c.in-Count.number c.in-Count.is)
 
 pub returns-in_default : goal.returns-in_default
 returns-in_default c =
@@ -95,4 +93,4 @@ returns-in_default c =
     let e : take c.wide-count.result c.values_of-values.result ≡ (word_at c.args.book.now c.args.at) =
     c.values_of-values.ensures.0 ∙ ap (λ (n : ℕ). map value_of (take n (drop (c.args.at + head_size) c.args.book.now))) c.wide-count.ensures.0 in
     subst (λ (l : List ℕ). FillRight l c.fill-answer.result c.fill-answer.new.bytes) e c.fill-answer.ensures in
-    absurd (not_refused (word_at c.args.book.now c.args.at) c.pre.3 c.fill-answer.result _ filled c.in_default.field-0 c.in_default.is)
+    absurd (not_refused (word_at c.args.book.now c.args.at) c.requires.3 c.fill-answer.result _ filled c.in_default.field-0 c.in_default.is)

@@ -31,7 +31,7 @@ file_key-requires c =
     let i = c.loop-at.invariant in
     let t = at_turn in (
       i.walk.is_book.short,
-      collect_room _ _ _ _ _ _ _ _ i c.pre.1,
+      collect_room _ _ _ _ _ _ _ _ i c.requires.1,
       framed_is _ _ t.stands.frame,
       turn_readable _ _ _ _ _ _ _ _ i t,
     )
@@ -124,4 +124,4 @@ shape_of-starts c = collect_long _ _ _ _ _ _ _ _ c.loop-at.invariant
 pub returns : goal.returns
 returns c =
     let l = c.loop-at in
-    collect_end _ _ _ _ _ _ l.live l.at l.invariant c.pre.1 c.pre.2 c.loop-at-test.false
+    collect_end _ _ _ _ _ _ l.live l.at l.invariant c.requires.1 c.requires.2 c.loop-at-test.false

@@ -60,20 +60,20 @@ order_keys-by_weights-requires c =
     let second_ends : weight_count * c.args.second + (1 + weight_count * length (row_of (word_at c.args.book.now c.args.second))) ≤ key_room =
     key_ends _ c.args.keys.now c.args.second c.requires.3 c.requires.0 in
     let first_count : c.wide.result ≡ length (row_of (word_at c.args.book.now c.args.first)) =
-    c.wide.ensures.0 ∙ key_count _ c.args.keys.now c.args.first c.pre.2 in
+    c.wide.ensures.0 ∙ key_count _ c.args.keys.now c.args.first c.requires.2 in
     let second_count : c.wide-2.result ≡ length (row_of (word_at c.args.book.now c.args.second)) =
-    c.wide-2.ensures.0 ∙ key_count _ c.args.keys.now c.args.second c.pre.3 in
+    c.wide-2.ensures.0 ∙ key_count _ c.args.keys.now c.args.second c.requires.3 in
     let one = first_count in
     let other = second_count in
-    (omega (arith, first_ends, c.pre.1), omega (arith, second_ends, c.pre.1), omega (arith, c.pre.1))
+    (omega (arith, first_ends, c.requires.1), omega (arith, second_ends, c.requires.1), omega (arith, c.requires.1))
 
 pub returns-in_default : goal.returns-in_default
 returns-in_default c =
     let first_count : c.wide.result ≡ length (row_of (word_at c.args.book.now c.args.first)) =
-    c.wide.ensures.0 ∙ key_count _ c.args.keys.now c.args.first c.pre.2 in
+    c.wide.ensures.0 ∙ key_count _ c.args.keys.now c.args.first c.requires.2 in
     let second_count : c.wide-2.result ≡ length (row_of (word_at c.args.book.now c.args.second)) =
-    c.wide-2.ensures.0 ∙ key_count _ c.args.keys.now c.args.second c.pre.3 in
-    weights_decide c.args.book.now c.args.keys.now c.args.first c.args.second c.pre.2 c.pre.3 _ _
+    c.wide-2.ensures.0 ∙ key_count _ c.args.keys.now c.args.second c.requires.3 in
+    weights_decide c.args.book.now c.args.keys.now c.args.first c.args.second c.requires.2 c.requires.3 _ _
     first_count second_count c.order_keys-by_weights.result c.order_keys-by_weights.ensures (opened c.in_default.in_default-own.keys2)
     c.is_less.result c.is_less.ensures
 
@@ -81,37 +81,37 @@ pub overflow_add-first : goal.overflow_add-first
 overflow_add-first c =
     let first_frame : Framed c.args.book.now c.args.first =
     framed_true _ _ c.requires.2.framed in
-    let f = first_frame in omega (arith, f.room, c.pre.0)
+    let f = first_frame in omega (arith, f.room, c.requires.0)
 
 pub overflow_add-first-2 : goal.overflow_add-first-2
 overflow_add-first-2 c =
     let first_frame : Framed c.args.book.now c.args.first =
     framed_true _ _ c.requires.2.framed in
-    let f = first_frame in omega (arith, f.room, c.pre.0)
+    let f = first_frame in omega (arith, f.room, c.requires.0)
 
 pub bounds-book-first : goal.bounds-book-first
 bounds-book-first c =
     let first_frame : Framed c.args.book.now c.args.first =
     framed_true _ _ c.requires.2.framed in
-    let f = first_frame in omega (arith, f.room, c.pre.0)
+    let f = first_frame in omega (arith, f.room, c.requires.0)
 
 pub overflow_add-second : goal.overflow_add-second
 overflow_add-second c =
     let second_frame : Framed c.args.book.now c.args.second =
     framed_true _ _ c.requires.3.framed in
-    let f = second_frame in omega (arith, f.room, c.pre.0)
+    let f = second_frame in omega (arith, f.room, c.requires.0)
 
 pub overflow_add-second-2 : goal.overflow_add-second-2
 overflow_add-second-2 c =
     let second_frame : Framed c.args.book.now c.args.second =
     framed_true _ _ c.requires.3.framed in
-    let f = second_frame in omega (arith, f.room, c.pre.0)
+    let f = second_frame in omega (arith, f.room, c.requires.0)
 
 pub bounds-book-second : goal.bounds-book-second
 bounds-book-second c =
     let second_frame : Framed c.args.book.now c.args.second =
     framed_true _ _ c.requires.3.framed in
-    let f = second_frame in omega (arith, f.room, c.pre.0)
+    let f = second_frame in omega (arith, f.room, c.requires.0)
 
 pub order_parts-requires : goal.order_parts-requires
 order_parts-requires c =
@@ -126,10 +126,10 @@ order_parts-requires c =
 pub returns : goal.returns
 returns c =
     let first_count : c.wide.result ≡ length (row_of (word_at c.args.book.now c.args.first)) =
-    c.wide.ensures.0 ∙ key_count _ c.args.keys.now c.args.first c.pre.2 in
+    c.wide.ensures.0 ∙ key_count _ c.args.keys.now c.args.first c.requires.2 in
     let second_count : c.wide-2.result ≡ length (row_of (word_at c.args.book.now c.args.second)) =
-    c.wide-2.ensures.0 ∙ key_count _ c.args.keys.now c.args.second c.pre.3 in
-    values_decide c.args.book.now c.args.keys.now c.args.first c.args.second c.pre.2 c.pre.3 _ _
+    c.wide-2.ensures.0 ∙ key_count _ c.args.keys.now c.args.second c.requires.3 in
+    values_decide c.args.book.now c.args.keys.now c.args.first c.args.second c.requires.2 c.requires.3 _ _
     first_count second_count c.order_keys-by_weights.result c.order_keys-by_weights.ensures
     c.in-Equal.is c.order_parts.result
     (c.order_parts.ensures

@@ -18,31 +18,30 @@ returns-in_default c =
 
 pub overflow_add-end : goal.overflow_add-end
 overflow_add-end c =
-    let has : let g = c.place-1.given.0 in let s = c.args in
-    HasPart s.word.now s.number g.0 g.1.0 =
+    let has : let s = c.args in
+    HasPart s.word.now s.number c.in-Two.place c.in-Two.size =
     subst (λ (a : Reply). PartAnswers c.args.word.now c.args.number (reply_outcome a)) c.in-Two.is c.part_place.ensures in
     omega (arith, has.within, has.admissible.short)
 
 pub offset_bounds-word-place : goal.offset_bounds-word-place
 offset_bounds-word-place c =
-    let has : let g = c.place-1.given.0 in let s = c.args in
-    HasPart s.word.now s.number g.0 g.1.0 =
+    let has : let s = c.args in
+    HasPart s.word.now s.number c.in-Two.place c.in-Two.size =
     subst (λ (a : Reply). PartAnswers c.args.word.now c.args.number (reply_outcome a)) c.in-Two.is c.part_place.ensures in
     omega (arith, has.within, has.admissible.short)
 
 pub slice_bounds-result-end-2 : goal.slice_bounds-result-end-2
 slice_bounds-result-end-2 c =
-    let has : let g = c.place-1.given.0 in let s = c.args in
-    HasPart s.word.now s.number g.0 g.1.0 =
+    let has : let s = c.args in
+    HasPart s.word.now s.number c.in-Two.place c.in-Two.size =
     subst (λ (a : Reply). PartAnswers c.args.word.now c.args.number (reply_outcome a)) c.in-Two.is c.part_place.ensures in
     omega (arith, has.within)
 
 pub returns : goal.returns
 returns c =
-    let has : let g = c.place-1.given.0 in let s = c.args in
-    HasPart s.word.now s.number g.0 g.1.0 =
+    let has : let s = c.args in
+    HasPart s.word.now s.number c.in-Two.place c.in-Two.size =
     subst (λ (a : Reply). PartAnswers c.args.word.now c.args.number (reply_outcome a)) c.in-Two.is c.part_place.ensures in
     let s = c.args in
-    let g = c.place-1.given.0 in
-    let e : g.0 + g.1.0 - g.0 ≡ g.1.0 = omega arith in
-    rw e (part_right s.word.now s.number g.0 g.1.0 has)
+    let e : c.in-Two.place + c.in-Two.size - c.in-Two.place ≡ c.in-Two.size = omega arith in
+    rw e (part_right s.word.now s.number c.in-Two.place c.in-Two.size has)

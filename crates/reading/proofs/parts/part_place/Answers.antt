@@ -44,7 +44,7 @@ overflow_sub-result c =
     let s = c.scan_word-scan in
     from_to c.args.word.now s.result.at s.result.state s.result.count s.ensures.stopped s.result.starts s.ensures.starts_of
     c.in-Count.count reads c.args.number c.if-count-number.false
-    c.wide-from.result c.end_of.result c.wide-from.ensures.0 c.end_of.ensures
+    c.wide-from.result c.end_of-to.result c.wide-from.ensures.0 c.end_of-to.ensures
 
 pub returns : goal.returns
 returns c =
@@ -53,4 +53,4 @@ returns c =
     let s = c.scan_word-scan in
     part_placed c.args.word.now s.result.at s.result.state s.result.count s.ensures.stopped s.result.starts s.ensures.starts_of
     c.in-Count.count reads c.args.number c.if-count-number.false
-    c.wide-from.result c.end_of.result c.wide-from.ensures.0 c.end_of.ensures
+    c.wide-from.result c.end_of-to.result c.wide-from.ensures.0 c.end_of-to.ensures

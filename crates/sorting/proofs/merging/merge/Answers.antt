@@ -16,7 +16,7 @@ loop-next-init c = start_halfway c.requires.0.parted c.requires.1
 pub is_second_next-requires : goal.is_second_next-requires
 is_second_next-requires c =
     let i = c.loop-next.invariant in
-    record { mergeable = c.pre.0; in_first = i.in_first; in_second = i.in_second; within = i.within }
+    record { mergeable = c.requires.0; in_first = i.in_first; in_second = i.in_second; within = i.within }
 
 pub bounds-starts-second : goal.bounds-starts-second
 bounds-starts-second c =
@@ -40,7 +40,7 @@ pub bounds-starts-first : goal.bounds-starts-first
 bounds-starts-first c =
     let left_within : c.loop-next.first < c.args.middle =
     first_within c.loop-next.invariant c.loop-next-test.true (sym c.is_second_next.ensures ∙ c.if-is_second_next.false) in
-    omega (arith, left_within, c.pre.0.parted)
+    omega (arith, left_within, c.requires.0.parted)
 
 pub bounds-room-next-else-is_second_next : goal.bounds-room-next-else-is_second_next
 bounds-room-next-else-is_second_next c =
