@@ -51,4 +51,4 @@ is_word-requires c =
 pub returns : goal.returns
 returns c =
     let count : length c.args.word.now ≡ get_or c.args.book.now (c.args.at + 2) 0 = sym c.if-wide-word.false ∙ c.wide.ensures.0 in
-    c.is_IsWord.ensures ∙ ap (λ (n : ℕ). same_list (map value_of (take n (drop (c.args.at + head_size) c.args.book.now))) c.args.word.now) count
+    c.is_word.ensures ∙ ap (λ (n : ℕ). same_list (map value_of (take n (drop (c.args.at + head_size) c.args.book.now))) c.args.word.now) count

@@ -21,6 +21,7 @@ use Rattle.entries.proofs.Passed.{Passed, passed_start, mark_live, passed_turn, 
 use Rattle.lookup.specs.declared.Look.TheVariants.{Live, Missing}
 use Rattle.lookup.proofs.Walk.{Ahead, ahead_start, at_record, hit, miss, done, lookup_searches, looked}
 use Rattle.lookup.proofs.locate.Goals as goal
+use Rattle.lookup.proofs.locate.Goals.{then-has_mark+else-has_word, else-has_mark}
 
 pub loop-at-init : goal.loop-at-init
 loop-at-init c = let o = c.requires in (ahead_start _ _ _ o, ([], passed_start _ _ o))
@@ -75,7 +76,7 @@ returns-then-has_word c =
     let t = at_turn in
     let w = c.args.word.now in
     let a = l.invariant.0 in
-    let found = hit (lookup_searches w) _ _ _ a t (λ j. (mark ∙ c.if-has_mark.true) j && (sym c.Has-word.ensures ∙ c.if-has_word.true) j) in
+    let found = hit (lookup_searches w) _ _ _ a t (λ j. (mark ∙ c.if-has_mark.true) j && (sym c.has_word.ensures ∙ c.if-has_word.true) j) in
     record {
       answer = ap (Live l.at) c.stock_at-stock.ensures ∙ sym (looked _ _ w c.requires a.list a.walk.is_book _ found);
       within = record { short = a.walk.is_book.short; room = omega (arith, t.stands.frame.room) };
@@ -122,16 +123,16 @@ loop-at-preserved c =
     let u = passed_turn _ _ _ _ _ p c.loop-at-test.true in
     let count = c.wide-size.ensures.0 in
     let next = ap (λ (n : ℕ). l.at + (head_size + n)) count in
-    ⊎_elim
-    (λ j. (
-      missed (λ k. (mark ∙ j.0.taken) k && (sym j.1.ensures ∙ j.2.left) k),
-      (_, passed_next _ _ _ _ _ p u true (mark ∙ j.0.taken) _ _ next (j.3 ∙ ap (λ (n : ℕ). l.length + (head_size + n)) count)),
-    ))
-    (λ j. (
-      missed (ap (λ (live : Bool). live && same_list (word_at c.args.book.now l.at) word) (mark ∙ j.0.left)),
-      (_, passed_next _ _ _ _ _ p u false (mark ∙ j.0.left) _ _ next (j.1 ∙ omega arith)),
-    ))
-    c.if-has_mark.branch
+    elim c.if-has_mark.branch [
+      then-has_mark+else-has_word j ↦ (
+        missed (λ k. (mark ∙ j.if-has_mark.true) k && (sym j.has_word.ensures ∙ j.if-has_word.false) k),
+        (_, passed_next _ _ _ _ _ p u true (mark ∙ j.if-has_mark.true) _ _ next (j.length-is ∙ ap (λ (n : ℕ). l.length + (head_size + n)) count)),
+      )
+      | else-has_mark j ↦ (
+        missed (ap (λ (live : Bool). live && same_list (word_at c.args.book.now l.at) word) (mark ∙ j.if-has_mark.false)),
+        (_, passed_next _ _ _ _ _ p u false (mark ∙ j.if-has_mark.false) _ _ next (j.length-is ∙ omega arith)),
+      )
+    ]
 
 pub returns : goal.returns
 returns c =

@@ -20,7 +20,7 @@ use Rattle.lookup.proofs.Walk.{Ahead, ahead_start, at_record, hit, miss, done, l
 use Rattle.lookup.proofs.locate.Given as goal
 
 abbrev pub invariant-loop-at : goal.invariant-loop-at
-invariant-loop-at l = Ahead (λ l. lookup l l.word) l.book l.at l.free × ((seen : List Entry) × Passed l.book seen l.at l.free l.length)
+invariant-loop-at l = Ahead (λ list. lookup list l.word) l.book l.at l.free × ((seen : List Entry) × Passed l.book seen l.at l.free l.length)
 
 abbrev pub decreases-loop-at : goal.decreases-loop-at
 decreases-loop-at l = l.free - l.at
