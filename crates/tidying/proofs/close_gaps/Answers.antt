@@ -17,6 +17,7 @@ use Rattle.entries.proofs.Walk.{Turn}
 use Rattle.entries.proofs.Passed.{mark_live}
 use Rattle.tidying.proofs.Closing.{Closing, closing_start, closing_read, closing_first, closing_turn, closing_less, closing_removed, closing_live, closing_end}
 use Rattle.tidying.proofs.close_gaps.Goals as goal
+use Rattle.tidying.proofs.close_gaps.Goals.{then-has_mark, else-has_mark}
 
 pub loop-at-init : goal.loop-at-init
 loop-at-init c = (closing_start _ _ c.requires, omega arith)
@@ -111,11 +112,12 @@ loop-at-preserved c =
     c.has_mark.ensures ∙ (λ j. eqb (closing_first _ _ _ _ _ k j) 0x4D && eqb (closing_read _ _ _ _ _ k 1 j) 0x57) in
     let live = sym (mark ∙ mark_live c.args.book.now l.at t.stands.frame) in
     let next = ap (λ (n : ℕ). l.at + n) size_read in (
-      ⊎_elim
-          (λ j. closing_live _ _ _ _ _ k t (live ∙ j.0.taken) _ _ next (j.6 ∙ ap (λ (n : ℕ). l.auto + n) size_read) _
-          (j.5 ∙ j.2.ensures ∙ ap (λ (n : ℕ). sets l.book l.auto (take n (drop l.at l.book))) size_read))
-          (λ j. closing_removed _ _ _ _ _ k t (live ∙ j.0.left) _ _ next j.2 _ j.1)
-          c.if-has_mark.branch,
+      elim c.if-has_mark.branch [
+        then-has_mark j ↦
+        closing_live _ _ _ _ _ k t (live ∙ j.if-has_mark.true) _ _ next (j.kept-is ∙ ap (λ (n : ℕ). l.kept + n) size_read) _
+        (j.book-is ∙ j.move_down.ensures ∙ ap (λ (n : ℕ). sets l.book l.kept (take n (drop l.at l.book))) size_read)
+        | else-has_mark j ↦ closing_removed _ _ _ _ _ k t (live ∙ j.if-has_mark.false) _ _ next j.kept-is _ j.book-is
+      ],
       omega (arith, size_read, t.stands.next.end, end_length (l.at + head_size + get_or c.args.book.now (l.at + 2) 0) t.behind),
     )
 
