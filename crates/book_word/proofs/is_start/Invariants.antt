@@ -12,7 +12,7 @@ use Rattle.book_word.proofs.Walk.{starting_searches, start_met, start_missed}
 use Rattle.book_word.proofs.is_start.Given as goal
 
 abbrev pub invariant-loop-at : goal.invariant-loop-at
-invariant-loop-at l = Ahead (λ l. entry_starting l l.start) l.book l.at l.free
+invariant-loop-at l = Ahead (λ list. entry_starting list l.start) l.book l.at l.free
 
 abbrev pub decreases-loop-at : goal.decreases-loop-at
 decreases-loop-at l = l.free - l.at
