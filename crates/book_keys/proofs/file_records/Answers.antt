@@ -14,6 +14,7 @@ use Rattle.book_frame.proofs.Marks.{mark_met, mark_missed}
 use Rattle.book_keys.proofs.Collecting.{Collected, collect_start, collect_as, at_record, collect_room, collect_long, turn_readable, collect_fits}
 use Rattle.book_keys.proofs.Collecting.{collect_live, collect_removed, collect_end}
 use Rattle.book_keys.proofs.file_records.Goals as goal
+use Rattle.book_keys.proofs.file_records.Goals.{then-has_mark, else-has_mark}
 
 pub loop-at-init : goal.loop-at-init
 loop-at-init c = collect_start _ _ _ _ c.requires.0
@@ -108,15 +109,17 @@ loop-at-preserved c =
     let l = c.loop-at in
     let t = at_turn in
     let e : l.at + (head_size + c.wide.result) ≡ l.at + head_size + get_or c.args.book.now (l.at + 2) 0 = omega (arith, c.wide.ensures.0) in
-    ⊎_elim
-    (λ w. collect_as _ _ _ _ _ _ _ _ _ _ _ _ w.4 w.5 w.6 e
-    (collect_live _ _ _ _ _ _ _ _ l.invariant t
-    (mark_met (get_or c.args.book.now l.at 0) _ 0x4D 0x57 _ c.has_mark.ensures w.0.taken).1 _ _ w.2.ensures
-    (ap (set l.starts l.live) w.3.ensures)))
-    (λ w. collect_as _ _ _ _ _ _ _ _ _ _ _ _ w.1 w.2 w.3 e
-    (collect_removed _ _ _ _ _ _ _ _ l.invariant t
-    (λ live. mark_missed (get_or c.args.book.now l.at 0) _ 0x4D 0x57 _ c.has_mark.ensures w.0.left t.stands.frame.first live)))
-    c.if-has_mark.branch
+    elim c.if-has_mark.branch [
+      then-has_mark w ↦
+        collect_as _ _ _ _ _ _ _ _ _ _ _ _ w.keys-is w.starts-is w.live-is e
+        (collect_live _ _ _ _ _ _ _ _ l.invariant t
+        (mark_met (get_or c.args.book.now l.at 0) _ 0x4D 0x57 _ c.has_mark.ensures w.if-has_mark.true).1 _ _ w.file_key.ensures
+        (ap (set l.starts l.live) w.start_of.ensures))
+    | else-has_mark w ↦
+        collect_as _ _ _ _ _ _ _ _ _ _ _ _ w.keys-is w.starts-is w.live-is e
+        (collect_removed _ _ _ _ _ _ _ _ l.invariant t
+        (λ live. mark_missed (get_or c.args.book.now l.at 0) _ 0x4D 0x57 _ c.has_mark.ensures w.if-has_mark.false t.stands.frame.first live))
+    ]
 
 pub shape_of-starts : goal.shape_of-starts
 shape_of-starts c = collect_long _ _ _ _ _ _ _ _ c.loop-at.invariant

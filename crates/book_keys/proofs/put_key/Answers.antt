@@ -28,11 +28,3 @@ returns c =
     let s = c.args in
     c.put_bytes.ensures
     ∙ (λ i. sets (set s.keys.now s.from (c.count_byte.ensures i)) (add-one s.from i) (take (weight_count * s.count) s.key.now))
-
-pub shape_of-keys : goal.shape_of-keys
-shape_of-keys c =
-    let s = c.args in
-    ap length (stored c) ∙ length-sets s.keys.now s.from (s.count ∷ take (weight_count * s.count) s.key.now)
-
-pub returns : goal.returns
-returns c = stored c
