@@ -9,6 +9,7 @@ use lib.ListN.{length, set}
 use Rattle.book_fitting.specs.Fitting.{has_prefix, KeyWithin}
 use Rattle.book_fitting.proofs.Fits.{keep_all, Kept, keep_start, keep_as, keep_few, keep_long, keep_here, keep_taken, keep_left, keep_end}
 use Rattle.book_fitting.proofs.keep_fitting.Goals as goal
+use Rattle.book_fitting.proofs.keep_fitting.Goals.{then-has_prefix, else-has_prefix}
 
 pub returns-then-prefix-eq0 : goal.returns-then-prefix-eq0
 returns-then-prefix-eq0 c = keep_all _ _ _ c.if-prefix-eq0.true
@@ -62,11 +63,13 @@ loop-next-preserved c =
     let i = c.loop-next.invariant in
     let here = keep_here _ _ _ _ _ _ i in
     let test = sym (c.has_prefix.ensures ∙ ap (has_prefix c.args.keys.now c.args.prefix.now) (c.place_of.ensures ∙ here)) in
-    ⊎_elim
-    (λ w. keep_as _ _ _ _ _ _ _ _ (w.1 ∙ ap (set c.loop-next.starts c.loop-next.count) here) w.2
-    (keep_taken _ _ _ _ _ _ i inside (test ∙ w.0.taken)))
-    (λ w. keep_as _ _ _ _ _ _ _ _ w.1 w.2 (keep_left _ _ _ _ _ _ i inside (test ∙ w.0.left)))
-    c.if-has_prefix.branch
+    elim c.if-has_prefix.branch [
+      then-has_prefix w ↦
+        keep_as _ _ _ _ _ _ _ _ (w.starts-is ∙ ap (set c.loop-next.starts c.loop-next.count) here) w.count-is
+        (keep_taken _ _ _ _ _ _ i inside (test ∙ w.if-has_prefix.true))
+    | else-has_prefix w ↦
+        keep_as _ _ _ _ _ _ _ _ w.starts-is w.count-is (keep_left _ _ _ _ _ _ i inside (test ∙ w.if-has_prefix.false))
+    ]
 
 pub shape_of-starts : goal.shape_of-starts
 shape_of-starts c = keep_long _ _ _ _ _ _ c.loop-next.invariant

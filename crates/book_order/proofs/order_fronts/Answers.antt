@@ -20,7 +20,7 @@ front-requires-2 c = (omega (arith, ltb-false, c.if-second_size-lt8.false, c.req
 pub returns : goal.returns
 returns c =
     let a = c.args in
-    fronts_decide a.bytes.now (λ at. omega (arith, c.type_inv.bytes at)) a.first a.first-size a.second a.second-size
+    fronts_decide a.bytes.now (λ at. omega (arith, c.type_inv.bytes at)) a.first a.first_size a.second a.second_size
     (omega (arith, c.if-first_size-lt8.false)) (omega (arith, ltb-false, c.if-second_size-lt8.false)) c.requires.0 c.requires.1 c.order_numbers.result
     (c.order_numbers.ensures ∙ ap (order_numbers c.front.result) c.front-2.ensures
     ∙ ap (λ (n : ℕ). order_numbers n (front_of 8 (drop a.second a.bytes.now))) c.front.ensures)

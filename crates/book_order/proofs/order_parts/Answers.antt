@@ -11,7 +11,7 @@ use Rattle.book_order.proofs.order_parts.Goals as goal
 pub returns : goal.returns
 returns c =
     let s = c.args in
-    let n : s.first + s.first-size - s.first ≡ s.first-size = omega arith in
-    let m : s.second + s.second-size - s.second ≡ s.second-size = omega arith in
+    let n : s.first + s.first_size - s.first ≡ s.first_size = omega arith in
+    let m : s.second + s.second_size - s.second ≡ s.second_size = omega arith in
     c.order_bytes.ensures
     ∙ (λ i. order_values (take (n i) (drop s.first s.bytes.now)) (take (m i) (drop s.second s.bytes.now)))

@@ -9,6 +9,7 @@ use lib.ListN.{length}
 use Rattle.sorting.specs.Sorting.{goes_before}
 use Rattle.sorting.proofs.Turns.{Halfway, start_halfway, end_halfway, second_within, first_within, take_the_second, take_the_first, moved}
 use Rattle.sorting.proofs.merging.merge.Goals as goal
+use Rattle.sorting.proofs.merging.merge.Goals.{then-is_second_next, else-is_second_next}
 
 pub loop-next-init : goal.loop-next-init
 loop-next-init c = start_halfway c.requires.0.parted c.requires.1
@@ -65,10 +66,10 @@ loop-next-preserved c =
     let i = c.loop-next.invariant in
     let h = c.loop-next-test.true in
     let e = sym c.is_second_next.ensures in
-    ⊎_elim
-    (λ w. moved w.2 w.3 w.4 (take_the_second i h (e ∙ w.0.taken)))
-    (λ w. moved w.2 w.3 w.4 (take_the_first i h (e ∙ w.0.left)))
-    c.if-is_second_next.branch
+    elim c.if-is_second_next.branch [
+      then-is_second_next w ↦ moved w.first-is w.second-is w.room-is (take_the_second i h (e ∙ w.if-is_second_next.true))
+    | else-is_second_next w ↦ moved w.first-is w.second-is w.room-is (take_the_first i h (e ∙ w.if-is_second_next.false))
+    ]
 
 pub shape_of-room : goal.shape_of-room
 shape_of-room c = c.loop-next.invariant.long
