@@ -8,5 +8,5 @@ use Rattle.collation.proofs.compare.compare.Goals as goal
 pub returns : goal.returns
 returns c =
     let s = c.args in
-    heads_answer s.first.now s.second.now c.order_heads-order.result c.order_heads-order.ensures (opened c.in_default.in_default-own.keys2) c.answer_of.result
+    heads_answer s.first.now s.second.now c.order_heads-order.result c.order_heads-order.ensures (search opened) c.answer_of.result
     c.answer_of.ensures

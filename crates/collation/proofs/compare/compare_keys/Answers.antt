@@ -3,6 +3,7 @@
 use mathlib.Core.Path.{sym}
 use native.Mathlib.Omega.{arith}
 use lib.Seq.{length-take-le}
+use borrow.Enum.Refused.{opened}
 use borrow.Author.Rules.{rules}
 use Rattle.collation.proofs.Weighing.{Weighed, weighed_refused, weighed_stores, weighed_limit, weighed_used, weighed_order}
 use Rattle.collation.proofs.Comparing.{keys_decide, forms_decide}
@@ -16,14 +17,7 @@ returns-in-Refused c =
 pub returns-in-Refused-other_answer : goal.returns-in-Refused-other_answer
 returns-in-Refused-other_answer c =
     record {
-      first_count = (record {
-        word = c.args.first.now;
-        answer = c.weigh-one_answer.result;
-        bytes = _;
-        right = c.weigh-one_answer.ensures;
-        count = c.in-Count.count;
-        told = c.in-Count.is;
-      }).count;
+      first_count = c.in-Count.count;
       first_passes = weighed_stores (record {
         word = c.args.first.now;
         answer = c.weigh-one_answer.result;
@@ -117,21 +111,7 @@ slice_bounds-order_bytes-end-2 c =
 
 pub returns-in_default : goal.returns-in_default
 returns-in_default c =
-    keys_decide (record {
-      word = c.args.first.now;
-      answer = c.weigh-one_answer.result;
-      bytes = _;
-      right = c.weigh-one_answer.ensures;
-      count = c.in-Count.count;
-      told = c.in-Count.is;
-    }).word (record {
-      word = c.args.second.now;
-      answer = c.weigh-other_answer.result;
-      bytes = _;
-      right = c.weigh-other_answer.ensures;
-      count = c.in-Count-other_answer.count;
-      told = c.in-Count-other_answer.is;
-    }).word _ _ (weighed_order (record {
+    keys_decide c.args.first.now c.args.second.now _ _ (weighed_order (record {
       word = c.args.first.now;
       answer = c.weigh-one_answer.result;
       bytes = _;
@@ -146,7 +126,7 @@ returns-in_default c =
       count = c.in-Count-other_answer.count;
       told = c.in-Count-other_answer.is;
     })) c.order_bytes-order.result c.order_bytes-order.ensures
-    c.in-Equal.keys2 c.answer_of.result c.answer_of.ensures
+    (search opened) c.answer_of.result c.answer_of.ensures
 
 pub order_forms-requires : goal.order_forms-requires
 order_forms-requires c = (
@@ -170,21 +150,7 @@ order_forms-requires c = (
 
 pub returns : goal.returns
 returns c =
-    forms_decide (record {
-      word = c.args.first.now;
-      answer = c.weigh-one_answer.result;
-      bytes = _;
-      right = c.weigh-one_answer.ensures;
-      count = c.in-Count.count;
-      told = c.in-Count.is;
-    }).word (record {
-      word = c.args.second.now;
-      answer = c.weigh-other_answer.result;
-      bytes = _;
-      right = c.weigh-other_answer.ensures;
-      count = c.in-Count-other_answer.count;
-      told = c.in-Count-other_answer.is;
-    }).word _ _ (weighed_order (record {
+    forms_decide c.args.first.now c.args.second.now _ _ (weighed_order (record {
       word = c.args.first.now;
       answer = c.weigh-one_answer.result;
       bytes = _;

@@ -20,6 +20,6 @@ returns-then-is_row-2 c =
     let s = c.args in
     let one : Readable s.first.now = subst (RowTest s.first.now) c.if-is_row.true c.is_row.ensures in
     let other : Readable s.second.now = subst (RowTest s.second.now) c.if-is_row-2.true c.is_row-then-is_row.ensures in
-    heads_tell s.first.now s.second.now one other c.order_numbers-order.result (opened c.in_default.in_default-own.keys2)
+    heads_tell s.first.now s.second.now one other c.order_numbers-order.result (search opened)
     (c.order_numbers-order.ensures ∙ ap (λ (w : ℕ). order_numbers w c.first_head-2.result) c.first_head.ensures
     ∙ ap (order_numbers (first_head s.first.now)) c.first_head-2.ensures)
