@@ -20,27 +20,13 @@ returns-then-output-lt-KEY c =
 
 pub slice_bounds-put_bytes-end : goal.slice_bounds-put_bytes-end
 slice_bounds-put_bytes-end c =
-    sym (record {
-      word = c.args.word.now;
-      answer = c.weigh-answer.result;
-      bytes = _;
-      right = c.weigh-answer.ensures;
-      count = c.in-Count.count;
-      told = c.in-Count.is;
-    }).right.room
+    sym c.weigh-answer.ensures.room
 
 pub put_bytes-requires : goal.put_bytes-requires
 put_bytes-requires c =
     omega (
       arith,
-      (record {
-        word = c.args.word.now;
-        answer = c.weigh-answer.result;
-        bytes = _;
-        right = c.weigh-answer.ensures;
-        count = c.in-Count.count;
-        told = c.in-Count.is;
-      }).right.room,
+      c.weigh-answer.ensures.room,
     )
 
 pub returns-in-Refused : goal.returns-in-Refused
