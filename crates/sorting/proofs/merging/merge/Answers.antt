@@ -67,8 +67,8 @@ loop-next-preserved c =
     let h = c.loop-next-test.true in
     let e = sym c.is_second_next.ensures in
     elim c.if-is_second_next.branch [
-      then-is_second_next w ↦ moved w.first-is w.second-is w.room-is (take_the_second i h (e ∙ w.if-is_second_next.true))
-    | else-is_second_next w ↦ moved w.first-is w.second-is w.room-is (take_the_first i h (e ∙ w.if-is_second_next.false))
+      then-is_second_next w ↦ moved w.room-is w.first-is w.second-is (take_the_second i h (e ∙ w.if-is_second_next.true))
+    | else-is_second_next w ↦ moved w.room-is w.first-is w.second-is (take_the_first i h (e ∙ w.if-is_second_next.false))
     ]
 
 pub shape_of-room : goal.shape_of-room
