@@ -11,7 +11,7 @@ returns-in-Refused c =
     record {
       text = _;
       right = line_refused (told_refusal _ c.decode-decoded.result c.decode-decoded.ensures _ c.in-Refused.is) refl;
-      put = c.Put-refused.ensures;
+      put = c.put_refused.ensures;
     }
 
 pub slice_bounds-values-end : goal.slice_bounds-values-end

@@ -33,7 +33,7 @@ returns-in-Refused c =
     record {
       text = _;
       right = no_label (told_refused c.skeleton-answer.result c.skeleton-answer.ensures (omega arith) c.in-Refused.refusal c.in-Refused.is) refl;
-      put = c.Put-refused.ensures;
+      put = c.put_refused.ensures;
     }
 
 pub returns-in-Count : goal.returns-in-Count
