@@ -15,7 +15,7 @@ pub overflow_add-reached : goal.overflow_add-reached
 overflow_add-reached c = omega (arith, c.loop-reached.invariant.room)
 
 pub take_line-reached-requires : goal.take_line-reached-requires
-take_line-reached-requires c = along_ready c.requires c.loop-reached.invariant (leb-true _ _ c.if-reached-out.true-raw)
+take_line-reached-requires c = along_ready c.requires c.loop-reached.invariant c.if-reached-out.true
 
 pub loop-reached-smaller : goal.loop-reached-smaller
 loop-reached-smaller c =
@@ -24,7 +24,7 @@ loop-reached-smaller c =
 
 pub loop-reached-preserved : goal.loop-reached-preserved
 loop-reached-preserved c =
-    along_more c.requires c.loop-reached.invariant c.loop-reached-test.true c.take_line-reached.ensures c.take_line-reached.auto.1.0 c.take_line-reached.auto.1.1.0
+    along_more c.requires c.loop-reached.invariant c.loop-reached-test.true c.take_line-reached.ensures c.take_line-reached.auto.pending c.take_line-reached.auto.out
 
 pub shape_of-pending-else-reached-out : goal.shape_of-pending-else-reached-out
 shape_of-pending-else-reached-out c = c.loop-reached.invariant.same_pending
@@ -33,7 +33,7 @@ pub shape_of-out-else-reached-out : goal.shape_of-out-else-reached-out
 shape_of-out-else-reached-out c = c.loop-reached.invariant.same_out
 
 pub returns-else-reached-out : goal.returns-else-reached-out
-returns-else-reached-out c = taken_passes (along_taken c.requires c.loop-reached.invariant (λ h. leb-false _ _ c.if-reached-out.false))
+returns-else-reached-out c = taken_passes (along_taken c.requires c.loop-reached.invariant (λ h. c.if-reached-out.false))
 
 pub shape_of-pending-after-loop-reached : goal.shape_of-pending-after-loop-reached
 shape_of-pending-after-loop-reached c = c.loop-reached.invariant.same_pending

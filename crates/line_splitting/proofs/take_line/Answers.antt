@@ -13,15 +13,15 @@ returns-then-end-chunk c =
     c.line_end-end.result c.hold-held.result c.requires c.line_end-end.ensures c.hold-held.ensures c.if-end-chunk.true
 
 pub slice_bounds-put_line-end-3 : goal.slice_bounds-put_line-end-3
-slice_bounds-put_line-end-3 c = sym (length-take-le _ _ (omega (arith, c.hold-held.ensures.fits, c.hold-held.auto.0)))
+slice_bounds-put_line-end-3 c = sym (length-take-le _ _ (omega (arith, c.hold-held.ensures.fits, c.hold-held.auto.pending)))
 
 pub overflow_add-result-3 : goal.overflow_add-result-3
 overflow_add-result-3 c =
-    let fits = part_fits c.args.out.now c.args.progress.used _ c.put_line-printed.new.out c.put_line-printed.result (omega arith) c.put_line-printed.auto.0 c.put_line-printed.ensures.written in
+    let fits = part_fits c.args.out.now c.args.progress.used _ c.put_line-printed.new.out c.put_line-printed.result (omega arith) c.put_line-printed.auto.out c.put_line-printed.ensures.written in
     omega arith
 
 pub returns : goal.returns
 returns c =
     taken_ended c.args.task c.args.chunk.now c.args.pending.now c.args.out.now c.args.progress c.hold-held.new.pending
     c.put_line-printed.new.out c.line_end-end.result c.hold-held.result c.put_line-printed.result c.requires c.line_end-end.ensures
-    c.hold-held.ensures (omega arith) c.put_line-printed.auto.0 c.put_line-printed.ensures
+    c.hold-held.ensures (omega arith) c.put_line-printed.auto.out c.put_line-printed.ensures
