@@ -1,14 +1,8 @@
-use borrow.Author.Rules.{rules}
-use mathlib.Core.Path.{◌≡◌, sym, ap, subst, ◌∙◌}
-use mathlib.Core.List.{List, ◌++◌, map}
-use Prim.Native.Nat.{ℕ, ◌+◌, ◌-◌, ◌≤◌, ◌<◌}
-use native.Mathlib.Nat.{zero-add}
-use native.Mathlib.Omega.{arith}
-use lib.ListN.{length, get_or, drop, set}
-use Rattle.memory.proofs.Stores.{sets_front}
-use Rattle.memory.proofs.Copied.{Copied, copied_long, copied_none, copied_more, copied_all}
+use mathlib.Core.List.{map}
+use Prim.Native.Nat.{◌-◌}
+use Rattle.memory.proofs.Copied.{Copied}
 use Rattle.entries.specs.Entries.{value_of}
-use Rattle.book_frame.proofs.Parts.{part, length_values, value_at}
+use Rattle.book_frame.proofs.Parts.{part}
 use Rattle.book_frame.proofs.copy_values.Given as goal
 
 abbrev pub invariant-loop-next : goal.invariant-loop-next

@@ -1,11 +1,9 @@
 -- `book_frame::is_framed` meets its contract: each test is one of the definition's.
 -- Assumes nothing.
-use borrow.Author.Rules.{rules}
 use mathlib.Core.Path.{◌≡◌, sym}
 use mathlib.Core.Logic.{◌⊎◌, inl, inr, ⊎_elim}
 use Prim.Native.Nat.{◌+◌}
 use native.Mathlib.Omega.{arith}
-use borrow.Author.Tests.{not-true, not-false}
 use lib.ListN.{get_or}
 use Rattle.letters.proofs.Tests.{is_true, is_false}
 use Rattle.entries.proofs.Records.{framed_true, framed_is}
@@ -42,8 +40,8 @@ returns c =
     let s = c.args in
     let m : (get_or s.book.now s.at 0 ≡ 0x4D) × ((get_or s.book.now (s.at + 1) 0 ≡ 0x57) ⊎ (get_or s.book.now (s.at + 1) 0 ≡ 0x2D)) =
     elim c.if-not-has_mark.branch [
-      then-not-has_mark+else-not-has_mark-2 w ↦
-      let m = mark_met _ _ 0x4D 0x2D _ w.has_mark-then-not-has_mark.ensures w.if-not-has_mark-2.false in (m.0, inr m.1)
+      | then-not-has_mark+else-not-has_mark-2 w ↦
+          let m = mark_met _ _ 0x4D 0x2D _ w.has_mark-then-not-has_mark.ensures w.if-not-has_mark-2.false in (m.0, inr m.1)
       | else-not-has_mark w ↦ let m = mark_met _ _ 0x4D 0x57 _ c.has_mark.ensures w.if-not-has_mark.false in (m.0, inl m.1)
     ] in
     let e = c.wide-count.ensures.0 in

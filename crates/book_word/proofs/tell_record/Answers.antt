@@ -1,6 +1,5 @@
 -- `book_word::tell_record` meets its contract: the frame gives the count, and what is told and copied is that of the entry that is read there.
 -- Assumes nothing.
-use borrow.Author.Rules.{rules}
 use mathlib.Core.Path.{◌≡◌, sym}
 use mathlib.Core.Bool.{true, false}
 use Prim.Native.Nat.{◌+◌}

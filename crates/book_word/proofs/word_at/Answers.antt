@@ -1,6 +1,5 @@
 -- `book_word::word_at` meets its contract: what is told of the record that starts there, or that none does, or why the buffer is no book.
 -- Assumes nothing.
-use borrow.Author.Rules.{rules}
 use mathlib.Core.Path.{◌≡◌, subst}
 use Rattle.letters.proofs.Tests.{of_true}
 use Rattle.refusals.specs.Outcome.{reply_outcome}

@@ -1,11 +1,10 @@
 -- `lookup::is_word` meets its contract. The invariant: the values passed are the same. The measure is what is left.
 -- Assumes nothing.
-use borrow.Author.Rules.{rules}
 use mathlib.Core.Path.{◌≡◌, sym, ◌∙◌}
-use Prim.Native.Nat.{ℕ, ◌+◌, ◌-◌, ◌≤◌, ◌<◌}
+use Prim.Native.Nat.{◌+◌}
 use native.Mathlib.Omega.{arith}
 use borrow.Author.Count.{below_more}
-use lib.ListN.{length, get_or}
+use lib.ListN.{get_or}
 use Rattle.entries.specs.Entries.{value_of}
 use Rattle.lookup.proofs.Words.{word_same, word_differs}
 use Rattle.lookup.proofs.is_word.Goals as goal

@@ -1,11 +1,7 @@
-use borrow.Author.Rules.{rules}
-use mathlib.Core.Path.{◌≡◌, sym, ◌∙◌}
+use mathlib.Core.Path.{◌≡◌}
 use Prim.Native.Nat.{ℕ, ◌+◌, ◌-◌, ◌≤◌, ◌<◌}
-use native.Mathlib.Omega.{arith}
-use borrow.Author.Count.{below_more}
 use lib.ListN.{length, get_or}
 use Rattle.entries.specs.Entries.{value_of}
-use Rattle.lookup.proofs.Words.{word_same, word_differs}
 use Rattle.lookup.proofs.is_word.Given as goal
 
 abbrev pub invariant-loop-next : goal.invariant-loop-next

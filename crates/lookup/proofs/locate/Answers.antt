@@ -1,23 +1,21 @@
 -- `lookup::locate` meets its contract. The invariant: the word looks up what it does among the records ahead, and the bytes of the live records passed are
 -- counted. The measure is what is left before the free bytes.
 -- Assumes nothing.
-use borrow.Author.Rules.{rules}
 use mathlib.Core.Path.{◌≡◌, sym, ap, subst, ◌∙◌}
 use mathlib.Core.Bool.{Bool, true, false, ◌&&◌}
-use mathlib.Core.Logic.{⊎_elim}
-use mathlib.Core.List.{List, []}
-use Prim.Native.Nat.{ℕ, ◌+◌, ◌-◌}
+use mathlib.Core.List.{[]}
+use Prim.Native.Nat.{ℕ, ◌+◌}
 use native.Mathlib.Omega.{arith}
 use lib.Dec.{eqb}
 use lib.ListN.{get_or}
 use Rattle.formula.proofs.Lists.{same_list}
 use Rattle.entries.specs.Limits.{head_size}
-use Rattle.entries.specs.Entries.{Entry, word_at}
+use Rattle.entries.specs.Entries.{word_at}
 use Rattle.entries.specs.Map.{lookup}
 use Rattle.entries.specs.Tidy.{live_length}
 use Rattle.entries.proofs.Records.{framed_is}
 use Rattle.entries.proofs.Walk.{Turn}
-use Rattle.entries.proofs.Passed.{Passed, passed_start, mark_live, passed_turn, passed_less, passed_all, passed_next}
+use Rattle.entries.proofs.Passed.{passed_start, mark_live, passed_turn, passed_less, passed_all, passed_next}
 use Rattle.lookup.specs.declared.Look.TheVariants.{Live, Missing}
 use Rattle.lookup.proofs.Walk.{Ahead, ahead_start, at_record, hit, miss, done, lookup_searches, looked}
 use Rattle.lookup.proofs.locate.Goals as goal
@@ -124,7 +122,7 @@ loop-at-preserved c =
     let count = c.wide-size.ensures.0 in
     let next = ap (λ (n : ℕ). l.at + (head_size + n)) count in
     elim c.if-has_mark.branch [
-      then-has_mark+else-has_word j ↦ (
+      | then-has_mark+else-has_word j ↦ (
         missed (λ k. (mark ∙ j.if-has_mark.true) k && (sym j.has_word.ensures ∙ j.if-has_word.false) k),
         (_, passed_next _ _ _ _ _ p u true (mark ∙ j.if-has_mark.true) _ _ next (j.length-is ∙ ap (λ (n : ℕ). l.length + (head_size + n)) count)),
       )

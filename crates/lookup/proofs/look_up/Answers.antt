@@ -1,6 +1,5 @@
 -- `lookup::look_up` meets its contract, by what `open_book` tells of the buffer and what `locate` ensures.
 -- Assumes nothing.
-use borrow.Author.Rules.{rules}
 use mathlib.Core.Path.{sym, ap, subst}
 use Rattle.entries.specs.Entries.{Entries}
 use Rattle.book_check.specs.Opening.{Says}

@@ -1,12 +1,9 @@
 -- `tidying::close_gaps` meets its contract. The invariant is `Closing`: the live records passed stand at the front without gaps. The measure is what is
 -- left before the free bytes.
 -- Assumes nothing.
-use borrow.Author.Rules.{rules}
 use mathlib.Core.Path.{◌≡◌, sym, ap, ◌∙◌}
 use mathlib.Core.Bool.{◌&&◌}
-use mathlib.Core.Logic.{⊎_elim}
-use mathlib.Core.List.{List}
-use Prim.Native.Nat.{ℕ, ◌+◌, ◌-◌, ◌≤◌}
+use Prim.Native.Nat.{ℕ, ◌+◌, ◌≤◌}
 use native.Mathlib.Omega.{arith}
 use lib.Dec.{eqb}
 use lib.ListN.{length, get_or, take, drop}
@@ -15,7 +12,7 @@ use Rattle.entries.specs.Limits.{head_size}
 use Rattle.entries.proofs.Records.{end_length}
 use Rattle.entries.proofs.Walk.{Turn}
 use Rattle.entries.proofs.Passed.{mark_live}
-use Rattle.tidying.proofs.Closing.{Closing, closing_start, closing_read, closing_first, closing_turn, closing_less, closing_removed, closing_live, closing_end}
+use Rattle.tidying.proofs.Closing.{closing_start, closing_read, closing_first, closing_turn, closing_less, closing_removed, closing_live, closing_end}
 use Rattle.tidying.proofs.close_gaps.Goals as goal
 use Rattle.tidying.proofs.close_gaps.Goals.{then-has_mark, else-has_mark}
 
@@ -113,9 +110,9 @@ loop-at-preserved c =
     let live = sym (mark ∙ mark_live c.args.book.now l.at t.stands.frame) in
     let next = ap (λ (n : ℕ). l.at + n) size_read in (
       elim c.if-has_mark.branch [
-        then-has_mark j ↦
-        closing_live _ _ _ _ _ k t (live ∙ j.if-has_mark.true) _ _ next (j.kept-is ∙ ap (λ (n : ℕ). l.kept + n) size_read) _
-        (j.book-is ∙ j.move_down.ensures ∙ ap (λ (n : ℕ). sets l.book l.kept (take n (drop l.at l.book))) size_read)
+        | then-has_mark j ↦
+            closing_live _ _ _ _ _ k t (live ∙ j.if-has_mark.true) _ _ next (j.kept-is ∙ ap (λ (n : ℕ). l.kept + n) size_read) _
+            (j.book-is ∙ j.move_down.ensures ∙ ap (λ (n : ℕ). sets l.book l.kept (take n (drop l.at l.book))) size_read)
         | else-has_mark j ↦ closing_removed _ _ _ _ _ k t (live ∙ j.if-has_mark.false) _ _ next j.kept-is _ j.book-is
       ],
       omega (arith, size_read, t.stands.next.end, end_length (l.at + head_size + get_or c.args.book.now (l.at + 2) 0) t.behind),

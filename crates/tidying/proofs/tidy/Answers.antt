@@ -1,6 +1,5 @@
 -- `tidying::tidy` meets its contract: a buffer that is no book is refused and stays, and the records of a book are tidied.
 -- Assumes nothing.
-use borrow.Author.Rules.{rules}
 use mathlib.Core.Path.{◌≡◌, sym, ap, subst}
 use Rattle.entries.specs.Entries.{Entries}
 use Rattle.entries.specs.Tidy.{entries_tidied}

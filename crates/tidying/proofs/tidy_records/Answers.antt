@@ -1,6 +1,5 @@
 -- `tidying::tidy_records` meets its contract: the gaps are closed, and what is left up to the free bytes is cleared.
 -- Assumes nothing.
-use borrow.Author.Rules.{rules}
 use native.Mathlib.Omega.{arith}
 use Rattle.tidying.proofs.Cleared.{clear_fits, cleared_right}
 use Rattle.tidying.proofs.tidy_records.Goals as goal

@@ -1,10 +1,7 @@
-use borrow.Author.Rules.{rules}
-use mathlib.Core.Path.{◌≡◌, refl, sym, ap, ◌∙◌}
-use Prim.Native.Nat.{ℕ, ◌+◌, ◌-◌, ◌*◌, ◌%◌, ◌≤◌, ◌<◌}
-use native.Mathlib.Omega.{arith}
+use mathlib.Core.Path.{◌≡◌}
+use Prim.Native.Nat.{◌-◌, ◌≤◌, ◌<◌}
 use lib.ListN.{take, drop}
 use Rattle.book_check.specs.Chain.{buckets, hash_of}
-use Rattle.book_check.proofs.Parts.{hash_one, hash_done}
 use Rattle.book_check.proofs.chain.bucket_of.Given as goal
 
 abbrev pub invariant-loop-next : goal.invariant-loop-next

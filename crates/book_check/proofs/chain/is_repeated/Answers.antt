@@ -1,10 +1,8 @@
 -- `book_check::chain::is_repeated` meets its contract. The invariant: of every chained list of entries, the walk has passed no live record with
 -- the word. The measure is the place.
 -- Assumes nothing.
-use borrow.Author.Rules.{rules}
 use mathlib.Core.Path.{◌≡◌, sym, subst, ◌∙◌}
 use mathlib.Core.Bool.{false}
-use mathlib.Core.Logic.{⊎_elim}
 use mathlib.Core.List.{List}
 use Prim.Native.Nat.{ℕ, ◌-◌, ◌<◌}
 use native.Mathlib.Omega.{arith}
@@ -129,10 +127,10 @@ loop-place-smaller c =
     standing _ _ r.list _ r.chained.drawn ((c.loop-place.invariant r.list r.chained).live c.loop-place-test.true) in
     let other : same_list (word_at c.args.book.now (c.loop-place.place - 1)) (word_at c.args.book.now c.args.at) ≡ false =
     elim c.if-book-start.branch [
-      then-book-start+else-is_same_part w ↦
-      let n = w.wide in
-      compared c.args.book.now (c.loop-place.place - 1) c.args.at n.result _ (w.if-book-start.true ∙ sym n.ensures.0) (sym n.ensures.0) w.is_same_part.ensures
-      ∙ w.if-is_same_part.false
+      | then-book-start+else-is_same_part w ↦
+          let n = w.wide in
+          compared c.args.book.now (c.loop-place.place - 1) c.args.at n.result _ (w.if-book-start.true ∙ sym n.ensures.0) (sym n.ensures.0) w.is_same_part.ensures
+          ∙ w.if-is_same_part.false
       | else-book-start w ↦ unequal c.args.book.now (c.loop-place.place - 1) c.args.at stand.frame frame w.if-book-start.false
     ] in
     let step : (es : List Entry) → let g = c.args in
@@ -150,10 +148,10 @@ loop-place-preserved c =
     standing _ _ r.list _ r.chained.drawn ((c.loop-place.invariant r.list r.chained).live c.loop-place-test.true) in
     let other : same_list (word_at c.args.book.now (c.loop-place.place - 1)) (word_at c.args.book.now c.args.at) ≡ false =
     elim c.if-book-start.branch [
-      then-book-start+else-is_same_part w ↦
-      let n = w.wide in
-      compared c.args.book.now (c.loop-place.place - 1) c.args.at n.result _ (w.if-book-start.true ∙ sym n.ensures.0) (sym n.ensures.0) w.is_same_part.ensures
-      ∙ w.if-is_same_part.false
+      | then-book-start+else-is_same_part w ↦
+          let n = w.wide in
+          compared c.args.book.now (c.loop-place.place - 1) c.args.at n.result _ (w.if-book-start.true ∙ sym n.ensures.0) (sym n.ensures.0) w.is_same_part.ensures
+          ∙ w.if-is_same_part.false
       | else-book-start w ↦ unequal c.args.book.now (c.loop-place.place - 1) c.args.at stand.frame frame w.if-book-start.false
     ] in
     let step : (es : List Entry) → let g = c.args in

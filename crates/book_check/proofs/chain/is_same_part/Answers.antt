@@ -1,11 +1,8 @@
 -- `book_check::chain::is_same_part` meets its contract. The invariant: the bytes passed are the same. The measure is what is left.
 -- Assumes nothing.
-use borrow.Author.Rules.{rules}
-use mathlib.Core.Path.{◌≡◌, sym}
-use Prim.Native.Nat.{ℕ, ◌+◌, ◌-◌, ◌≤◌, ◌<◌}
+use mathlib.Core.Path.{sym}
 use native.Mathlib.Omega.{arith}
 use borrow.Author.Count.{below_more}
-use lib.ListN.{get_or}
 use Rattle.book_check.proofs.Parts.{parts_same, parts_differ}
 use Rattle.book_check.proofs.chain.is_same_part.Goals as goal
 

@@ -1,10 +1,6 @@
-use borrow.Author.Rules.{rules}
-use mathlib.Core.Path.{◌≡◌, sym}
+use mathlib.Core.Path.{◌≡◌}
 use Prim.Native.Nat.{ℕ, ◌+◌, ◌-◌, ◌≤◌, ◌<◌}
-use native.Mathlib.Omega.{arith}
-use borrow.Author.Count.{below_more}
 use lib.ListN.{get_or}
-use Rattle.book_check.proofs.Parts.{parts_same, parts_differ}
 use Rattle.book_check.proofs.chain.is_same_part.Given as goal
 
 abbrev pub invariant-loop-next : goal.invariant-loop-next

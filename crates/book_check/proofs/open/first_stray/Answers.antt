@@ -1,11 +1,7 @@
 -- `book_check::open::first_stray` meets its contract. The invariant: only zeros are passed. The measure is what is left.
 -- Assumes nothing.
-use borrow.Author.Rules.{rules}
-use mathlib.Core.Path.{◌≡◌, refl, ◌∙◌}
-use Prim.Native.Nat.{◌-◌, ◌≤◌}
+use mathlib.Core.Path.{refl, ◌∙◌}
 use native.Mathlib.Omega.{arith}
-use lib.ListN.{length, drop}
-use Rattle.entries.specs.Entries.{Entries, zero_tail}
 use Rattle.book_check.proofs.Parts.{tail_zero, tail_stray, tail_end}
 use Rattle.book_check.proofs.open.first_stray.Goals as goal
 

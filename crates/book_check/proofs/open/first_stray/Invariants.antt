@@ -1,10 +1,7 @@
-use borrow.Author.Rules.{rules}
-use mathlib.Core.Path.{◌≡◌, refl, ◌∙◌}
+use mathlib.Core.Path.{◌≡◌}
 use Prim.Native.Nat.{◌-◌, ◌≤◌}
-use native.Mathlib.Omega.{arith}
 use lib.ListN.{length, drop}
 use Rattle.entries.specs.Entries.{Entries, zero_tail}
-use Rattle.book_check.proofs.Parts.{tail_zero, tail_stray, tail_end}
 use Rattle.book_check.proofs.open.first_stray.Given as goal
 
 abbrev pub invariant-loop-at : goal.invariant-loop-at

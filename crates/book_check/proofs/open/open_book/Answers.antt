@@ -1,16 +1,12 @@
 -- `book_check::open::open_book` meets its contract. The invariant: the definition of the entries is unrolled up to `at`, and the live entries before
 -- it are counted and chained. The measure is what is left of the buffer.
 -- Assumes nothing.
-use borrow.Author.Rules.{rules}
 use mathlib.Core.Path.{◌≡◌, refl, sym, ap, ◌∙◌}
 use mathlib.Core.Bool.{true, ◌&&◌}
-use mathlib.Core.Logic.{⊎_elim}
-use mathlib.Core.List.{List}
-use Prim.Native.Nat.{ℕ, ◌+◌, ◌-◌, ◌≤◌, ◌<◌}
+use Prim.Native.Nat.{ℕ, ◌+◌, ◌≤◌, ◌<◌}
 use native.Mathlib.Omega.{arith}
-use borrow.Author.Tests.{not-true, not-false}
 use lib.Dec.{T}
-use lib.ListN.{length, get_or, take, drop, set}
+use lib.ListN.{length, get_or, take, drop}
 use Rattle.entries.specs.Limits.{book_limit, head_size}
 use Rattle.entries.specs.Readable.{is_readable}
 use Rattle.entries.specs.Entries.{book as book_of, word_at, is_framed, entries}
@@ -20,7 +16,7 @@ use Rattle.book_check.specs.Opening.{opening_of, OpenRight}
 use Rattle.book_check.specs.declared.open.Opening.{Opening}
 use Rattle.book_check.specs.declared.open.Opening.TheVariants.{Book}
 use Rattle.book_frame.proofs.Marks.{mark_met, mark_missed}
-use Rattle.book_check.proofs.Passing.{Passed, too_long, passed_start, ends_zero, ends_full, no_record, repeated, frame_here, moved, zeros_end, zeros_stray, pass_removed, pass_live, says_right}
+use Rattle.book_check.proofs.Passing.{too_long, passed_start, ends_zero, ends_full, no_record, repeated, frame_here, moved, zeros_end, zeros_stray, pass_removed, pass_live, says_right}
 use Rattle.book_check.proofs.open.open_book.Goals as goal
 use Rattle.book_check.proofs.open.open_book.Goals.{then-has_mark+else-is_repeated, else-has_mark}
 
@@ -283,19 +279,19 @@ loop-at-preserved c =
     let e : l.at + (head_size + c.wide-count.result) ≡ l.at + head_size + get_or c.args.book.now (l.at + 2) 0 = omega (arith, c.wide-count.ensures.0) in (
       l.invariant.0,
       elim c.if-has_mark.branch [
-        then-has_mark+else-is_repeated w ↦
-        let alive : get_or c.args.book.now (l.at + 1) 0 ≡ 0x57 =
-        (mark_met (get_or c.args.book.now l.at 0) _ 0x4D 0x57 _ c.has_mark.ensures w.if-has_mark.true).1 in
-        let bucket : w.bucket_of-bucket.result ≡ bucket_at c.args.book.now l.at =
-        w.bucket_of-bucket.ensures.0 ∙ ap (λ (n : ℕ). hash_of (take n (drop (l.at + head_size) c.args.book.now)) 0) c.wide-count.ensures.0 in
-        moved c.args.book.now _ _ _ _ _ _ _ _ e w.live-is w.heads-is w.links-is
-        (pass_live c.args.book.now l.at l.live l.heads l.links l.invariant.1 c.if-book-at-eq0.false good w.bucket_of-bucket.result _ w.link_to.result l.invariant.0
-        alive (sym (w.is_repeated.ensures l.invariant.1.list l.invariant.1.chained) ∙ w.if-is_repeated.false) bucket w.bucket_of-bucket.ensures.1 refl
-        w.link_to.ensures)
+        | then-has_mark+else-is_repeated w ↦
+            let alive : get_or c.args.book.now (l.at + 1) 0 ≡ 0x57 =
+            (mark_met (get_or c.args.book.now l.at 0) _ 0x4D 0x57 _ c.has_mark.ensures w.if-has_mark.true).1 in
+            let bucket : w.bucket_of-bucket.result ≡ bucket_at c.args.book.now l.at =
+            w.bucket_of-bucket.ensures.0 ∙ ap (λ (n : ℕ). hash_of (take n (drop (l.at + head_size) c.args.book.now)) 0) c.wide-count.ensures.0 in
+            moved c.args.book.now _ _ _ _ _ _ _ _ e w.live-is w.heads-is w.links-is
+            (pass_live c.args.book.now l.at l.live l.heads l.links l.invariant.1 c.if-book-at-eq0.false good w.bucket_of-bucket.result _ w.link_to.result l.invariant.0
+            alive (sym (w.is_repeated.ensures l.invariant.1.list l.invariant.1.chained) ∙ w.if-is_repeated.false) bucket w.bucket_of-bucket.ensures.1 refl
+            w.link_to.ensures)
         | else-has_mark w ↦
-        moved c.args.book.now _ _ _ _ _ _ _ _ e w.live-is w.heads-is w.links-is
-        (pass_removed c.args.book.now l.at l.live l.heads l.links l.invariant.1 c.if-book-at-eq0.false good
-        (λ live. mark_missed _ _ 0x4D 0x57 _ c.has_mark.ensures w.if-has_mark.false frame.first live))
+            moved c.args.book.now _ _ _ _ _ _ _ _ e w.live-is w.heads-is w.links-is
+            (pass_removed c.args.book.now l.at l.live l.heads l.links l.invariant.1 c.if-book-at-eq0.false good
+            (λ live. mark_missed _ _ 0x4D 0x57 _ c.has_mark.ensures w.if-has_mark.false frame.first live))
       ],
     )
 
