@@ -2,12 +2,9 @@
 -- the word. The measure is the number of values that are left.
 -- Assumes nothing.
 use mathlib.Core.Path.{sym, ◌∙◌}
-use Prim.Native.Nat.{◌-◌}
 use native.Mathlib.Omega.{arith}
-use borrow.Author.Rules.{rules}
-use lib.ListN.{length}
 use Rattle.label_rules.specs.Rules.{is_confusable}
-use Rattle.label_rules.proofs.Sought.{Sought, sought_none, sought_found, sought_on, sought_end}
+use Rattle.label_rules.proofs.Sought.{sought_none, sought_found, sought_on, sought_end}
 use Rattle.label_rules.proofs.first_confusable.Goals as goal
 
 pub loop-at-init : goal.loop-at-init

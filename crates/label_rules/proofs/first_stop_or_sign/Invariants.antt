@@ -1,10 +1,7 @@
-use mathlib.Core.Path.{sym, ◌∙◌}
 use Prim.Native.Nat.{◌-◌}
-use native.Mathlib.Omega.{arith}
-use borrow.Author.Rules.{rules}
 use lib.ListN.{length}
 use Rattle.label_rules.specs.Rules.{is_stop_or_sign}
-use Rattle.label_rules.proofs.Sought.{Sought, sought_none, sought_found, sought_on, sought_end}
+use Rattle.label_rules.proofs.Sought.{Sought}
 use Rattle.label_rules.proofs.first_stop_or_sign.Given as goal
 
 abbrev pub invariant-loop-at : goal.invariant-loop-at

@@ -1,7 +1,6 @@
 -- `label_rules::is_confusable` meets its contract: the neighbours are looked at where the value looks like a letter.
 -- Assumes nothing.
 use Rattle.label_rules.proofs.Neighbours.{beside, no_letter}
-use borrow.Author.Rules.{rules}
 use Rattle.label_rules.proofs.is_confusable.Goals as goal
 
 pub returns-then-looks_like_letter : goal.returns-then-looks_like_letter

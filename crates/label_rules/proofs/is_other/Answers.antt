@@ -1,7 +1,6 @@
 -- `label_rules::is_other` meets its contract: a place of the word has its value, and one past its end has none.
 -- Assumes nothing.
 use mathlib.Core.Path.{sym, ap, ◌∙◌}
-use borrow.Author.Rules.{rules}
 use lib.ListN.{get_or}
 use Rattle.formula.proofs.Lists.{element_there, no_element}
 use Rattle.label_rules.specs.Rules.{is_other}

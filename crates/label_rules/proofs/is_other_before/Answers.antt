@@ -3,7 +3,6 @@
 use mathlib.Core.Path.{sym, ap, ◌∙◌}
 use Rattle.label_rules.specs.Rules.{is_other}
 use Rattle.label_rules.proofs.Neighbours.{none_before, one_before}
-use borrow.Author.Rules.{rules}
 use Rattle.label_rules.proofs.is_other_before.Goals as goal
 
 pub returns-then-at-eq0 : goal.returns-then-at-eq0

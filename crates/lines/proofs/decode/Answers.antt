@@ -2,9 +2,8 @@
 -- Assumes nothing.
 use mathlib.Core.Path.{◌≡◌, sym, subst, ◌∙◌}
 use mathlib.Core.List.{List}
-use Prim.Native.Nat.{ℕ, ◌-◌}
+use Prim.Native.Nat.{ℕ}
 use native.Mathlib.Omega.{arith}
-use borrow.Author.Rules.{rules}
 use borrow.Author.Tests.{lt-leb}
 use lib.ListN.{length}
 use Rattle.letters.specs.Choice.{pick}
@@ -13,7 +12,7 @@ use Rattle.lines.specs.Line.{DecodeRight}
 use Rattle.lines.specs.declared.Decoded.{Decoded}
 use Rattle.lines.proofs.Decided.{decoded_of, decided}
 use Rattle.lines.proofs.Threes.{Turn, turn}
-use Rattle.lines.proofs.Passing.{Passed, passed_none, passed_more, passed_faulty, passed_all}
+use Rattle.lines.proofs.Passing.{passed_none, passed_more, passed_faulty, passed_all}
 use Rattle.lines.proofs.decode.Goals as goal
 
 -- the answer that is computed is right

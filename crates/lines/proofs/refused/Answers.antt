@@ -1,6 +1,5 @@
 -- `lines::refused` meets its contract: beside the refusal stands the word of no values that `Word::empty` gives.
 -- Assumes nothing.
-use borrow.Author.Rules.{rules}
 use Rattle.lines.proofs.refused.Goals as goal
 
 pub returns : goal.returns

@@ -6,7 +6,6 @@ use lib.ListN.{length}
 use borrow.Author.Tests.{le-leb, lt-leb}
 use Rattle.letters.specs.Choice.{pick}
 use Rattle.lines.specs.Three.{three_at}
-use borrow.Author.Rules.{rules}
 use Rattle.lines.proofs.three_at.Goals as goal
 
 pub returns-then-line-at-lt3 : goal.returns-then-line-at-lt3

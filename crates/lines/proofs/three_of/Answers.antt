@@ -1,7 +1,6 @@
 -- `lines::three_of` meets its contract: the test's outcome says which case of `three_of` holds, and bytes that pass it are at least 80.
 -- Assumes nothing.
 use mathlib.Core.Path.{sym, ◌∙◌}
-use borrow.Author.Rules.{rules}
 use Rattle.letters.specs.Choice.{pick}
 use Rattle.lines.specs.Three.{three_of}
 use Rattle.lines.proofs.Threes.{Bounds, three_bounds}

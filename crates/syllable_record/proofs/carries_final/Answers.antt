@@ -4,7 +4,6 @@ use mathlib.Core.Bool.{◌||◌}
 use Prim.Native.Nat.{ℕ, ◌+◌}
 use native.Mathlib.Omega.{arith}
 use lib.Dec.{eqb}
-use borrow.Author.Rules.{rules}
 use Rattle.letters.specs.Letters.{is_independent_vowel}
 use Rattle.formula.specs.Syllable.{carries_marks, carries_final}
 use Rattle.syllable_record.proofs.Bytes.{on_bytes}

@@ -4,7 +4,6 @@ use mathlib.Core.Bool.{◌&&◌, ◌||◌}
 use Prim.Native.Nat.{ℕ, ◌+◌}
 use native.Mathlib.Omega.{arith}
 use lib.Dec.{leb}
-use borrow.Author.Rules.{rules}
 use Rattle.letters.specs.Weights.{is_head}
 use Rattle.formula.specs.Syllable.{carries_final}
 use Rattle.syllable_record.proofs.Bytes.{on_bytes}

@@ -1,7 +1,6 @@
 -- `syllable_record::is_record` meets its contract: its tests are those of `is_record`, in the same order, some of them called.
 -- Assumes nothing.
 use Rattle.syllable_record.specs.Record.{is_record}
-use borrow.Author.Rules.{rules}
 use Rattle.syllable_record.proofs.is_record.Goals as goal
 
 pub returns : goal.returns

@@ -1,7 +1,6 @@
 -- `syllable_record::may_follow` meets its contract: both tests are called.
 -- Assumes nothing.
 use Rattle.syllable_record.specs.Record.{may_follow}
-use borrow.Author.Rules.{rules}
 use Rattle.syllable_record.proofs.may_follow.Goals as goal
 
 pub returns : goal.returns

@@ -3,7 +3,6 @@
 use Prim.Native.Nat.{◌-◌}
 use Rattle.formula.specs.Limits.{record_size}
 use Rattle.syllable_record.proofs.Places.{piece_at}
-use borrow.Author.Rules.{rules}
 use Rattle.syllable_record.proofs.record_at.Goals as goal
 
 pub returns : goal.returns

@@ -1,9 +1,8 @@
 -- `memory::copies::clear` meets its contract. The invariant is `Copied`, of a list of zeros. The measure is what is left.
 -- Assumes nothing.
-use borrow.Author.Rules.{rules}
 use mathlib.Core.Path.{subst}
 use mathlib.Core.List.{List}
-use Prim.Native.Nat.{ℕ, ◌+◌, ◌-◌}
+use Prim.Native.Nat.{ℕ, ◌+◌}
 use native.Mathlib.Omega.{arith}
 use lib.ListN.{set, replicate, length-replicate, get_or-replicate}
 use Rattle.memory.proofs.Copied.{Copied, copied_long, copied_none, copied_more, copied_all}

@@ -1,10 +1,6 @@
-use borrow.Author.Rules.{rules}
-use mathlib.Core.Path.{subst}
-use mathlib.Core.List.{List}
-use Prim.Native.Nat.{ℕ, ◌+◌, ◌-◌}
-use native.Mathlib.Omega.{arith}
-use lib.ListN.{set, replicate, length-replicate, get_or-replicate}
-use Rattle.memory.proofs.Copied.{Copied, copied_long, copied_none, copied_more, copied_all}
+use Prim.Native.Nat.{◌-◌}
+use lib.ListN.{replicate}
+use Rattle.memory.proofs.Copied.{Copied}
 use Rattle.memory.proofs.copies.clear.Given as goal
 
 abbrev pub invariant-loop-done : goal.invariant-loop-done

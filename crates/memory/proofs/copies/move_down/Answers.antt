@@ -1,9 +1,8 @@
 -- `memory::copies::move_down` meets its contract. The invariant is `Copied`, of a part of the slice itself. The measure is what is left.
 -- Assumes nothing.
-use borrow.Author.Rules.{rules}
 use mathlib.Core.Path.{sym, subst}
 use mathlib.Core.List.{List}
-use Prim.Native.Nat.{ℕ, ◌+◌, ◌-◌}
+use Prim.Native.Nat.{ℕ, ◌+◌}
 use native.Mathlib.Omega.{arith}
 use lib.ListN.{take, drop, set}
 use Rattle.memory.proofs.Copied.{Copied, copied_long, copied_none, copied_more, copied_all, part_long, part_next}

@@ -1,10 +1,6 @@
-use borrow.Author.Rules.{rules}
-use mathlib.Core.Path.{sym, subst}
-use mathlib.Core.List.{List}
-use Prim.Native.Nat.{ℕ, ◌+◌, ◌-◌}
-use native.Mathlib.Omega.{arith}
-use lib.ListN.{take, drop, set}
-use Rattle.memory.proofs.Copied.{Copied, copied_long, copied_none, copied_more, copied_all, part_long, part_next}
+use Prim.Native.Nat.{◌-◌}
+use lib.ListN.{take, drop}
+use Rattle.memory.proofs.Copied.{Copied}
 use Rattle.memory.proofs.copies.move_down.Given as goal
 
 abbrev pub invariant-loop-done : goal.invariant-loop-done

@@ -1,10 +1,7 @@
 -- `memory::copies::put_bytes` meets its contract. The invariant is `Copied`: the bytes passed are stored. The measure is what is left.
 -- Assumes nothing.
-use borrow.Author.Rules.{rules}
-use Prim.Native.Nat.{◌-◌}
 use native.Mathlib.Omega.{arith}
-use lib.ListN.{length}
-use Rattle.memory.proofs.Copied.{Copied, copied_long, copied_none, copied_more, copied_all}
+use Rattle.memory.proofs.Copied.{copied_long, copied_none, copied_more, copied_all}
 use Rattle.memory.proofs.copies.put_bytes.Goals as goal
 
 pub loop-done-init : goal.loop-done-init

@@ -1,8 +1,6 @@
-use borrow.Author.Rules.{rules}
 use Prim.Native.Nat.{◌-◌}
-use native.Mathlib.Omega.{arith}
 use lib.ListN.{length}
-use Rattle.memory.proofs.Copied.{Copied, copied_long, copied_none, copied_more, copied_all}
+use Rattle.memory.proofs.Copied.{Copied}
 use Rattle.memory.proofs.copies.put_values.Given as goal
 
 abbrev pub invariant-loop-done : goal.invariant-loop-done

@@ -1,6 +1,5 @@
 -- `recogniser::answer::answer_where` meets its contract: each answer is what the machine's row at that place shows.
 -- Assumes nothing.
-use borrow.Author.Rules.{rules}
 use Rattle.recogniser.proofs.Answered.{answer_foreign, answer_no_continuation, answer_unfinished, answer_syllables}
 use Rattle.recogniser.proofs.answer.answer_where.Goals as goal
 

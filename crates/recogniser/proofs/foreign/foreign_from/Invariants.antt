@@ -1,13 +1,7 @@
-use mathlib.Core.Path.{◌≡◌, sym, subst, ◌∙◌}
-use mathlib.Core.Bool.{Bool, true, false, not}
 use Prim.Native.Nat.{ℕ, ◌-◌, ◌≤◌, ◌<◌}
-use native.Mathlib.Omega.{arith}
-use borrow.Author.Count.{below_more}
-use borrow.Author.Rules.{rules}
 use lib.Dec.{T}
 use lib.ListN.{length, get_or}
 use Rattle.letters.specs.Letters.{is_admitted}
-use Rattle.recogniser.specs.Concluded.{is_foreign}
 use Rattle.recogniser.proofs.foreign.foreign_from.Given as goal
 
 abbrev pub invariant-loop-at : goal.invariant-loop-at

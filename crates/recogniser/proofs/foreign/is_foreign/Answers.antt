@@ -6,7 +6,6 @@ use mathlib.Core.Bool.{Bool, true, false, not, false≢true}
 use mathlib.Core.List.{[], ◌∷◌}
 use Prim.Native.Nat.{ℕ}
 use lib.Dec.{eqb}
-use borrow.Author.Rules.{rules}
 use Rattle.letters.proofs.Arms.{same_at}
 use Rattle.letters.proofs.Counted.{unadmitted_foreign, foreign_unadmitted}
 use Rattle.letters.specs.Letters.{is_admitted}

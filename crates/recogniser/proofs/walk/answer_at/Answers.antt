@@ -1,6 +1,5 @@
 -- `recogniser::walk::answer_at` meets its contract: the state says whether the last syllable waits.
 -- Assumes nothing.
-use borrow.Author.Rules.{rules}
 use Rattle.recogniser.proofs.Walking.{walk_halted}
 use Rattle.recogniser.proofs.walk.answer_at.Goals as goal
 

@@ -1,7 +1,6 @@
 -- `recogniser::walk::answer_of` meets its contract: the limit is tested first, and the walk stops where `answer_at` asks.
 -- Assumes nothing.
 use native.Mathlib.Omega.{arith}
-use borrow.Author.Rules.{rules}
 use Rattle.recogniser.specs.Answer.{too_long}
 use Rattle.recogniser.proofs.walk.answer_of.Goals as goal
 

@@ -1,7 +1,6 @@
 -- `recogniser::walk::is_row` meets its contract: a word is answered with its syllables exactly where some row gives it.
 -- Assumes nothing.
 use mathlib.Core.Path.{subst}
-use borrow.Author.Rules.{rules}
 use Rattle.refusals.specs.Outcome.{outcome_of}
 use Rattle.refusals.specs.declared.Counted.{Counted}
 use Rattle.recogniser.specs.Answer.{Answers}

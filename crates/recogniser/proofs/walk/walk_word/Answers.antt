@@ -1,13 +1,10 @@
 -- `recogniser::walk::walk_word` meets its contract: before each turn the state and the count are those of what the machine has kept of the
 -- values read. The measure is what is left of the word. Assumes nothing.
 use mathlib.Core.Path.{◌≡◌, ap, ◌∙◌}
-use Prim.Native.Nat.{◌-◌, ◌≤◌}
 use native.Mathlib.Omega.{arith}
-use lib.ListN.{length, get_or}
-use borrow.Author.Rules.{rules}
+use lib.ListN.{get_or}
 use Rattle.transitions.specs.Tables.{entry_of, next_by}
 use Rattle.transitions.proofs.Entered.{next_entry}
-use Rattle.recogniser.specs.Walked.{Walked}
 use Rattle.recogniser.proofs.Walking.{walk_start, state_bound, count_within, walk_refused, some_left, walk_on}
 use Rattle.recogniser.proofs.walk.walk_word.Goals as goal
 

@@ -1,12 +1,6 @@
-use mathlib.Core.Path.{◌≡◌, ap, ◌∙◌}
 use Prim.Native.Nat.{◌-◌, ◌≤◌}
-use native.Mathlib.Omega.{arith}
-use lib.ListN.{length, get_or}
-use borrow.Author.Rules.{rules}
-use Rattle.transitions.specs.Tables.{entry_of, next_by}
-use Rattle.transitions.proofs.Entered.{next_entry}
+use lib.ListN.{length}
 use Rattle.recogniser.specs.Walked.{Walked}
-use Rattle.recogniser.proofs.Walking.{walk_start, state_bound, count_within, walk_refused, some_left, walk_on}
 use Rattle.recogniser.proofs.walk.walk_word.Given as goal
 
 abbrev pub invariant-loop-at : goal.invariant-loop-at

@@ -2,7 +2,6 @@
 -- Assumes nothing.
 use mathlib.Core.Path.{refl}
 use native.Mathlib.Omega.{arith}
-use borrow.Author.Rules.{rules}
 use Rattle.letters.proofs.Branches.{when_equal, when_unequal}
 use Rattle.syllables.specs.Window.{begun_by}
 use Rattle.syllables.proofs.window.begun.Goals as goal

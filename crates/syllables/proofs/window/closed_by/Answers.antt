@@ -1,7 +1,6 @@
 -- `syllables::window::closed_by` meets its contract: great sa is its final 101E, and any other value leaves it.
 -- Assumes nothing.
 use mathlib.Core.Path.{refl}
-use borrow.Author.Rules.{rules}
 use Rattle.letters.proofs.Branches.{when_equal, when_unequal}
 use Rattle.syllables.specs.Window.{closed_by}
 use Rattle.syllables.proofs.window.closed_by.Goals as goal

@@ -1,7 +1,6 @@
 -- `syllables::window::joined_by` meets its contract: the shift loses nothing.
 -- Assumes nothing.
 use native.Mathlib.Omega.{arith}
-use borrow.Author.Rules.{rules}
 use Rattle.syllables.proofs.Moved.{whole}
 use Rattle.syllables.proofs.window.joined_by.Goals as goal
 

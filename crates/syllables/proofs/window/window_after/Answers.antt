@@ -2,7 +2,6 @@
 -- Assumes nothing.
 use mathlib.Core.Path.{◌≡◌, refl}
 use native.Mathlib.Omega.{arith}
-use borrow.Author.Rules.{rules}
 use Rattle.syllables.proofs.Moved.{after_gain, after_head, one_more, none_more}
 use Rattle.syllables.proofs.window.window_after.Goals as goal
 

@@ -2,7 +2,6 @@
 -- Assumes nothing.
 use mathlib.Core.Path.{ap}
 use Prim.Native.Nat.{ℕ, ◌/◌, ◌%◌, ◌^◌, ◌*◌}
-use borrow.Author.Rules.{rules}
 use Rattle.transitions.proofs.tables.gain.Goals as goal
 
 pub returns : goal.returns

@@ -1,6 +1,5 @@
 -- `transitions::tables::rules_of` meets its contract: the rules are those of the value's class.
 -- Assumes nothing.
-use borrow.Author.Rules.{rules}
 use Rattle.transitions.proofs.tables.rules_of.Goals as goal
 
 pub returns : goal.returns
