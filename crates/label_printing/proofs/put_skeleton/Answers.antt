@@ -1,6 +1,5 @@
 -- `label_printing::put_skeleton` meets its contract: OK, a space and the values are written one behind the other, and a skeleton's values are few.
 -- Assumes nothing.
-use borrow.Author.Rules.{rules}
 use Rattle.memory.proofs.Putting.{put_after}
 use Rattle.label_printing.specs.Output.{skeleton_text}
 use Rattle.label_printing.proofs.Labels.{skeleton_text_short}

@@ -2,7 +2,6 @@
 -- Assumes nothing.
 use mathlib.Core.Path.{refl, sym, ap, ◌∙◌}
 use native.Mathlib.Omega.{arith}
-use borrow.Author.Rules.{rules}
 use lib.ListN.{length}
 use Rattle.labelling.proofs.Given.{unwritten, Given, told_given, told_refused}
 use Rattle.labelling.proofs.Stored.{skeleton_short}

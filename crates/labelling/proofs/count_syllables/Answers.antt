@@ -1,7 +1,6 @@
 -- `labelling::count_syllables` meets its contract: a row is read, and never refused.
 -- Assumes nothing.
 use mathlib.Core.Path.{subst}
-use borrow.Author.Rules.{rules}
 use Rattle.refusals.specs.Outcome.{outcome_of}
 use Rattle.refusals.specs.declared.Counted.{Counted}
 use Rattle.recogniser.specs.Answer.{Answers}

@@ -2,7 +2,6 @@
 -- Assumes nothing.
 use mathlib.Core.Path.{◌≡◌, refl, sym, ap, ◌∙◌}
 use borrow.Author.Tests.{leb-true, leb-false}
-use borrow.Author.Rules.{rules}
 use Rattle.refusals.specs.Outcome.{accepts, outcome_of}
 use Rattle.label_rules.specs.Rules.{label_of}
 use Rattle.labelling.specs.Putting.{breaks, meets}

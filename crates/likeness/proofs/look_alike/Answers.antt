@@ -3,7 +3,6 @@
 use mathlib.Core.Path.{sym}
 use native.Mathlib.Omega.{arith}
 use lib.Seq.{length-take-le}
-use borrow.Author.Rules.{rules}
 use Rattle.labelling.proofs.Given.{unwritten, Given, told_given, told_refused}
 use Rattle.likeness.proofs.Alike.{likeness_right}
 use Rattle.likeness.proofs.look_alike.Goals as goal

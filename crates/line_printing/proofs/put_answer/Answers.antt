@@ -1,6 +1,5 @@
 -- `line_printing::put_answer` meets its contract: each task is answered by its own function.
 -- Assumes nothing.
-use borrow.Author.Rules.{rules}
 use Rattle.line_printing.proofs.put_answer.Goals as goal
 
 pub returns-in-Words : goal.returns-in-Words

@@ -1,7 +1,6 @@
 -- `line_printing::put_line` meets its contract: the number, the answer and 0A are written one behind the other, and there is room for all of them.
 -- Assumes nothing.
 use native.Mathlib.Omega.{arith}
-use borrow.Author.Rules.{rules}
 use Rattle.key_text.proofs.Decimal.{decimal_short}
 use Rattle.line_printing.proofs.Printed.{line_written}
 use Rattle.line_printing.proofs.put_line.Goals as goal

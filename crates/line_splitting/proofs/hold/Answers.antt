@@ -9,7 +9,7 @@ pub returns : goal.returns
 returns c =
     let filled : Fills c.args.part.now c.args.held c.if-part-room.count =
     elim c.if-part-room.branch [
-      then-part-room w ↦ rw w.count-is (fills_all _ _ c.requires.0 w.if-part-room.true)
-    | else-part-room w ↦ rw w.count-is (fills_room _ _ c.requires.0 (omega arith))
+      | then-part-room w ↦ rw w.count-is (fills_all _ _ c.requires.0 w.if-part-room.true)
+      | else-part-room w ↦ rw w.count-is (fills_room _ _ c.requires.0 (omega arith))
     ] in
     held_more _ _ _ _ _ c.requires.1 filled c.put_bytes.ensures

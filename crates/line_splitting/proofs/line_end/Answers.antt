@@ -1,10 +1,7 @@
 -- `line_splitting::line_end` meets its contract. The loop's invariant: of the bytes passed none ends a line. The measure is what is left of the chunk.
 -- Assumes nothing.
-use Prim.Native.Nat.{◌-◌, ◌≤◌}
 use native.Mathlib.Omega.{arith}
-use lib.ListN.{length}
-use lib.Seq.{slice}
-use Rattle.line_splitting.proofs.Cutting.{Plain, plain_start, plain_further}
+use Rattle.line_splitting.proofs.Cutting.{plain_start, plain_further}
 use Rattle.line_splitting.proofs.line_end.Goals as goal
 
 pub loop-at-init : goal.loop-at-init

@@ -1,8 +1,7 @@
 use Prim.Native.Nat.{◌-◌, ◌≤◌}
-use native.Mathlib.Omega.{arith}
 use lib.ListN.{length}
 use lib.Seq.{slice}
-use Rattle.line_splitting.proofs.Cutting.{Plain, plain_start, plain_further}
+use Rattle.line_splitting.proofs.Cutting.{Plain}
 use Rattle.line_splitting.proofs.line_end.Given as goal
 
 abbrev pub invariant-loop-at : goal.invariant-loop-at

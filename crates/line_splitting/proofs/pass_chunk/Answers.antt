@@ -1,11 +1,8 @@
 -- `line_splitting::pass_chunk` meets its contract. The loop's invariant is `Along`: what was printed so far follows the bytes passed. The measure is what is left of the chunk.
 -- Assumes nothing.
-use Prim.Native.Nat.{◌-◌}
 use native.Mathlib.Omega.{arith}
-use lib.ListN.{length}
-use borrow.Author.Tests.{leb-true, leb-false}
 use Rattle.line_splitting.proofs.Following.{taken_passes}
-use Rattle.line_splitting.proofs.Taking.{Along, along_none, along_ready, along_more, along_taken}
+use Rattle.line_splitting.proofs.Taking.{along_none, along_ready, along_more, along_taken}
 use Rattle.line_splitting.proofs.pass_chunk.Goals as goal
 
 pub loop-reached-init : goal.loop-reached-init

@@ -1,9 +1,6 @@
 use Prim.Native.Nat.{◌-◌}
-use native.Mathlib.Omega.{arith}
 use lib.ListN.{length}
-use borrow.Author.Tests.{leb-true, leb-false}
-use Rattle.line_splitting.proofs.Following.{taken_passes}
-use Rattle.line_splitting.proofs.Taking.{Along, along_none, along_ready, along_more, along_taken}
+use Rattle.line_splitting.proofs.Taking.{Along}
 use Rattle.line_splitting.proofs.pass_chunk.Given as goal
 
 abbrev pub invariant-loop-reached : goal.invariant-loop-reached

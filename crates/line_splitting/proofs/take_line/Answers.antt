@@ -4,7 +4,6 @@ use native.Mathlib.Omega.{arith}
 use mathlib.Core.Path.{sym}
 use lib.Seq.{length-take-le}
 use Rattle.line_splitting.proofs.Taking.{part_fits, taken_open, taken_ended}
-use borrow.Author.Rules.{rules}
 use Rattle.line_splitting.proofs.take_line.Goals as goal
 
 pub returns-then-end-chunk : goal.returns-then-end-chunk

@@ -1,9 +1,7 @@
 -- `outputs::put_key` meets its contract: the weights are written out where there is room for them.
 -- Assumes nothing.
-use borrow.Author.Rules.{rules}
 use mathlib.Core.Path.{refl, sym}
 use native.Mathlib.Omega.{arith}
-use Rattle.collation.proofs.Weighing.{Weighed}
 use Rattle.outputs.proofs.Keying.{refused_right, short_right, written_right}
 use Rattle.outputs.proofs.put_key.Goals as goal
 

@@ -1,6 +1,5 @@
 -- `outputs::put_record` meets its contract: the record is written out where there is one and room for it.
 -- Assumes nothing.
-use borrow.Author.Rules.{rules}
 use mathlib.Core.Path.{◌≡◌, refl}
 use native.Mathlib.Omega.{arith}
 use Rattle.reading.specs.declared.records.RecordAnswer.TheVariants.{Found}

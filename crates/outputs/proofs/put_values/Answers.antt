@@ -1,6 +1,5 @@
 -- `outputs::put_values` meets its contract: the decoded word is written out where there is room for it.
 -- Assumes nothing.
-use borrow.Author.Rules.{rules}
 use mathlib.Core.Path.{refl}
 use Rattle.refusals.specs.Outcome.{outcome_of}
 use Rattle.lines.proofs.Told.{told_fits, told_count}

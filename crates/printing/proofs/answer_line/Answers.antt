@@ -2,7 +2,6 @@
 -- Assumes nothing.
 use Rattle.lines.proofs.Told.{told_word, told_fits, told_count}
 use Rattle.printing.proofs.Answers.{refused_right, values_right}
-use borrow.Author.Rules.{rules}
 use Rattle.printing.proofs.answer_line.Goals as goal
 
 pub returns-in-Refused : goal.returns-in-Refused

@@ -6,7 +6,6 @@ use Rattle.printing.specs.Output.{accepted_text}
 use Rattle.memory.proofs.Putting.{put_after}
 use Rattle.key_text.proofs.Decimal.{decimal_short}
 use Rattle.key_text.proofs.Keys.{key_short}
-use borrow.Author.Rules.{rules}
 use Rattle.printing.proofs.put_accepted.Goals as goal
 
 pub put-spaced-requires : goal.put-spaced-requires

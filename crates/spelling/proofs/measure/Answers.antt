@@ -1,9 +1,8 @@
 -- `spelling::measure` meets its contract. The loop's invariant is `Measured`: the size is that of the syllables so far. The measure is what is left of them.
 -- Assumes nothing.
-use Prim.Native.Nat.{◌-◌}
 use native.Mathlib.Omega.{arith}
 use borrow.Author.Rules.{rules}
-use Rattle.spelling.proofs.Fronts.{Measured, measured_none, measured_more, measured_all}
+use Rattle.spelling.proofs.Fronts.{measured_none, measured_more, measured_all}
 use Rattle.spelling.proofs.measure.Goals as goal
 
 pub loop-number-init : goal.loop-number-init

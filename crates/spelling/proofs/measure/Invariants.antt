@@ -1,7 +1,5 @@
 use Prim.Native.Nat.{◌-◌}
-use native.Mathlib.Omega.{arith}
-use borrow.Author.Rules.{rules}
-use Rattle.spelling.proofs.Fronts.{Measured, measured_none, measured_more, measured_all}
+use Rattle.spelling.proofs.Fronts.{Measured}
 use Rattle.spelling.proofs.measure.Given as goal
 
 abbrev pub invariant-loop-number : goal.invariant-loop-number

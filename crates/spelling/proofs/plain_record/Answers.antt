@@ -1,6 +1,5 @@
 -- `spelling::plain_record` meets its contract: the link is the one byte that changes.
 -- Assumes nothing.
-use borrow.Author.Rules.{rules}
 use Rattle.spelling.proofs.plain_record.Goals as goal
 
 pub returns : goal.returns

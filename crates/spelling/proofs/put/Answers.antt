@@ -1,9 +1,8 @@
 -- `spelling::put` meets its contract. The loop's invariant is `Filled`: both lists have the fronts of the syllables so far. The measure is what is left of them.
 -- Assumes nothing.
-use Prim.Native.Nat.{◌-◌}
 use native.Mathlib.Omega.{arith}
 use borrow.Author.Rules.{rules}
-use Rattle.spelling.proofs.Fronts.{Filled, filled_none, values_length, starts_same, filled_all, filled_room, filled_more}
+use Rattle.spelling.proofs.Fronts.{filled_none, values_length, starts_same, filled_all, filled_room, filled_more}
 use Rattle.spelling.proofs.put.Goals as goal
 
 pub loop-number-init : goal.loop-number-init

@@ -1,7 +1,5 @@
 use Prim.Native.Nat.{◌-◌}
-use native.Mathlib.Omega.{arith}
-use borrow.Author.Rules.{rules}
-use Rattle.spelling.proofs.Fronts.{Filled, filled_none, values_length, starts_same, filled_all, filled_room, filled_more}
+use Rattle.spelling.proofs.Fronts.{Filled}
 use Rattle.spelling.proofs.put.Given as goal
 
 abbrev pub invariant-loop-number : goal.invariant-loop-number

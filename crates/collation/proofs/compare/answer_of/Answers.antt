@@ -1,7 +1,6 @@
 -- `collation::compare::answer_of` meets its contract: each arm tells the number of its order.
 -- Assumes nothing.
 use mathlib.Core.Path.{sym, ap}
-use borrow.Author.Rules.{rules}
 use Rattle.collation.specs.Comparison.{compared_as}
 use Rattle.collation.proofs.compare.answer_of.Goals as goal
 

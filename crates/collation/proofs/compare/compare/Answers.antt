@@ -1,7 +1,6 @@
 -- `collation::compare::compare` meets its contract: the first heads tell the order, or else the keys do.
 -- Assumes nothing.
 use borrow.Enum.Refused.{opened}
-use borrow.Author.Rules.{rules}
 use Rattle.collation.proofs.Apart.{heads_answer}
 use Rattle.collation.proofs.compare.compare.Goals as goal
 

@@ -4,8 +4,7 @@ use mathlib.Core.Path.{sym}
 use native.Mathlib.Omega.{arith}
 use lib.Seq.{length-take-le}
 use borrow.Enum.Refused.{opened}
-use borrow.Author.Rules.{rules}
-use Rattle.collation.proofs.Weighing.{Weighed, weighed_refused, weighed_stores, weighed_limit, weighed_used, weighed_order}
+use Rattle.collation.proofs.Weighing.{weighed_refused, weighed_stores, weighed_limit, weighed_used, weighed_order}
 use Rattle.collation.proofs.Comparing.{keys_decide, forms_decide}
 use Rattle.collation.proofs.compare.compare_keys.Goals as goal
 

@@ -4,7 +4,6 @@ use mathlib.Core.Path.{ap, ◌∙◌}
 use mathlib.Core.List.{List}
 use Prim.Native.Nat.{ℕ}
 use lib.ListN.{take}
-use borrow.Author.Rules.{rules}
 use Rattle.formula.proofs.Held.{held_front, held_fits, held_length}
 use Rattle.storage.specs.Stored.{stored_form}
 use Rattle.weighing.specs.Order.{order_values}

@@ -1,7 +1,6 @@
 -- `collation::heads::first_head` meets its contract: the first value's weight, which is 0 where it is no head.
 -- Assumes nothing.
 use mathlib.Core.Path.{sym, ◌∙◌}
-use borrow.Author.Rules.{rules}
 use Rattle.collation.proofs.Apart.{no_head, some_head}
 use Rattle.collation.proofs.heads.first_head.Goals as goal
 

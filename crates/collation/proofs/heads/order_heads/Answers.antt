@@ -3,7 +3,6 @@
 use borrow.Enum.Refused.{opened}
 use mathlib.Core.Path.{sym, ap, subst, ◌∙◌}
 use Prim.Native.Nat.{ℕ}
-use borrow.Author.Rules.{rules}
 use Rattle.recogniser.specs.Answer.{Readable, RowTest}
 use Rattle.weighing.specs.Order.{order_numbers}
 use Rattle.collation.specs.Comparison.{first_head, HeadsTell}

@@ -1,6 +1,5 @@
 -- `collation::key::key_of` meets its contract: the weights of the word, or zeros with a refusal.
 -- Assumes nothing.
-use borrow.Author.Rules.{rules}
 use Rattle.collation.proofs.Weighing.{weighed_key}
 use Rattle.collation.proofs.key.key_of.Goals as goal
 

@@ -1,6 +1,5 @@
 -- `collation::weigh::weigh` meets its contract: a row of syllables is weighed as it is, and any other word by its stored form.
 -- Assumes nothing.
-use borrow.Author.Rules.{rules}
 use Rattle.collation.proofs.Weighing.{row_weighed, refused_zeros}
 use Rattle.collation.proofs.weigh.weigh.Goals as goal
 

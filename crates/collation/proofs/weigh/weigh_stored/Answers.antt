@@ -2,7 +2,6 @@
 -- Assumes nothing.
 use mathlib.Core.Path.{ap}
 use lib.ListN.{length}
-use borrow.Author.Rules.{rules}
 use Rattle.formula.proofs.Held.{held_front, held_fits, held_length}
 use Rattle.storage.specs.Stored.{stored_form}
 use Rattle.normaliser.specs.Admission.{too_long}

@@ -1,7 +1,6 @@
 -- `reading::parts::end_of` meets its contract: its test is that of the definition.
 -- Assumes nothing.
 use borrow.Author.Tests.{lt-ltb, le-ltb}
-use borrow.Author.Rules.{rules}
 use Rattle.letters.specs.Choice.{pick}
 use Rattle.reading.specs.Parts.{end_by}
 use Rattle.reading.proofs.parts.end_of.Goals as goal

@@ -4,7 +4,6 @@ use borrow.Enum.Refused.{opened}
 use mathlib.Core.Path.{◌≡◌, subst}
 use Prim.Native.Nat.{◌+◌, ◌-◌}
 use native.Mathlib.Omega.{arith}
-use borrow.Author.Rules.{rules}
 use Rattle.refusals.specs.Outcome.{reply_outcome}
 use Rattle.refusals.specs.declared.Reply.{Reply}
 use Rattle.reading.specs.Parts.{HasPart, PartAnswers}
@@ -14,7 +13,7 @@ use Rattle.reading.proofs.parts.part_at.Goals as goal
 pub returns-in_default : goal.returns-in_default
 returns-in_default c =
     let s = c.args in
-    part_none s.word.now s.number c.part_place.result (opened c.in_default.in_default-own.keys2) c.part_place.ensures
+    part_none s.word.now s.number c.part_place.result (search opened) c.part_place.ensures
 
 pub overflow_add-end : goal.overflow_add-end
 overflow_add-end c =

@@ -1,7 +1,6 @@
 -- `reading::read::read` meets its contract: the answer is that of the pass, and its array holds the row's syllables where it is read.
 -- Assumes nothing.
 use mathlib.Core.Path.{refl, sym, subst}
-use borrow.Author.Rules.{rules}
 use Rattle.refusals.specs.Outcome.{outcome_of}
 use Rattle.refusals.specs.declared.Counted.{Counted}
 use Rattle.recogniser.specs.Answer.{too_long, Answers}

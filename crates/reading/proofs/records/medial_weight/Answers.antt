@@ -1,7 +1,6 @@
 -- `reading::records::medial_weight` meets its contract: it is the weight of the set, or 0.
 -- Assumes nothing.
 use mathlib.Core.Path.{ap, ◌∙◌}
-use borrow.Author.Rules.{rules}
 use Rattle.letters.specs.Weights.{weight_or}
 use Rattle.letters.specs.declared.weight.Weighed.{Weighed}
 use Rattle.reading.specs.Records.{medial_weight_by}
