@@ -148,7 +148,7 @@ module _ {task : Task} {chunk pending out pending_now out_now : List ℕ} {curre
     answered = λ bytes text f. rw (take_all reached.at chunk over) at (p.answered bytes text f);
   }
 
--- the bytes of a large buffer of `io`
+-- the bytes of a buffer of the code
 abbrev buffer_size : ℕ
 buffer_size = 65536
 

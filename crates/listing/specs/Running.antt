@@ -1,22 +1,38 @@
 -- The running of a list: what the answer of a system call means, and the promises of a read, of a chunk and of the end of the input. What a read brings and
 -- what a write takes no contract can say, so the promises are told over what is handed back: the answer of the read, and how many bytes the writes took.
 -- Assumes nothing.
-use Rattle.std.specs.Prelude.{◌≡◌, List, ◌++◌, ℕ, zero, suc, ◌+◌, ◌*◌, ◌≤◌, ◌<◌, ◌^◌, eqb, length, take, ℤ, pos, negsuc}
+use Rattle.std.specs.Prelude.{◌≡◌, List, ◌++◌, ℕ, zero, suc, ◌+◌, ◌*◌, ◌≤◌, ◌<◌, ◌^◌, min, eqb, length, take, ℤ, pos, negsuc, Result, Ok, Err, unwrap_or}
+use Rattle.std.specs.IoError.{raw_os_error}
+use Rattle.std.specs.declared.io.Error.{Error}
 use Rattle.letters.specs.Choice.{pick}
-use Rattle.io.specs.Counts.{clamp_len}
-use Rattle.libc.specs.Io.{Moved}
 use Rattle.memory.specs.Put.{Put}
 use Rattle.line_printing.specs.Printed.{printed_limit}
 use Rattle.line_printing.specs.declared.Task.{Task}
 use Rattle.line_splitting.specs.Lines.{lines_of}
 use Rattle.line_splitting.specs.Taken.{held_limit, Prints}
 use Rattle.line_splitting.specs.Following.{ended_in, Follows}
+use Rattle.listing.specs.declared.running.Answer.{Answer}
 use Rattle.listing.specs.declared.running.Input.{Input}
 use Rattle.listing.specs.declared.running.OpenLine.{OpenLine}
 use Rattle.listing.specs.declared.running.Transfer.{Transfer}
 use Rattle.listing.specs.declared.running.Transfer.TheVariants.{Bytes, End, Interrupted, Failed}
 use Rattle.listing.specs.declared.running.Passed.{Passed}
 use Rattle.listing.specs.declared.running.Passed.TheVariants.{Whole, Stopped}
+
+-- what a call that is handed n bytes may answer: -1, or how many bytes it moved, at most n
+abbrev pub Moved : ℕ → ℤ → Type 0
+Moved n (pos k) = k ≤ n
+Moved n (negsuc k) = k ≡ 0
+
+-- what a call answered, brought into `0..=most`
+abbrev pub clamp_len : ℤ → ℕ → ℕ
+clamp_len (pos k) most = min k most
+clamp_len (negsuc k) most = 0
+
+-- the answer of the system, of what std hands back of a call: how many bytes it moved, or -1 and the number of the error, which is 0 where it has none
+abbrev pub AnswerOf : Result ℕ Error → Answer → Type 0
+AnswerOf (Ok count) a = (a.answer ≡ pos count) × (a.error ≡ pos 0)
+AnswerOf (Err error) a = (a.answer ≡ negsuc 0) × (a.error ≡ unwrap_or (raw_os_error error) (pos 0))
 
 -- a call that failed: where the error is 4, EINTR, a signal interrupted it
 unfoldable pub failure_of : ℤ → Transfer

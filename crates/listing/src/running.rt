@@ -1,14 +1,28 @@
 // The running of a list: standard input to standard output, each by 64 KiB.
-ghost use Rattle.std.specs.Prelude.{◌≡◌, ◌≤◌, ◌<◌, length};
-ghost use Rattle.listing.specs.Running.{transfer_of, Reads, ReadsOn, EndReady, Finishes, ChunkReady, ChunkAnswers};
+ghost use Rattle.std.specs.Prelude.{◌≡◌, ◌≤◌, ◌<◌, ◌^◌, length, IfOk};
+ghost use Rattle.listing.specs.Running.{clamp_len, transfer_of, AnswerOf, Reads, ReadsOn, EndReady, Finishes, ChunkReady, ChunkAnswers};
 
-use libc::{EINTR, STDIN_FILENO, STDOUT_FILENO};
 use line_printing::{Task, put_line};
 use line_splitting::{HELD_LIMIT, Progress, pass_chunk};
+use std::io;
+use std::io::{Read, Write};
+
+// The error number of a call that a signal interrupted before it moved a byte.
+const EINTR: i32 = 4;
+
+// How many bytes a read brings at most, and how many are held to be written.
+const BUFFER_SIZE: usize = 65536;
 
 // A proved loop has to end, and nothing says that the input does. So the loops over calls count down, from a number that no run uses
 // up: at a microsecond a call it lasts two years.
 const CALLS: u64 = 0x4000_0000_0000;
+
+// How the system answered a read or a write: with how many bytes it moved, or with -1 and the error number.
+#[derive(Clone, Copy)]
+struct Answer {
+    answer: isize,
+    error: i32,
+}
 
 // What a read or a write did: it moved bytes, met the end of the input (a write: took nothing), was interrupted by a signal, or failed.
 #[derive(Clone, Copy)]
@@ -44,6 +58,34 @@ enum Passed {
     Stopped { taken: usize, missing: usize },
 }
 
+// The answer of the system, of what std hands back of a read or a write. Where an error has no number, as none of the system's, it is 0.
+fn answer_of(moved: io::Result<usize>) -> Answer
+    requires { IfOk moved (λ count. count < 2 ^ 63) }
+    ensures { AnswerOf moved result }
+{
+    match moved {
+        Ok(count) => Answer {
+            answer: count as isize,
+            error: 0,
+        },
+        Err(error) => Answer {
+            answer: -1,
+            error: error.raw_os_error().unwrap_or(0),
+        },
+    }
+}
+
+// The answer as a number of these bytes: 0 where it is negative, and never more than there are.
+fn count(answer: isize, bytes: &[u8]) -> usize
+    ensures { result ≡ clamp_len answer (length bytes.now) }
+{
+    if answer <= 0 {
+        return 0;
+    }
+    let count = answer as usize;
+    count.min(bytes.len())
+}
+
 // What the answer of a read or a write of these bytes means, where the system's error number is as it was left.
 fn transfer_of(answer: isize, error: i32, bytes: &[u8]) -> Transfer
     ensures { result ≡ transfer_of answer error (length bytes.now) }
@@ -52,7 +94,7 @@ fn transfer_of(answer: isize, error: i32, bytes: &[u8]) -> Transfer
         return Transfer::End;
     }
     if 0 < answer {
-        return Transfer::Bytes(io::count(answer, bytes));
+        return Transfer::Bytes(count(answer, bytes));
     }
     if error == EINTR {
         return Transfer::Interrupted;
@@ -60,13 +102,18 @@ fn transfer_of(answer: isize, error: i32, bytes: &[u8]) -> Transfer
     Transfer::Failed
 }
 
+// Says on standard error what failed, and why.
+fn fail(rt: &HostRuntime, what: &str, error: i32) {
+    let error = io::Error::from_raw_os_error(error);
+    let _ = eprintln!(rt; "{what}: {error}");
+}
+
 // Reads once, with so many calls left.
-fn read_once(chunk: &mut [u8], calls: u64) -> Input
+fn read_once(rt: &HostRuntime, chunk: &mut [u8], calls: u64) -> Input
     requires { 0 < length chunk.old }
     ensures { Reads (length chunk.new) calls result }
 {
-    let answer = libc::read(STDIN_FILENO, chunk);
-    let error = os::errno();
+    let Answer { answer, error } = answer_of(rt.stdin().read(chunk));
     let meaning = transfer_of(answer, error, chunk);
     Input {
         answer,
@@ -77,38 +124,38 @@ fn read_once(chunk: &mut [u8], calls: u64) -> Input
 }
 
 // Reads once, and again while a signal interrupts the read and calls are left.
-fn read_chunk(chunk: &mut [u8]) -> Input
+fn read_chunk(rt: &HostRuntime, chunk: &mut [u8]) -> Input
     requires { 0 < length chunk.old }
     ensures { ReadsOn (length chunk.new) result }
 {
     let mut calls = CALLS;
-    let mut input = read_once(chunk, calls);
+    let mut input = read_once(rt, chunk, calls);
     while 0 < calls {
         let meaning = input.meaning;
         let Transfer::Interrupted = meaning else {
             return input;
         };
         calls -= 1;
-        input = read_once(chunk, calls);
+        input = read_once(rt, chunk, calls);
     }
     input
 }
 
 // Writes all bytes, going on where a write took only some of them, and answers how many were taken: fewer than all where a write
 // failed.
-fn write_whole(bytes: &[u8]) -> usize
+fn write_whole(rt: &HostRuntime, bytes: &[u8]) -> usize
     ensures { result ≤ length bytes.now }
 {
     let mut calls = CALLS;
     let mut done = 0;
     while done < bytes.len() && 0 < calls {
         let rest = &bytes[done..];
-        let answer = libc::write(STDOUT_FILENO, rest);
-        match transfer_of(answer, os::errno(), rest) {
+        let Answer { answer, error } = answer_of(rt.stdout().write(rest));
+        match transfer_of(answer, error, rest) {
             Transfer::Bytes(count) => done += count,
             Transfer::Interrupted => {}
             Transfer::End | Transfer::Failed => {
-                os::fail(b"standard output");
+                fail(rt, "standard output", error);
                 return done;
             }
         }
@@ -119,6 +166,7 @@ fn write_whole(bytes: &[u8]) -> usize
 
 // Takes all lines of a chunk, and writes what is printed for them.
 fn answer_chunk(
+    rt: &HostRuntime,
     chunk: &[u8],
     pending: &mut [u8],
     out: &mut [u8],
@@ -138,7 +186,7 @@ fn answer_chunk(
     while reached.at < chunk.len() {
         reached = pass_chunk(chunk, pending, out, reached, task);
         let used = reached.used;
-        let written = write_whole(&out[..used]);
+        let written = write_whole(rt, &out[..used]);
         let missing = used - written;
         taken += written;
         if 0 < missing {
@@ -155,13 +203,21 @@ fn answer_chunk(
 
 // Prints the open line at the end of the input, where it has a byte, and answers how many bytes are ready to be written. Where the
 // input did not end, the read failed: that is said, and the line that it broke off is not printed.
-fn finish(input: Transfer, pending: &[u8], out: &mut [u8], current: OpenLine, task: Task) -> usize
+fn finish(
+    rt: &HostRuntime,
+    input: Transfer,
+    error: i32,
+    pending: &[u8],
+    out: &mut [u8],
+    current: OpenLine,
+    task: Task,
+) -> usize
     requires { EndReady pending.now out.old current }
     ensures { Finishes task input pending.now out.old current out.new result }
 {
     let held = current.held;
     let Transfer::End = input else {
-        os::fail(b"standard input");
+        fail(rt, "standard input", error);
         return 0;
     };
     if held == 0 {
@@ -174,23 +230,23 @@ fn finish(input: Transfer, pending: &[u8], out: &mut [u8], current: OpenLine, ta
 // that at a terminal and at the other end of a pipe each line is answered at once.
 //
 // No contract says what a read brings or what a write takes, so this is left to be read by eye: that `answer` in `read_once` is what
-// `libc::read` answered; that the bytes that are handed to `libc::write`, by `write_whole` from `answer_chunk` and from here, are those at
+// the read answered; that the bytes that are handed to the write, by `write_whole` from `answer_chunk` and from here, are those at
 // the front of the output; and that each chunk that is read is answered here, from its front, until a read brings no bytes.
-pub fn run(task: Task) {
-    let mut chunk = io::large_buffer();
+pub fn run(rt: &HostRuntime, task: Task) {
+    let mut chunk = [0; BUFFER_SIZE];
     let mut pending = [0; HELD_LIMIT];
-    let mut out = io::large_buffer();
+    let mut out = [0; BUFFER_SIZE];
     let mut current = OpenLine { held: 0, number: 0 };
     let mut calls = CALLS;
     while 0 < calls {
-        let input = read_chunk(&mut chunk);
+        let input = read_chunk(rt, &mut chunk);
         let meaning = input.meaning;
         let Transfer::Bytes(count) = meaning else {
-            let ready = finish(meaning, &pending, &mut out, current, task);
-            write_whole(&out[..ready]);
+            let ready = finish(rt, meaning, input.error, &pending, &mut out, current, task);
+            write_whole(rt, &out[..ready]);
             return;
         };
-        let passed = answer_chunk(&chunk[..count], &mut pending, &mut out, current, task);
+        let passed = answer_chunk(rt, &chunk[..count], &mut pending, &mut out, current, task);
         let Passed::Whole { line, taken: _ } = passed else {
             return;
         };

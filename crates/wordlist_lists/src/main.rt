@@ -3,6 +3,6 @@
 
 use line_printing::Task;
 
-fn main() {
-    listing::running::run(Task::Words);
+fn main(rt: HostRuntime) {
+    listing::running::run(&rt, Task::Words);
 }

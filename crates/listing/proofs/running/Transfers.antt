@@ -2,7 +2,7 @@
 -- Assumes nothing.
 use mathlib.Core.Path.{◌≡◌, refl, sym, ap, ◌∙◌}
 use mathlib.Core.Bool.{Bool, true, false}
-use mathlib.Core.List.{List, [], ◌∷◌}
+use mathlib.Core.List.{List}
 use mathlib.Core.Logic.{◌⊎◌, ⊎_elim, inl, inr}
 use Prim.Native.Nat.{ℕ, zero, suc, min, ◌≤◌}
 use native.Mathlib.Omega.{arith}
@@ -10,20 +10,20 @@ use lib.Dec.{eqb}
 use lib.IntN.{ℤ, pos, negsuc}
 use lib.Signed.{lt_z}
 use borrow.Author.Tests.{eq-eqb, ne_eqb, ltb-false}
-use denote.Enum.Declared.{tag_of}
-use types.Run.{OneOf}
 use mir.Syntax.{w32, w64}
 use mir.Val.{SFits, to_z, of_z}
 use mir.ValLaws.{to_z-of_z}
+use Rattle.std.specs.Prelude.{Result, Ok, Err, length}
+use Rattle.std.specs.Io.{ReadsAtMost}
+use Rattle.std.specs.declared.io.Error.{Error}
 use Rattle.letters.specs.Choice.{pick}
-use Rattle.io.specs.Counts.{clamp_len}
 use Rattle.line_printing.specs.declared.Task.{Task}
-use Rattle.listing.specs.Running.{failure_of, transfer_of, Reads, Finished, Finishes}
+use Rattle.listing.specs.Running.{Moved, clamp_len, AnswerOf, failure_of, transfer_of, Reads, Finished, Finishes}
+use Rattle.listing.specs.declared.running.Answer.{Answer}
 use Rattle.listing.specs.declared.running.Input.{Input}
 use Rattle.listing.specs.declared.running.OpenLine.{OpenLine}
 use Rattle.listing.specs.declared.running.Transfer.{Transfer}
 use Rattle.listing.specs.declared.running.Transfer.TheVariants.{Bytes, End, Interrupted, Failed}
-use Rattle.listing.specs.contracts.running.Transfer.{the_type}
 
 pub means_end : (answer error : ℤ) (size : ℕ) → SFits w64 answer → of_z w64 answer ≡ 0 → End ≡ transfer_of answer error size
 unfolding transfer_of
@@ -94,24 +94,17 @@ ended_exactly {size} {input} reads = (λ ended. go input.answer input.error (sym
     go (pos (suc count)) error e = let z : ◌≡◌ {A = ℕ} 0 1 = cc in absurd (omega arith)
     go (negsuc answer) error e = absurd (no_end error e)
 
--- what is told by its tag to be another than an interruption is another
-pub not_interrupted : (input : Transfer) → OneOf (0 ∷ 1 ∷ 3 ∷ []) (tag_of the_type input) → input ≡ Interrupted → ⊥
-not_interrupted (Bytes count) other e = let z : ◌≡◌ {A = ℕ} 0 1 = cc in omega arith
-not_interrupted End other e = let z : ◌≡◌ {A = ℕ} 0 1 = cc in omega arith
-not_interrupted Failed other e = let z : ◌≡◌ {A = ℕ} 0 1 = cc in omega arith
-not_interrupted Interrupted (inl t) e = omega arith
-not_interrupted Interrupted (inr (inl t)) e = omega arith
-not_interrupted Interrupted (inr (inr t)) e = omega arith
-
--- what is told by its tag to be another than the end is another
-pub finished_other : {task : Task} {input : Transfer} (pending out : List ℕ) (current : OpenLine) → OneOf (0 ∷ 2 ∷ 3 ∷ []) (tag_of the_type input)
-    → Finishes task input pending out current out 0
-finished_other {task} {input} pending out current other = record { within = omega arith; right = go input other }
+-- what another than the end of the input finishes: nothing is ready
+pub finished_other : {task : Task} (input : Transfer) (pending out : List ℕ) (current : OpenLine) → (input ≡ End → ⊥) → Finishes task input pending out current out 0
+finished_other {task} input pending out current other = record { within = omega arith; right = go input other }
   where
-    go : (i : Transfer) → OneOf (0 ∷ 2 ∷ 3 ∷ []) (tag_of the_type i) → Finished task i pending out current out 0
+    go : (i : Transfer) → (i ≡ End → ⊥) → Finished task i pending out current out 0
     go (Bytes count) o = record { nothing = refl; same = refl }
     go Interrupted o = record { nothing = refl; same = refl }
     go Failed o = record { nothing = refl; same = refl }
-    go End (inl t) = absurd (omega arith)
-    go End (inr (inl t)) = absurd (omega arith)
-    go End (inr (inr t)) = absurd (omega arith)
+    go End o = absurd (o refl)
+
+-- an answer of what std hands back tells no more bytes than were handed to the call
+pub moved_within : (moved : Result ℕ Error) (bytes : List ℕ) (a : Answer) → ReadsAtMost moved bytes → AnswerOf moved a → Moved (length bytes) a.answer
+moved_within (Ok count) bytes a w e = rw e.0 w.0
+moved_within (Err error) bytes a w e = rw e.0 refl

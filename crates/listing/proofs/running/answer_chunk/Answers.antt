@@ -1,10 +1,10 @@
 -- `listing::running::answer_chunk` meets its contract: what the writes took is counted beside the lines that are passed. The loop's invariant is `Passing`. The measure is what is left of the chunk.
 -- Assumes nothing.
 use mathlib.Core.Path.{◌∙◌}
-use Prim.Native.Nat.{◌-◌, ◌≤◌}
+use Prim.Native.Nat.{◌≤◌}
 use native.Mathlib.Omega.{arith}
-use lib.ListN.{length, length-take}
-use Rattle.listing.proofs.Passing.{Passing, passing_none, passing_ready, passing_fits, passing_more, passing_short, passing_whole}
+use lib.ListN.{length-take}
+use Rattle.listing.proofs.Passing.{passing_none, passing_ready, passing_fits, passing_more, passing_short, passing_whole}
 use Rattle.listing.proofs.running.answer_chunk.Goals as goal
 
 pub loop-reached-init : goal.loop-reached-init
@@ -14,10 +14,10 @@ pub pass_chunk-reached-requires : goal.pass_chunk-reached-requires
 pass_chunk-reached-requires c = passing_ready c.requires c.loop-reached.invariant
 
 pub slice_bounds-write_whole-end : goal.slice_bounds-write_whole-end
-slice_bounds-write_whole-end c = omega (arith, c.pass_chunk-reached.ensures.room, c.pass_chunk-reached.auto.1.1.0)
+slice_bounds-write_whole-end c = omega (arith, c.pass_chunk-reached.ensures.room, c.pass_chunk-reached.auto.out)
 
 pub slice_bounds-write_whole-end-in-loop-reached : goal.slice_bounds-write_whole-end-in-loop-reached
-slice_bounds-write_whole-end-in-loop-reached c = simp length-take (omega (arith, c.pass_chunk-reached.ensures.room, c.pass_chunk-reached.auto.1.1.0))
+slice_bounds-write_whole-end-in-loop-reached c = simp length-take (omega (arith, c.pass_chunk-reached.ensures.room, c.pass_chunk-reached.auto.out))
 
 pub write_whole-written-requires : goal.write_whole-written-requires
 write_whole-written-requires c = tt
@@ -39,10 +39,10 @@ overflow_add-taken c =
     }
 
 pub shape_of-pending-then-missing-gt0 : goal.shape_of-pending-then-missing-gt0
-shape_of-pending-then-missing-gt0 c = c.pass_chunk-reached.auto.1.0 ∙ c.loop-reached.invariant.same_pending
+shape_of-pending-then-missing-gt0 c = c.pass_chunk-reached.auto.pending ∙ c.loop-reached.invariant.same_pending
 
 pub shape_of-out-then-missing-gt0 : goal.shape_of-out-then-missing-gt0
-shape_of-out-then-missing-gt0 c = c.pass_chunk-reached.auto.1.1.0 ∙ c.loop-reached.invariant.same_out
+shape_of-out-then-missing-gt0 c = c.pass_chunk-reached.auto.out ∙ c.loop-reached.invariant.same_out
 
 pub returns-then-missing-gt0 : goal.returns-then-missing-gt0
 returns-then-missing-gt0 c =
@@ -61,7 +61,7 @@ loop-reached-preserved c =
     let no_more : c.write_whole-written.result ≤ c.pass_chunk-reached.result.used =
     omega (arith, c.write_whole-written.ensures, length-take c.pass_chunk-reached.result.used c.pass_chunk-reached.new.out) in
     passing_more c.requires c.loop-reached.invariant c.pass_chunk-reached.ensures c.loop-reached-test.true
-    _ _ (omega (arith, no_more)) c.pass_chunk-reached.auto.1.0 c.pass_chunk-reached.auto.1.1.0 (omega arith)
+    _ _ (omega (arith, no_more)) c.pass_chunk-reached.auto.pending c.pass_chunk-reached.auto.out (omega arith)
 
 pub shape_of-pending : goal.shape_of-pending
 shape_of-pending c = c.loop-reached.invariant.same_pending

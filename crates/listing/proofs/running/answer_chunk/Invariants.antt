@@ -1,8 +1,6 @@
-use mathlib.Core.Path.{◌∙◌}
-use Prim.Native.Nat.{◌-◌, ◌≤◌}
-use native.Mathlib.Omega.{arith}
-use lib.ListN.{length, length-take}
-use Rattle.listing.proofs.Passing.{Passing, passing_none, passing_ready, passing_fits, passing_more, passing_short, passing_whole}
+use Prim.Native.Nat.{◌-◌}
+use lib.ListN.{length}
+use Rattle.listing.proofs.Passing.{Passing}
 use Rattle.listing.proofs.running.answer_chunk.Given as goal
 
 abbrev pub invariant-loop-reached : goal.invariant-loop-reached

@@ -2,16 +2,17 @@
 -- Assumes nothing.
 use mathlib.Core.Path.{refl}
 use native.Mathlib.Omega.{arith}
-use borrow.Author.Rules.{rules}
-use mir.Syntax.{w64}
 use mir.ValLaws.{to_z-of_z}
+use Rattle.listing.proofs.running.Transfers.{moved_within}
 use Rattle.listing.proofs.running.read_once.Goals as goal
 
 pub returns : goal.returns
 returns c =
     record {
-      room = omega (arith, c.read-answer.auto.1.0, c.requires);
-      moved = rw (c.read-answer.auto.1.0, to_z-of_z w64 c.read-answer.result (record { sfits = c.read-answer.type-inv })) c.read-answer.ensures;
+      room = omega (arith, c.read.auto.buf, c.requires);
+      moved =
+          let told = moved_within c.read.result c.read.new.buf c.answer_of-answer.result c.read.ensures.bound c.answer_of-answer.ensures in
+          grind (arith, to_z-of_z, told);
       means = c.transfer_of-meaning.ensures;
       left = refl;
     }

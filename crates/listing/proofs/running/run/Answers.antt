@@ -2,28 +2,21 @@
 -- Assumes nothing.
 use mathlib.Core.Path.{refl, sym, ◌∙◌}
 use native.Mathlib.Omega.{arith}
-use borrow.Author.Rules.{rules}
 use Prim.Native.Nat.{◌≤◌}
 use mathlib.Core.List.{[]}
 use lib.ListN.{length}
 use lib.Seq.{length-take-le}
 use Rattle.line_splitting.proofs.Following.{follows_none}
-use Rattle.listing.proofs.Passing.{Going, going_end, going_ready, going_on}
+use Rattle.listing.proofs.Passing.{going_end, going_ready, going_on}
 use Rattle.listing.proofs.running.Transfers.{bytes_within}
 use Rattle.listing.proofs.running.run.Goals as goal
-
-pub large_buffer-chunk-requires : goal.large_buffer-chunk-requires
-large_buffer-chunk-requires c = tt
-
-pub large_buffer-out-requires : goal.large_buffer-out-requires
-large_buffer-out-requires c = tt
 
 pub loop-calls-init : goal.loop-calls-init
 loop-calls-init c =
     record {
-      chunk_size = c.large_buffer-chunk.ensures;
+      chunk_size = refl;
       pending_size = refl;
-      out_size = c.large_buffer-out.ensures;
+      out_size = refl;
       held = omega arith;
       numbers = omega arith;
       bytes = [];
@@ -47,13 +40,10 @@ pub finish-ready-requires : goal.finish-ready-requires
 finish-ready-requires c = going_end c.loop-calls.invariant
 
 pub slice_bounds-out-end : goal.slice_bounds-out-end
-slice_bounds-out-end c = omega (arith, c.finish-ready.ensures.within, c.finish-ready.auto.1.1.0)
+slice_bounds-out-end c = omega (arith, c.finish-ready.ensures.within, c.finish-ready.auto.out)
 
 pub slice_bounds-write_whole-end : goal.slice_bounds-write_whole-end
-slice_bounds-write_whole-end c = sym (length-take-le _ _ (omega (arith, c.finish-ready.ensures.within, c.finish-ready.auto.1.1.0)))
-
-pub write_whole-requires : goal.write_whole-requires
-write_whole-requires c = tt
+slice_bounds-write_whole-end c = sym (length-take-le _ _ (omega (arith, c.finish-ready.ensures.within, c.finish-ready.auto.out)))
 
 pub returns-in_default : goal.returns-in_default
 returns-in_default c = tt
@@ -80,7 +70,7 @@ pub answer_chunk-passed-requires : goal.answer_chunk-passed-requires
 answer_chunk-passed-requires c =
     let within : c.in-Bytes.count ≤ length c.read_chunk-input.new.chunk =
     bytes_within _ _ _ _ (sym c.in-Bytes.is ∙ c.read_chunk-input.ensures.reads.means) in
-    going_ready c.loop-calls.invariant c.read_chunk-input.new.chunk c.in-Bytes.count c.read_chunk-input.auto.0 within
+    going_ready c.loop-calls.invariant c.read_chunk-input.new.chunk c.in-Bytes.count c.read_chunk-input.auto.chunk within
 
 pub returns-in_default-passed : goal.returns-in_default-passed
 returns-in_default-passed c = tt
@@ -95,8 +85,8 @@ pub loop-calls-preserved : goal.loop-calls-preserved
 loop-calls-preserved c =
     let within : c.in-Bytes.count ≤ length c.read_chunk-input.new.chunk =
     bytes_within _ _ _ _ (sym c.in-Bytes.is ∙ c.read_chunk-input.ensures.reads.means) in
-    going_on c.loop-calls.invariant c.read_chunk-input.new.chunk c.in-Bytes.count c.read_chunk-input.auto.0 within c.loop-calls-test.true
-    (rw c.in-Whole.is at c.answer_chunk-passed.ensures) c.answer_chunk-passed.auto.1.0 c.answer_chunk-passed.auto.1.1.0
+    going_on c.loop-calls.invariant c.read_chunk-input.new.chunk c.in-Bytes.count c.read_chunk-input.auto.chunk within c.loop-calls-test.true
+    (rw c.in-Whole.is at c.answer_chunk-passed.ensures) c.answer_chunk-passed.auto.pending c.answer_chunk-passed.auto.out
 
 pub returns : goal.returns
 returns c = tt

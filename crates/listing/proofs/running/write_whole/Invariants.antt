@@ -1,11 +1,5 @@
-use mathlib.Core.Logic.{⊎_elim}
-use mathlib.Core.Path.{sym, ◌∙◌}
-use Prim.Native.Nat.{◌+◌, ◌-◌, ◌≤◌}
-use native.Mathlib.Omega.{arith}
-use borrow.Author.Rules.{rules}
-use borrow.Author.Tests.{ltb-true}
-use lib.ListN.{length, drop, length-take, length-drop}
-use Rattle.listing.proofs.running.Transfers.{bytes_within}
+use Prim.Native.Nat.{◌≤◌}
+use lib.ListN.{length}
 use Rattle.listing.proofs.running.write_whole.Given as goal
 
 abbrev pub invariant-loop-done : goal.invariant-loop-done
