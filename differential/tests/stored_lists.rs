@@ -200,8 +200,8 @@ fn compiled() -> [(PathBuf, &'static [&'static str], &'static str); 3] {
     let folder = env::var_os("JOGCAIRN_LIB").map_or_else(|| target.clone(), PathBuf::from);
     [
         (folder.join("libjogcairn.a"), &[FILL, COMPARE], "scripts/archive"),
-        (target.join("obj/wordlist.o"), &[FILL], "rt check wordlist"),
-        (target.join("obj/labels.o"), &[FILL], "rt check labels"),
+        (target.join("obj/wordlist.o"), &[FILL], "scripts/prove wordlist"),
+        (target.join("obj/labels.o"), &[FILL], "scripts/prove labels"),
     ]
 }
 

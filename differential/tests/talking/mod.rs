@@ -124,7 +124,7 @@ pub fn program(name: &str) -> PathBuf {
     let program = Path::new(env!("CARGO_MANIFEST_DIR")).join("../target/bin").join(name);
     assert!(
         program.is_file(),
-        "the program target/bin/{name} is missing; `rt check {name}`, run at the top of the \
+        "the program target/bin/{name} is missing; `scripts/prove {name}`, run at the top of the \
          repository, proves and builds it"
     );
     program
