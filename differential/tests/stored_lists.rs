@@ -49,9 +49,13 @@ const MEDIALS: [u8; 16] = [0, 1, 2, 255, 3, 5, 6, 255, 4, 7, 8, 255, 9, 10, 11, 
 /// written with a medial group and its head, and with a vowel.
 const MATCHING: [&str; 3] = [RULES_OF, "syllable_text::part::put_part", "jogcairn_write"];
 
-/// The system's message on a failed call: its 64 bytes are tested for the end, one by one, so that
-/// the code names nine places in a row and has no list.
-const COUNTING: &str = "os::fail";
+/// What a program has of std to tell why a read or a write failed: its functions and texts, its kinds
+/// of errors by their numbers, and what only these lead to. No answer comes from there.
+const TELLING: [&str; 2] =
+    ["listing::running::fail", "std_io::io::error::Error::from_raw_os_error"];
+
+/// What is named there as what failed.
+const TOLD: [&str; 2] = ["standard input", "standard output"];
 
 /// How many refusals there are (the variants of `Refusal` in crates/refusals/src/lib.rt): a call
 /// jumps by its refusal where it packs its answer.
@@ -89,7 +93,10 @@ fn unknown_list(name: &str, section: &Section) -> Option<String> {
     let jumps: usize = section.tables.values().map(|entries| 4 * entries.len()).sum();
     let known = match matching(name) {
         Some(function) => MATCHING.contains(&function),
-        None => name.starts_with(".rodata.cst") || jumps == size,
+        None => {
+            let is_text = TOLD.iter().any(|it| it.as_bytes() == section.bytes);
+            name.starts_with(".rodata.cst") || jumps == size || is_text
+        }
     };
     (!known).then(|| format!("{size} bytes that no rule knows"))
 }
@@ -181,7 +188,7 @@ fn complaints(object: &Object, weighing: &[&str]) -> Vec<String> {
             found.extend(runs::in_data(&section.bytes));
             found.extend(unknown_list(name, section));
             found.extend(long_jumps(section));
-        } else if section.is_code && function(name) != COUNTING {
+        } else if section.is_code {
             found.extend(runs::in_code(&section.bytes));
         }
         complaints.extend(found.iter().map(|found| format!("{name}: {found}")));
@@ -190,6 +197,13 @@ fn complaints(object: &Object, weighing: &[&str]) -> Vec<String> {
     complaints.extend(WAYS.iter().flat_map(|way| looked_up(object, way)));
     complaints.extend(memory_needed(object));
     complaints
+}
+
+/// Reads an object without what tells why a call failed.
+fn read(objdump: &str, file: &Path) -> Result<Object, String> {
+    let mut object = Object::read(objdump, file)?;
+    object.leave_out(&TELLING);
+    Ok(object)
 }
 
 /// The archive that is linked, in the folder that `JOGCAIRN_LIB` names or in the repository's own,
@@ -209,7 +223,7 @@ fn compiled() -> [(PathBuf, &'static [&'static str], &'static str); 3] {
 fn neither_the_archive_nor_a_program_has_a_list_of_head_weights() {
     for (path, weighing, command) in compiled() {
         assert!(path.is_file(), "`{command}`, run at the top, makes {path:?}, which is missing");
-        let object = Object::read("objdump", &path).unwrap_or_else(|error| panic!("{error}"));
+        let object = read("objdump", &path).unwrap_or_else(|error| panic!("{error}"));
         let complaints = complaints(&object, weighing);
         assert!(complaints.is_empty(), "{path:?}:\n{}", complaints.join("\n"));
     }

@@ -102,7 +102,9 @@ fn transfer_of(answer: isize, error: i32, bytes: &[u8]) -> Transfer
     Transfer::Failed
 }
 
-// Says on standard error what failed, and why.
+// Says on standard error what failed, and why. It stands apart in the compiled program, so that what std brings to tell it can be told from
+// what makes the answers.
+#[inline(never)]
 fn fail(rt: &HostRuntime, what: &str, error: i32) {
     let error = io::Error::from_raw_os_error(error);
     let _ = eprintln!(rt; "{what}: {error}");

@@ -101,6 +101,46 @@ impl Object {
         Some((number(at)?, (section.clone(), offset + addend + behind)))
     }
 
+    /// Leaves out these functions and what nothing else leads to, code and data; of a section of
+    /// constants of one width, each constant for itself.
+    pub fn leave_out(&mut self, functions: &[&str]) {
+        let left = functions.iter().map(|it| (format!(".text.{it}"), 0));
+        let left: BTreeSet<Target> = left.filter(|it| self.sections.contains_key(&it.0)).collect();
+        let within = self.reached(left.iter().cloned().collect(), &BTreeSet::new());
+        let outside = self.sections.keys().map(|name| (name.clone(), 0));
+        let kept = self.reached(outside.filter(|it| !within.contains(it)).collect(), &left);
+        for (name, part) in within.difference(&kept) {
+            match width(name) {
+                None => drop(self.sections.remove(name)),
+                Some(width) => {
+                    let bytes = self.sections.get_mut(name).map(|it| &mut it.bytes);
+                    let start = usize::try_from(part * width).unwrap_or(usize::MAX);
+                    let end = start.saturating_add(width as usize);
+                    if let Some(constant) = bytes.and_then(|it| it.get_mut(start..end)) {
+                        constant.fill(0);
+                    }
+                }
+            }
+        }
+    }
+
+    /// What references lead to from these places on, and the places, but for what stands behind a
+    /// place that is a stop.
+    fn reached(&self, mut places: Vec<Target>, stops: &BTreeSet<Target>) -> BTreeSet<Target> {
+        let mut reached = BTreeSet::new();
+        while let Some(place) = places.pop() {
+            if let Some(section) = self.sections.get(&place.0) {
+                let parts = section.references.iter().map(|(_, (name, offset))| {
+                    (name.clone(), width(name).map_or(0, |width| offset / width))
+                });
+                let parts = parts.filter(|it| !stops.contains(it) && !reached.contains(it));
+                places.extend(parts);
+                reached.insert(place);
+            }
+        }
+        reached
+    }
+
     /// Where data leads to code is a jump table; of several in one section, each begins where code
     /// refers to. An entry tells how far its target is from the start of the table.
     fn add_jump_tables(&mut self) {
@@ -118,6 +158,11 @@ impl Object {
             }
         }
     }
+}
+
+/// How many bytes each constant of a section has, if it is one of constants of one width.
+fn width(section: &str) -> Option<i64> {
+    section.strip_prefix(".rodata.cst")?.parse().ok()
 }
 
 fn number(digits: &str) -> Option<i64> {

@@ -6,6 +6,19 @@ IN(LIST "jogcairn_write.12") const byte list[] = { EACH(U) };
 #define PICK(v) v / 0x1040,
 void choose(int value) { switch (value) { SIXTEEN(CASE, 0) } switch (done()) { SIXTEEN(CASE, 0) } }
 FOREIGN("no - table, yes - table")
+// no complaint
+const byte list[] = { EACH(W) };
+IN(".rodata.cst16") static const byte sixteen[] = { 13, 14, 15, 16, 17, 18, 19, 20, 21, 22, 23, 24, 25, 26, 27, 28 };
+__attribute__((noinline)) int tell(int value) { return value ? list[value] : tell(sixteen[value & 15]); }
+IN(".text.listing::running::fail") int fail(int value) { return tell(value) + 1; }
+// .rodata.list: at byte 0: 34 entries, 1 apart, rise by 1
+const byte list[] = { EACH(W) };
+IN(".text.listing::running::fail") int fail(int value) { return list[value]; }
+int other(int value) { return list[value + 1]; }
+// .rodata.cst16: at byte 16: 16 entries, 1 apart, rise by 1
+IN(".rodata.cst16") static const byte sixteen[] = { 13, 14, 15, 16, 17, 18, 19, 20, 21, 22, 23, 24, 25, 26, 27, 28 };
+IN(".text.listing::running::fail") int fail(int value) { return sixteen[value]; }
+int other(int value) { return sixteen[value & 15]; }
 // .rodata.list: at byte 0: 34 entries, 1 apart, rise by 1
 const byte list[] = { EACH(W) };
 // .data.list: at byte 64: 10 entries, 1 apart, rise by 1

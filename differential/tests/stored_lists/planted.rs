@@ -1,7 +1,7 @@
 //! Lists, jumps and calls that are planted in a small object and in the library's own are found, each
 //! by the rule that is there for it.
 
-use crate::{compiled, complaints, Object, BUDGET, COMPARE, FILL};
+use crate::{compiled, complaints, read, BUDGET, COMPARE, FILL};
 use std::fs;
 use std::path::{Path, PathBuf};
 use std::process::Command;
@@ -32,7 +32,7 @@ fn compile(name: &str, planted: &str) -> PathBuf {
 fn what_is_planted_in_a_small_object_is_found() {
     for planted in include_str!("planted.c").split("\n// ").skip(1) {
         let (front, planted) = planted.split_once('\n').unwrap_or((planted, ""));
-        let object = Object::read("objdump", &compile("planted", planted)).unwrap();
+        let object = read("objdump", &compile("planted", planted)).unwrap();
         let complaints = complaints(&object, &[FILL, COMPARE]);
         let found = complaints.iter().any(|complaint| complaint.starts_with(front));
         let right = found || front == "no complaint" && complaints.is_empty();
@@ -48,7 +48,7 @@ fn a_list_is_found_in_the_archive_and_in_either_program() {
         let section = format!("--add-section=.rodata.weights={}", list.display());
         let flags = "--set-section-flags=.rodata.weights=alloc,readonly,data";
         run(Command::new("objcopy").args([&section, flags]).args([&file, &planted]));
-        let complaints = complaints(&Object::read("objdump", &planted).unwrap(), weighing);
+        let complaints = complaints(&read("objdump", &planted).unwrap(), weighing);
         let front = ".rodata.weights: at byte 0: 34 entries, 1 apart, rise by 1";
         assert!(complaints.iter().any(|it| it.starts_with(front)), "{file:?}: {complaints:#?}");
     }
@@ -56,7 +56,7 @@ fn a_list_is_found_in_the_archive_and_in_either_program() {
 
 #[test]
 fn what_is_not_one_object_is_refused() {
-    let refusal = |objdump: &str, file: &Path| Object::read(objdump, file).err().unwrap();
+    let refusal = |objdump: &str, file: &Path| read(objdump, file).err().unwrap();
     let (one, other) = (compile("one", ""), compile("other", ""));
     assert!(refusal("no-objdump", &one).starts_with("no-objdump, of binutils, is needed: "));
     assert!(refusal("objdump", &scratch("one.c")).contains("file format not recognized"));
