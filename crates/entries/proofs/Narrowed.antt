@@ -1,21 +1,20 @@
 -- What a library with a lower limit says of a book: the same where no word is longer than that limit, and else that it is wrong at the start of the first record with a
 -- longer word, live or removed.
 -- Assumes nothing.
-use mathlib.Core.Path.{◌≡◌, refl, sym, ap, subst, ◌∙◌}
-use mathlib.Core.Bool.{Bool, true, false, ◌&&◌, ◌||◌}
+use mathlib.Core.Path.{◌≡◌, sym, ap, subst, ◌∙◌}
+use mathlib.Core.Bool.{◌&&◌, ◌||◌}
 use mathlib.Core.List.{List, [], ◌∷◌, ◌++◌, append_assoc, append-nil}
 use Prim.Native.Nat.{ℕ, zero, suc, ◌+◌, ◌≤◌, ◌<◌}
 use native.Mathlib.Decide.{dec_le}
 use native.Mathlib.Nat.{not-suc-le-zero, le_of_suc-le-suc}
 use native.Mathlib.Omega.{arith}
-use borrow.Author.Tests.{ne_eqb, le-leb, lt-leb, leb-true}
+use borrow.Author.Tests.{ne_eqb, le-leb, lt-leb}
 use lib.Dec.{T, eqb, leb, leb→le, le→leb}
 use lib.ListN.{length, get_or, drop, length-append}
 use lib.Seq.{append_snoc}
 use Rattle.letters.specs.Choice.{pick}
 use Rattle.letters.proofs.Tests.{is_true, is_false, pick_true, pick_false}
 use Rattle.letters.proofs.Picks.{and_no_left}
-use Rattle.formula.specs.Limits.{limit}
 use Rattle.formula.proofs.Lists.{All, both, both_left, both_right}
 use Rattle.recogniser.specs.Answer.{ReadableWithin, Readable}
 use Rattle.recogniser.proofs.Answered.{row_reads, reads_readable}

@@ -1,6 +1,6 @@
 -- The weights of a packed syllable are the formula's: its parts give a head's value and a set of medials back, and a final weighs its number.
 -- Assumes nothing.
-use mathlib.Core.Path.{◌≡◌, refl, ap}
+use mathlib.Core.Path.{◌≡◌, ap}
 use mathlib.Core.List.{List, [], ◌∷◌}
 use Prim.Native.Nat.{ℕ, suc, ◌+◌, ◌-◌}
 use native.Mathlib.Omega.{arith}
@@ -14,9 +14,8 @@ use Rattle.formula.proofs.Classes.{head_bounds}
 use Rattle.formula.proofs.Pieces.{each_medial}
 use Rattle.formula.proofs.Weighing.{final_weighs, second_weighs}
 use Rattle.formula.specs.Syllable.{Syllable, syllable, is_syllable}
-use Rattle.formula.specs.Record.{final_number_of, second_final_number_of}
 use Rattle.formula.specs.Packed.{packed}
-use Rattle.formula.specs.Weighing.{final_weight_of, second_final_weight_of, weights_of}
+use Rattle.formula.specs.Weighing.{weights_of}
 use Rattle.rows.proofs.Sound.{apart}
 use Rattle.syllables.specs.Parts.{head_part, medial_part, final_part, vowel_part, tone_part, second_final_part}
 use Rattle.syllables.proofs.Parted.{parted}

@@ -6,7 +6,6 @@ use mathlib.Core.Bool.{false, false≢true}
 use mathlib.Core.List.{◌∷◌}
 use Prim.Native.Nat.{ℕ}
 use lib.Dec.{eqb}
-use borrow.Author.Rules.{rules}
 use Rattle.letters.specs.Counting.{up_from}
 use Rattle.letters.proofs.Arms.{same_at}
 use Rattle.refusals.specs.Refusal.{number_of, place_of}

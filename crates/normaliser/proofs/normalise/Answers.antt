@@ -3,7 +3,6 @@
 use mathlib.Core.Path.{refl, sym, subst}
 use lib.ListN.{length}
 use lib.Seq.{length-take-le}
-use borrow.Author.Rules.{rules}
 use Rattle.refusals.specs.Outcome.{outcome_of}
 use Rattle.refusals.specs.Output.{refused}
 use Rattle.refusals.specs.declared.Counted.{Counted}

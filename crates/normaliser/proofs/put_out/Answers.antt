@@ -1,7 +1,6 @@
 -- `normaliser::put_out` meets its contract: what is copied is what is asked for.
 -- Assumes nothing.
 use mathlib.Core.Path.{refl, ◌∙◌}
-use borrow.Author.Rules.{rules}
 use Rattle.memory.proofs.Stores.{sets_front}
 use Rattle.refusals.specs.Output.{whole, no_room}
 use Rattle.normaliser.proofs.put_out.Goals as goal

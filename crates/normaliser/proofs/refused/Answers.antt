@@ -1,7 +1,6 @@
 -- `normaliser::refused` meets its contract: its word is what `Word::empty` ensures.
 -- Assumes nothing.
 use mathlib.Core.Path.{refl}
-use borrow.Author.Rules.{rules}
 use Rattle.normaliser.proofs.refused.Goals as goal
 
 pub returns : goal.returns

@@ -2,11 +2,9 @@
 -- values read. The measure is what is left of the word. Assumes nothing.
 use mathlib.Core.Path.{◌≡◌, refl, ap, ◌∙◌}
 use mathlib.Core.Bool.{true, false}
-use mathlib.Core.Logic.{⊎_elim}
-use Prim.Native.Nat.{ℕ, ◌-◌, ◌/◌, ◌≤◌, ◌<◌}
+use Prim.Native.Nat.{ℕ, ◌/◌, ◌≤◌, ◌<◌}
 use native.Mathlib.Omega.{arith}
-use borrow.Author.Rules.{rules}
-use lib.ListN.{length, get_or}
+use lib.ListN.{get_or}
 use Rattle.formula.specs.Limits.{limit}
 use Rattle.states.specs.State.{state_count}
 use Rattle.transitions.specs.Tables.{entry_of, gain_of, next_by, gain_by}
@@ -14,7 +12,6 @@ use Rattle.transitions.proofs.Entered.{next_entry, next_gain}
 use Rattle.syllables.specs.Window.{Fit}
 use Rattle.syllables.proofs.Moved.{one_more, none_more}
 use Rattle.recogniser.proofs.Walking.{state_bound, walk_refused}
-use Rattle.scanning.specs.Scanned.{Reached}
 use Rattle.scanning.proofs.Reach.{completed, at_start, count_fits, Turned, turn_fits, turned}
 use Rattle.scanning.proofs.scan_word.Goals as goal
 use Rattle.scanning.proofs.scan_word.Goals.{then-begins, else-begins}
@@ -161,10 +158,10 @@ loop-at-preserved c =
     let t = turns in (
       omega arith,
       elim c.if-begins.branch [
-        then-begins w ↦
-          t.begun (more w.if-begins.true) w.less-finished.result w.less-finished.ensures w.closed_by.result w.closed_by.ensures c.if-begins.syllables
-          w.syllables-is c.if-begins.starts w.starts-is
-      | else-begins w ↦ t.stays (no_more w.if-begins.false) c.if-begins.syllables w.syllables-is c.if-begins.starts w.starts-is
+        | then-begins w ↦
+            t.begun (more w.if-begins.true) w.less-finished.result w.less-finished.ensures w.closed_by.result w.closed_by.ensures c.if-begins.syllables
+            w.syllables-is c.if-begins.starts w.starts-is
+        | else-begins w ↦ t.stays (no_more w.if-begins.false) c.if-begins.syllables w.syllables-is c.if-begins.starts w.starts-is
       ],
     )
 

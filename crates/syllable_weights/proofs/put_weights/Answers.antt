@@ -5,7 +5,6 @@ use mathlib.Core.List.{List}
 use Prim.Native.Nat.{ℕ, ◌+◌}
 use native.Mathlib.Omega.{arith}
 use lib.ListN.{get_or}
-use borrow.Author.Rules.{rules}
 use Rattle.letters.proofs.Heads.{independent_vowel_limit}
 use Rattle.syllable_weights.proofs.Weighted.{looked_up, stores_six}
 use Rattle.syllable_weights.proofs.put_weights.Goals as goal

@@ -2,7 +2,6 @@
 -- Assumes nothing.
 use mathlib.Core.Path.{ap, ◌∙◌}
 use Prim.Native.Nat.{ℕ}
-use borrow.Author.Rules.{rules}
 use Rattle.syllables.specs.Window.{closed_by}
 use Rattle.syllables.proofs.Moved.{one_more, none_more}
 use Rattle.keying.specs.Filling.{put_last}

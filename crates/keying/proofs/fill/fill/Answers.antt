@@ -1,10 +1,8 @@
 -- `keying::fill::fill` meets its contract: before each turn the window and the bytes are those of what the machine has kept of the values
 -- read. The measure is what is left of the word. Assumes nothing.
 use mathlib.Core.Path.{◌≡◌, refl, ap, sym, subst, ◌∙◌}
-use Prim.Native.Nat.{◌-◌, ◌≤◌}
 use native.Mathlib.Omega.{arith}
 use lib.ListN.{length, get_or}
-use borrow.Author.Rules.{rules}
 use Rattle.formula.specs.Packed.{unread}
 use Rattle.formula.specs.declared.Window.{Window}
 use Rattle.refusals.specs.Outcome.{outcome_of}

@@ -4,7 +4,6 @@ use mathlib.Core.Path.{refl}
 use Prim.Native.Nat.{◌<◌}
 use native.Mathlib.Omega.{arith}
 use lib.ListN.{length}
-use borrow.Author.Rules.{rules}
 use Rattle.normaliser.specs.Admission.{too_long, foreign}
 use Rattle.normaliser.proofs.admission.admit.Goals as goal
 

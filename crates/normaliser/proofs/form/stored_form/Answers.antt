@@ -1,8 +1,6 @@
 -- `normaliser::form::stored_form` meets its contract: a word that passes the tests is stored, and what is held is put out.
 -- Assumes nothing.
 use mathlib.Core.Path.{refl, subst}
-use mathlib.Core.List.{List}
-use Prim.Native.Nat.{ℕ}
 use Rattle.formula.proofs.Held.{held_front, held_fits, held_length}
 use Rattle.refusals.specs.Outcome.{outcome_of}
 use Rattle.refusals.specs.Output.{refused}
@@ -11,7 +9,6 @@ use Rattle.refusals.proofs.Putting.{puts_writes}
 use Rattle.recogniser.specs.Answer.{Admissible}
 use Rattle.storage.specs.Stored.{stored_form}
 use Rattle.normaliser.specs.Admission.{Unadmitted, AdmitAnswers}
-use borrow.Author.Rules.{rules}
 use Rattle.normaliser.proofs.form.stored_form.Goals as goal
 
 pub returns-in-Refused : goal.returns-in-Refused

@@ -8,7 +8,6 @@ use Rattle.refusals.specs.declared.Counted.{Counted}
 use Rattle.recogniser.specs.Answer.{Admissible}
 use Rattle.typed_places.proofs.Laws.{typed_found, typed_none}
 use Rattle.normaliser.specs.Admission.{AdmitAnswers}
-use borrow.Author.Rules.{rules}
 use Rattle.normaliser.proofs.typed.typed_place.Goals as goal
 
 pub returns-in-Refused : goal.returns-in-Refused
