@@ -23,7 +23,7 @@ pub slice_bounds-key-end : goal.slice_bounds-key-end
 slice_bounds-key-end c = filled_room _ c.requires c.fill.result _ c.fill.ensures _ c.in-Count.is
 
 pub slice_bounds-find_key-end : goal.slice_bounds-find_key-end
-slice_bounds-find_key-end c = sym (length-take-le _ _ (array-share-prefix-key c))
+slice_bounds-find_key-end c = sym (length-take-le _ _ (filled_room _ c.requires c.fill.result _ c.fill.ensures _ c.in-Count.is))
 
 pub returns-in-Refused : goal.returns-in-Refused
 returns-in-Refused c = absurd (not_refused _ c.requires c.fill.result _ c.fill.ensures _ c.in-Refused.is)
