@@ -1,6 +1,5 @@
 -- `book_fitting::has_prefix` meets its contract: a key of too few weights does not begin with them, and another where its part of that length
 -- is the same. Assumes nothing.
-use borrow.Author.Rules.{rules}
 use mathlib.Core.Path.{◌≡◌, sym, ap, ◌∙◌}
 use Prim.Native.Nat.{ℕ, ◌+◌, ◌*◌, ◌-◌, ◌≤◌}
 use native.Mathlib.Omega.{arith}

@@ -2,12 +2,11 @@
 -- begin so stand at the front, and all else is as it was. The measure is what is left of the starts. Assumes nothing.
 use borrow.Author.Rules.{rules}
 use mathlib.Core.Path.{sym, ap, subst, ◌∙◌}
-use mathlib.Core.Logic.{⊎_elim}
-use Prim.Native.Nat.{◌-◌, ◌<◌}
+use Prim.Native.Nat.{◌<◌}
 use native.Mathlib.Omega.{arith}
 use lib.ListN.{length, set}
 use Rattle.book_fitting.specs.Fitting.{has_prefix, KeyWithin}
-use Rattle.book_fitting.proofs.Fits.{keep_all, Kept, keep_start, keep_as, keep_few, keep_long, keep_here, keep_taken, keep_left, keep_end}
+use Rattle.book_fitting.proofs.Fits.{keep_all, keep_start, keep_as, keep_few, keep_long, keep_here, keep_taken, keep_left, keep_end}
 use Rattle.book_fitting.proofs.keep_fitting.Goals as goal
 use Rattle.book_fitting.proofs.keep_fitting.Goals.{then-has_prefix, else-has_prefix}
 
@@ -64,11 +63,11 @@ loop-next-preserved c =
     let here = keep_here _ _ _ _ _ _ i in
     let test = sym (c.has_prefix.ensures ∙ ap (has_prefix c.args.keys.now c.args.prefix.now) (c.place_of.ensures ∙ here)) in
     elim c.if-has_prefix.branch [
-      then-has_prefix w ↦
-        keep_as _ _ _ _ _ _ _ _ (w.starts-is ∙ ap (set c.loop-next.starts c.loop-next.count) here) w.count-is
-        (keep_taken _ _ _ _ _ _ i inside (test ∙ w.if-has_prefix.true))
-    | else-has_prefix w ↦
-        keep_as _ _ _ _ _ _ _ _ w.starts-is w.count-is (keep_left _ _ _ _ _ _ i inside (test ∙ w.if-has_prefix.false))
+      | then-has_prefix w ↦
+          keep_as _ _ _ _ _ _ _ _ (w.starts-is ∙ ap (set c.loop-next.starts c.loop-next.count) here) w.count-is
+          (keep_taken _ _ _ _ _ _ i inside (test ∙ w.if-has_prefix.true))
+      | else-has_prefix w ↦
+          keep_as _ _ _ _ _ _ _ _ w.starts-is w.count-is (keep_left _ _ _ _ _ _ i inside (test ∙ w.if-has_prefix.false))
     ]
 
 pub shape_of-starts : goal.shape_of-starts

@@ -1,11 +1,6 @@
-use borrow.Author.Rules.{rules}
-use mathlib.Core.Path.{sym, ap, subst, ◌∙◌}
-use mathlib.Core.Logic.{⊎_elim}
-use Prim.Native.Nat.{◌-◌, ◌<◌}
-use native.Mathlib.Omega.{arith}
-use lib.ListN.{length, set}
-use Rattle.book_fitting.specs.Fitting.{has_prefix, KeyWithin}
-use Rattle.book_fitting.proofs.Fits.{keep_all, Kept, keep_start, keep_as, keep_few, keep_long, keep_here, keep_taken, keep_left, keep_end}
+use Prim.Native.Nat.{◌-◌}
+use lib.ListN.{length}
+use Rattle.book_fitting.proofs.Fits.{Kept}
 use Rattle.book_fitting.proofs.keep_fitting.Given as goal
 
 abbrev pub invariant-loop-next : goal.invariant-loop-next

@@ -1,17 +1,14 @@
 -- `book_keys::file_records` meets its contract. The invariant: the live records among those that are passed are filed. The measure is what is left
 -- before the free bytes. Assumes nothing.
-use borrow.Author.Rules.{rules}
 use mathlib.Core.Path.{◌≡◌, ap}
-use mathlib.Core.Logic.{⊎_elim}
-use mathlib.Core.List.{List}
-use Prim.Native.Nat.{ℕ, ◌+◌, ◌-◌, ◌<◌}
+use Prim.Native.Nat.{◌+◌, ◌<◌}
 use native.Mathlib.Omega.{arith}
 use lib.ListN.{length, get_or, set}
 use Rattle.entries.specs.Limits.{head_size}
 use Rattle.entries.proofs.Records.{framed_is}
 use Rattle.entries.proofs.Walk.{Turn}
 use Rattle.book_frame.proofs.Marks.{mark_met, mark_missed}
-use Rattle.book_keys.proofs.Collecting.{Collected, collect_start, collect_as, at_record, collect_room, collect_long, turn_readable, collect_fits}
+use Rattle.book_keys.proofs.Collecting.{collect_start, collect_as, at_record, collect_room, collect_long, turn_readable, collect_fits}
 use Rattle.book_keys.proofs.Collecting.{collect_live, collect_removed, collect_end}
 use Rattle.book_keys.proofs.file_records.Goals as goal
 use Rattle.book_keys.proofs.file_records.Goals.{then-has_mark, else-has_mark}
@@ -110,15 +107,15 @@ loop-at-preserved c =
     let t = at_turn in
     let e : l.at + (head_size + c.wide.result) ≡ l.at + head_size + get_or c.args.book.now (l.at + 2) 0 = omega (arith, c.wide.ensures.0) in
     elim c.if-has_mark.branch [
-      then-has_mark w ↦
-        collect_as _ _ _ _ _ _ _ _ _ _ _ _ w.keys-is w.starts-is w.live-is e
-        (collect_live _ _ _ _ _ _ _ _ l.invariant t
-        (mark_met (get_or c.args.book.now l.at 0) _ 0x4D 0x57 _ c.has_mark.ensures w.if-has_mark.true).1 _ _ w.file_key.ensures
-        (ap (set l.starts l.live) w.start_of.ensures))
-    | else-has_mark w ↦
-        collect_as _ _ _ _ _ _ _ _ _ _ _ _ w.keys-is w.starts-is w.live-is e
-        (collect_removed _ _ _ _ _ _ _ _ l.invariant t
-        (λ live. mark_missed (get_or c.args.book.now l.at 0) _ 0x4D 0x57 _ c.has_mark.ensures w.if-has_mark.false t.stands.frame.first live))
+      | then-has_mark w ↦
+          collect_as _ _ _ _ _ _ _ _ _ _ _ _ w.keys-is w.starts-is w.live-is e
+          (collect_live _ _ _ _ _ _ _ _ l.invariant t
+          (mark_met (get_or c.args.book.now l.at 0) _ 0x4D 0x57 _ c.has_mark.ensures w.if-has_mark.true).1 _ _ w.file_key.ensures
+          (ap (set l.starts l.live) w.start_of.ensures))
+      | else-has_mark w ↦
+          collect_as _ _ _ _ _ _ _ _ _ _ _ _ w.keys-is w.starts-is w.live-is e
+          (collect_removed _ _ _ _ _ _ _ _ l.invariant t
+          (λ live. mark_missed (get_or c.args.book.now l.at 0) _ 0x4D 0x57 _ c.has_mark.ensures w.if-has_mark.false t.stands.frame.first live))
     ]
 
 pub shape_of-starts : goal.shape_of-starts

@@ -1,16 +1,5 @@
-use borrow.Author.Rules.{rules}
-use mathlib.Core.Path.{◌≡◌, ap}
-use mathlib.Core.Logic.{⊎_elim}
-use mathlib.Core.List.{List}
-use Prim.Native.Nat.{ℕ, ◌+◌, ◌-◌, ◌<◌}
-use native.Mathlib.Omega.{arith}
-use lib.ListN.{length, get_or, set}
-use Rattle.entries.specs.Limits.{head_size}
-use Rattle.entries.proofs.Records.{framed_is}
-use Rattle.entries.proofs.Walk.{Turn}
-use Rattle.book_frame.proofs.Marks.{mark_met, mark_missed}
-use Rattle.book_keys.proofs.Collecting.{Collected, collect_start, collect_as, at_record, collect_room, collect_long, turn_readable, collect_fits}
-use Rattle.book_keys.proofs.Collecting.{collect_live, collect_removed, collect_end}
+use Prim.Native.Nat.{◌-◌}
+use Rattle.book_keys.proofs.Collecting.{Collected}
 use Rattle.book_keys.proofs.file_records.Given as goal
 
 abbrev pub invariant-loop-at : goal.invariant-loop-at

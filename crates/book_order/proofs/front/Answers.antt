@@ -2,7 +2,6 @@
 -- Assumes nothing.
 use Prim.Native.Nat.{◌+◌}
 use native.Mathlib.Omega.{arith}
-use borrow.Author.Rules.{rules}
 use Rattle.book_order.proofs.Fronts.{byte_at}
 use Rattle.book_order.proofs.front.Goals as goal
 

@@ -5,7 +5,6 @@ use mathlib.Core.Logic.{inl}
 use Prim.Native.Nat.{ℕ}
 use native.Mathlib.Omega.{arith}
 use lib.ListN.{drop}
-use borrow.Author.Rules.{rules}
 use borrow.Author.Tests.{ltb-false}
 use Rattle.weighing.specs.Order.{order_numbers, front_of}
 use Rattle.book_order.proofs.Fronts.{fronts_decide}

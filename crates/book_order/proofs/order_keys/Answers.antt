@@ -6,7 +6,6 @@ use mathlib.Core.List.{[], ◌∷◌}
 use mathlib.Core.Logic.{inl, inr}
 use types.Run.{OneOf}
 use denote.Enum.Declared.{tag_of}
-use borrow.Author.Rules.{rules}
 use Rattle.weighing.specs.Order.{in_turn}
 use Rattle.weighing.specs.declared.order.Order.{Order}
 use Rattle.weighing.specs.contracts.order.Order.{the_type}
