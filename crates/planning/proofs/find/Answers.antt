@@ -1,6 +1,5 @@
 -- `planning::find` meets its contract: each arm is the definition's answer to what looking the word up gave.
 -- Assumes nothing.
-use borrow.Author.Rules.{rules}
 use mathlib.Core.Path.{◌≡◌, sym, ap, ◌∙◌}
 use Rattle.entries.specs.Entries.{entries}
 use Rattle.entries.specs.Outcome.{find_of}

@@ -1,6 +1,5 @@
 -- `planning::plan_remove` meets its contract: each arm is the definition's answer to what looking the word up gave.
 -- Assumes nothing.
-use borrow.Author.Rules.{rules}
 use mathlib.Core.Path.{◌≡◌, sym, ap, subst, ◌∙◌}
 use Rattle.entries.specs.Entries.{entries}
 use Rattle.entries.specs.Outcome.{remove_of}

@@ -1,6 +1,5 @@
 -- `prefix_search::find_key` meets its contract: a buffer that is no book is refused, and of a book the starts that fit are put.
 -- Assumes nothing.
-use borrow.Author.Rules.{rules}
 use mathlib.Core.Path.{◌≡◌, refl, subst}
 use Rattle.refusals.specs.Outcome.{outcome_of}
 use Rattle.refusals.specs.Output.{refused}

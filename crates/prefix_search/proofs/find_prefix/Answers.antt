@@ -1,6 +1,5 @@
 -- `prefix_search::find_prefix` meets its contract: the used bytes of a readable word's key are the weights of its row.
 -- Assumes nothing.
-use borrow.Author.Rules.{rules}
 use mathlib.Core.Path.{sym, ap, subst, ◌∙◌}
 use mathlib.Core.Bool.{Bool}
 use native.Mathlib.Omega.{arith}

@@ -1,6 +1,5 @@
 -- `ranking::order_records` meets its contract: the live count is known before any sorting, and what is sorted is the definition's list.
 -- Assumes nothing.
-use borrow.Author.Rules.{rules}
 use mathlib.Core.Path.{◌≡◌, refl, sym, subst, ◌∙◌}
 use Rattle.refusals.specs.Outcome.{outcome_of}
 use Rattle.refusals.specs.Output.{refused}

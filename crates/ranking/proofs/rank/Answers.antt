@@ -13,7 +13,6 @@ use Rattle.book_keys.specs.Filing.{most_live}
 use Rattle.book_keys.proofs.Live.{live_few}
 use Rattle.ranking.specs.Rank.{rank_of}
 use Rattle.ranking.proofs.Answers.{live_is, too_high, found_there, start_within}
-use borrow.Author.Rules.{rules}
 use Rattle.ranking.proofs.rank.Goals as goal
 
 pub returns-then-live-number : goal.returns-then-live-number

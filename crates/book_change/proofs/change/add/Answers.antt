@@ -1,6 +1,5 @@
 -- `book_change::change::add` meets its contract: the plan is the answer, and what it says is carried out.
 -- Assumes nothing.
-use borrow.Author.Rules.{rules}
 use mathlib.Core.Path.{sym, ap, ◌∙◌}
 use Rattle.refusals.specs.Outcome.{Outcome}
 use Rattle.book_change.specs.Written.{bytes_added}

@@ -1,6 +1,5 @@
 -- `book_change::change::carry_out` meets its contract: nothing is written, or a record is, where the plan has tidied first in the tidied buffer.
 -- Assumes nothing.
-use borrow.Author.Rules.{rules}
 use mathlib.Core.Path.{◌≡◌, sym, ap, subst, ◌∙◌}
 use mathlib.Core.List.{List}
 use Prim.Native.Nat.{ℕ, ◌+◌}

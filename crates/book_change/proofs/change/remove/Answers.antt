@@ -1,6 +1,5 @@
 -- `book_change::change::remove` meets its contract: the plan is the answer, and where it has a place, the second byte there is stored.
 -- Assumes nothing.
-use borrow.Author.Rules.{rules}
 use mathlib.Core.Path.{refl, subst}
 use native.Mathlib.Omega.{arith}
 use Rattle.refusals.specs.Outcome.{accepts, outcome_of}

@@ -1,6 +1,5 @@
 -- `planning::Plan::preview` meets its contract: each arm is the preview of what the plan comes to.
 -- Assumes nothing.
-use borrow.Author.Rules.{rules}
 use mathlib.Core.Path.{◌≡◌, sym}
 use Rattle.refusals.specs.Outcome.{Outcome}
 use Rattle.planning.specs.declared.Plan.{Plan}

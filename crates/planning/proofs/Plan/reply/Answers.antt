@@ -1,6 +1,5 @@
 -- `planning::Plan::reply` meets its contract: each arm is what the plan comes to.
 -- Assumes nothing.
-use borrow.Author.Rules.{rules}
 use mathlib.Core.Path.{sym, ap}
 use Rattle.planning.specs.Plan.{plan_outcome}
 use Rattle.planning.proofs.Plan.reply.Goals as goal

@@ -1,5 +1,4 @@
 -- `sorting::merging::sort`, which calls itself: both parts in order, merged, are the whole in order. Assumes nothing.
-use borrow.Author.Rules.{rules}
 use mathlib.Core.Path.{sym, ap, subst, ◌∙◌}
 use mathlib.Core.List.{List}
 use Prim.Native.Nat.{ℕ, ◌/◌}
@@ -10,7 +9,7 @@ use Rattle.book_keys.specs.Filing.{AllKeyed}
 use Rattle.sorting.specs.Sorting.{goes_before, parts_merged}
 use Rattle.sorting.proofs.Ordered.{goes_transitive, goes_level}
 use Rattle.sorting.proofs.Keyed.{keyed_take, keyed_drop, keyed_halves, part_sortable}
-use Rattle.sorting.proofs.Halves.{once_long, second_part, put_back, halves_long, halves_merged, few_in_order}
+use Rattle.sorting.proofs.Halves.{second_part, put_back, halves_long, halves_merged, few_in_order}
 use Rattle.sorting.proofs.merging.+sort.Goals as goal
 
 pub sort-requires : goal.sort-requires

@@ -1,6 +1,5 @@
 -- `sorting::merging::copy_back` meets its contract: the copy covers all of the starts.
 -- Assumes nothing.
-use borrow.Author.Rules.{rules}
 use mathlib.Core.Path.{◌≡◌, sym, ◌∙◌}
 use native.Mathlib.Omega.{arith}
 use lib.ListN.{length, take}

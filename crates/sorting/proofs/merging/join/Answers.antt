@@ -4,7 +4,6 @@ use mathlib.Core.Path.{ap, ◌∙◌}
 use lib.ListN.{length, take, drop}
 use Rattle.sorting.specs.Sorting.{goes_before}
 use Rattle.sorting.proofs.Halves.{front_merged}
-use borrow.Author.Rules.{rules}
 use Rattle.sorting.proofs.merging.join.Goals as goal
 
 pub returns : goal.returns

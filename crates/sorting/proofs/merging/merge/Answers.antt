@@ -1,13 +1,10 @@
 -- `sorting::merging::merge` meets its contract. The invariant: what is written and what is left of both parts, merged, is the whole.
 -- The measure is how many are left. Assumes nothing.
-use borrow.Author.Rules.{rules}
 use mathlib.Core.Path.{sym, ◌∙◌}
-use mathlib.Core.Logic.{⊎_elim}
-use Prim.Native.Nat.{◌-◌, ◌<◌}
+use Prim.Native.Nat.{◌<◌}
 use native.Mathlib.Omega.{arith}
 use lib.ListN.{length}
-use Rattle.sorting.specs.Sorting.{goes_before}
-use Rattle.sorting.proofs.Turns.{Halfway, start_halfway, end_halfway, second_within, first_within, take_the_second, take_the_first, moved}
+use Rattle.sorting.proofs.Turns.{start_halfway, end_halfway, second_within, first_within, take_the_second, take_the_first, moved}
 use Rattle.sorting.proofs.merging.merge.Goals as goal
 use Rattle.sorting.proofs.merging.merge.Goals.{then-is_second_next, else-is_second_next}
 
@@ -67,8 +64,8 @@ loop-next-preserved c =
     let h = c.loop-next-test.true in
     let e = sym c.is_second_next.ensures in
     elim c.if-is_second_next.branch [
-      then-is_second_next w ↦ moved w.room-is w.first-is w.second-is (take_the_second i h (e ∙ w.if-is_second_next.true))
-    | else-is_second_next w ↦ moved w.room-is w.first-is w.second-is (take_the_first i h (e ∙ w.if-is_second_next.false))
+      | then-is_second_next w ↦ moved w.room-is w.first-is w.second-is (take_the_second i h (e ∙ w.if-is_second_next.true))
+      | else-is_second_next w ↦ moved w.room-is w.first-is w.second-is (take_the_first i h (e ∙ w.if-is_second_next.false))
     ]
 
 pub shape_of-room : goal.shape_of-room

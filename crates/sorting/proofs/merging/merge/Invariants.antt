@@ -1,11 +1,7 @@
-use borrow.Author.Rules.{rules}
-use mathlib.Core.Path.{sym, ◌∙◌}
-use mathlib.Core.Logic.{⊎_elim}
-use Prim.Native.Nat.{◌-◌, ◌<◌}
-use native.Mathlib.Omega.{arith}
+use Prim.Native.Nat.{◌-◌}
 use lib.ListN.{length}
 use Rattle.sorting.specs.Sorting.{goes_before}
-use Rattle.sorting.proofs.Turns.{Halfway, start_halfway, end_halfway, second_within, first_within, take_the_second, take_the_first, moved}
+use Rattle.sorting.proofs.Turns.{Halfway}
 use Rattle.sorting.proofs.merging.merge.Given as goal
 
 abbrev pub invariant-loop-next : goal.invariant-loop-next

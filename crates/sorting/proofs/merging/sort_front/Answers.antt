@@ -6,7 +6,6 @@ use Prim.Native.Nat.{ℕ}
 use native.Mathlib.Omega.{arith}
 use lib.ListN.{drop}
 use lib.Seq.{length-take-le}
-use borrow.Author.Rules.{rules}
 use Rattle.sorting.proofs.merging.sort_front.Goals as goal
 
 pub slice_bounds-sort-end-2 : goal.slice_bounds-sort-end-2
