@@ -24,6 +24,9 @@ const COMPARE: &str = "jogcairn_compare";
 /// What a value does to a reading; no weight of a head is in it.
 const RULES_OF: &str = "transitions::tables::rules_of";
 
+/// Functions with the lists of that `match`: its own, and in a program those that it is compiled into.
+const RULED: [&str; 3] = [RULES_OF, FILL, "recogniser::walk::answer_of"];
+
 /// Whether a value is foreign, asked where a word is refused.
 const FOREIGN_FROM: &str = "recogniser::foreign::foreign_from";
 
@@ -44,10 +47,10 @@ const ENDS: [u16; 5] = [0x1021, 0x102A, 0x1049, 0x104B, 0x104F];
 /// The weights of the sets of medials, by the sum of their members; 255 is no weight.
 const MEDIALS: [u8; 16] = [0, 1, 2, 255, 3, 5, 6, 255, 4, 7, 8, 255, 9, 10, 11, 255];
 
-/// Functions with lists that the compiler made of a `match`: what each value does to a reading; by
-/// the weight of a medial group, how many values it is written with and which; and how many are
-/// written with a medial group and its head, and with a vowel.
-const MATCHING: [&str; 3] = [RULES_OF, "syllable_text::part::put_part", "jogcairn_write"];
+/// Other functions with lists that the compiler made of a `match`: by the weight of a medial group,
+/// how many values it is written with and which; and how many are written with a medial group and
+/// its head, and with a vowel.
+const MATCHING: [&str; 2] = ["syllable_text::part::put_part", "jogcairn_write"];
 
 /// What a program has of std to tell why a read or a write failed: its functions and texts, its kinds
 /// of errors by their numbers, and what only these lead to. No answer comes from there.
@@ -86,13 +89,18 @@ fn matching(section: &str) -> Option<&str> {
     Some(numbered.map_or(list, |it| it.0))
 }
 
+/// The function whose code has the rules, if this list is one of them.
+fn ruled(section: &str) -> Option<&str> {
+    matching(section).filter(|it| RULED.contains(it))
+}
+
 /// A stored list that is not known here. Constants that fill one register and jump tables are no
 /// such lists; other rules look at them.
 fn unknown_list(name: &str, section: &Section) -> Option<String> {
     let size = section.bytes.len();
     let jumps: usize = section.tables.values().map(|entries| 4 * entries.len()).sum();
     let known = match matching(name) {
-        Some(function) => MATCHING.contains(&function),
+        Some(function) => MATCHING.contains(&function) || RULED.contains(&function),
         None => {
             let is_text = TOLD.iter().any(|it| it.as_bytes() == section.bytes);
             name.starts_with(".rodata.cst") || jumps == size || is_text
@@ -116,9 +124,14 @@ fn long_jumps(section: &Section) -> Vec<String> {
 /// Rules that tell heads apart which do the same to a reading: what weighs differently and has the
 /// same rules has no weight from there.
 fn told_apart(object: &Object) -> Vec<String> {
-    let rules = object.sections.iter().filter(|it| matching(it.0) == Some(RULES_OF));
+    let rules = object.sections.iter().filter(|it| ruled(it.0).is_some());
     let rules: Vec<_> = rules.map(|(name, section)| (name, &section.bytes)).collect();
-    if rules.len() != 3 || rules.iter().any(|it| it.1.is_empty() || it.1.len() % CHART != 0) {
+    let count = |of| rules.iter().filter(|it| ruled(it.0) == Some(of)).count();
+    // A program that does not ask for the amounts has no list of them.
+    let [own, others @ ..] = RULED.map(count);
+    let of_each = matches!(own, 0 | 3) && others.iter().all(|it| matches!(it, 0 | 2 | 3));
+    let is_faulty = |bytes: &[u8]| bytes.is_empty() || bytes.len() % CHART != 0;
+    if rules.is_empty() || !of_each || rules.iter().any(|it| is_faulty(it.1)) {
         return vec![format!("the rules are not picks, outcomes and amounts of {CHART} values")];
     }
     let mut complaints = Vec::new();
@@ -159,6 +172,8 @@ fn looked_up(object: &Object, (way, lists, tables, calls): &Way) -> Vec<String> 
             medials.insert(target);
         } else if data.is_some_and(|data| data.tables.contains_key(offset)) {
             jumps.insert(target);
+        } else if ruled(other).is_some() {
+            // They tell no heads apart that weigh differently: `told_apart` sees to that.
         } else if data.is_some() {
             complaints.push(format!("{name} refers to {other} at byte {offset}, at its byte {at}"));
         } else if !calls.contains(&function(other)) {
@@ -215,7 +230,8 @@ fn compiled() -> [(PathBuf, &'static [&'static str], &'static str); 3] {
     [
         (folder.join("libjogcairn.a"), &[FILL, COMPARE], "scripts/archive"),
         (target.join("obj/wordlist.o"), &[FILL], "scripts/prove wordlist"),
-        (target.join("obj/labels.o"), &[FILL], "scripts/prove labels"),
+        // A skeleton asks for no weight.
+        (target.join("obj/labels.o"), &[], "scripts/prove labels"),
     ]
 }
 

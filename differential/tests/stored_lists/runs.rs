@@ -42,12 +42,13 @@ pub fn in_data(bytes: &[u8]) -> Vec<String> {
 
 /// The longest row of bytes in code that rise by one, each near the one before it, if it is as long
 /// as a list: what is stored from constants, one byte or eight at a time. Places in code rise as
-/// well, by the width of what stands there.
+/// well, by the width of what stands there. A row ends at 255: of fifty weights that go over it, one
+/// side is a list still.
 pub fn in_code(bytes: &[u8]) -> Option<String> {
     let mut counts = vec![1; bytes.len()];
     for at in (0..bytes.len()).rev() {
         let next = (at + 1..bytes.len().min(at + 1 + WIDEST))
-            .filter(|&next| bytes[next] == bytes[at].wrapping_add(1));
+            .filter(|&next| bytes[at].checked_add(1) == Some(bytes[next]));
         counts[at] = 1 + next.map(|next| counts[next]).max().unwrap_or(0);
     }
     let count = counts.iter().copied().max().filter(|&count| count >= LIST)?;
