@@ -30,7 +30,7 @@ pub extern "C" fn jogcairn_book_add(book: &mut [u8], word: &[u16], stock: u32) -
 // What add would answer on a copy of the book, with where its record would start and whether it would tidy: the number of the add.
 #[unsafe(no_mangle)]
 pub extern "C" fn jogcairn_book_preview(book: &[u8], word: &[u16], stock: u32) -> u64
-    ensures { Packed (PreviewPromise word.now stock book.now book.now) preview_numbers result }
+    ensures { Packed (PreviewPromise word.now stock book.entry.now book.exit.now) preview_numbers result }
 {
     packing::of_preview(wordbook::preview(book, word, stock))
 }

@@ -42,7 +42,7 @@ pub fn add(book: &mut [u8], word: &[u16], stock: u32) -> Reply
 
 // What add would answer on a copy of the book, where its record would start, and whether it would tidy.
 pub fn preview(book: &[u8], word: &[u16], stock: u32) -> Preview
-    ensures { PreviewPromise word.now stock book.now book.now (preview_outcome result) }
+    ensures { PreviewPromise word.now stock book.entry.now book.exit.now (preview_outcome result) }
 {
     let mut values = [0; Word::LIMIT];
     match enter(word, &mut values) {
