@@ -20,7 +20,7 @@ use Rattle.recogniser.specs.Answer.{Reads}
 use Rattle.recogniser.proofs.Answered.{row_reads, reads_readable}
 use Rattle.storage.specs.Stored.{stored_form}
 use Rattle.storage.proofs.Rows.{gives_stored}
-use Rattle.entries.specs.Entries.{Entry, holds, is_fresh, Entries, book, wrong, zero_tail, entries_from, entries, entries_from_within, entries_within}
+use Rattle.entries.specs.Entries.{Entry, holds, is_fresh, Entries, book, wrong, zero_tail, entries, entries_from_within, entries_within}
 use Rattle.entries.specs.Limits.{book_limit}
 use Rattle.entries.specs.Book.{zeros, record_bytes, records, end_of, GoodEntry, GoodAfter}
 use Rattle.entries.specs.Map.{lookup}

@@ -1,6 +1,5 @@
 -- `book_calls::check` meets its contract: opening the buffer counts the live records of its entries, or gives the first wrong place.
 -- Assumes nothing.
-use borrow.Author.Rules.{rules}
 use mathlib.Core.Path.{◌≡◌, refl, sym, ap, ◌∙◌}
 use Rattle.refusals.specs.Outcome.{Outcome, accepts, refuses}
 use Rattle.entries.specs.Entries.{Entries, book, wrong, entries}

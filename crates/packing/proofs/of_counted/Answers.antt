@@ -1,6 +1,5 @@
 -- `packing::of_counted` meets its contract: each arm packs the numbers of its answer.
 -- Assumes nothing.
-use borrow.Author.Rules.{rules}
 use Rattle.packing.proofs.of_counted.Goals as goal
 
 pub returns-in-Count : goal.returns-in-Count

@@ -1,6 +1,5 @@
 -- `packing::of_pair` meets its contract: each arm packs the numbers of its answer.
 -- Assumes nothing.
-use borrow.Author.Rules.{rules}
 use Rattle.packing.proofs.of_pair.Goals as goal
 
 pub returns-in-Told : goal.returns-in-Told

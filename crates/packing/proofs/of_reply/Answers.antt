@@ -1,6 +1,5 @@
 -- `packing::of_reply` meets its contract: each arm packs the numbers of its answer.
 -- Assumes nothing.
-use borrow.Author.Rules.{rules}
 use Rattle.packing.proofs.of_reply.Goals as goal
 
 pub returns-in-One : goal.returns-in-One

@@ -1,6 +1,5 @@
 -- `packing::refused` meets its contract: number and place are the refusal's own.
 -- Assumes nothing.
-use borrow.Author.Rules.{rules}
 use Rattle.packing.proofs.refused.Goals as goal
 
 pub returns : goal.returns

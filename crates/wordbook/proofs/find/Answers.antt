@@ -1,6 +1,5 @@
 -- `wordbook::find` meets its contract: the word's refusal, or what the book answers to its stored form.
 -- Assumes nothing.
-use borrow.Author.Rules.{rules}
 use mathlib.Core.Path.{sym, ap, subst, ◌∙◌}
 use lib.Seq.{length-take-le}
 use Rattle.formula.specs.Limits.{limit}

@@ -1,6 +1,5 @@
 -- `wordbook::find_prefix` meets its contract: the query's refusal, with nothing written, or what the book answers to its stored form.
 -- Assumes nothing.
-use borrow.Author.Rules.{rules}
 use mathlib.Core.Path.{refl, sym, subst}
 use mathlib.Core.List.{List}
 use Prim.Native.Nat.{ℕ}

@@ -1,6 +1,5 @@
 -- `wordbook::preview` meets its contract: the plan is the word's refusal, or what adding its stored form would do, and no byte is written.
 -- Assumes nothing.
-use borrow.Author.Rules.{rules}
 use mathlib.Core.Path.{◌≡◌, refl, sym, ap, subst, ◌∙◌}
 use mathlib.Core.List.{List}
 use Prim.Native.Nat.{ℕ}

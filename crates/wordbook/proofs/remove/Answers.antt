@@ -1,6 +1,5 @@
 -- `wordbook::remove` meets its contract: the word's refusal, with no byte changed, or what removing its stored form answers and writes.
 -- Assumes nothing.
-use borrow.Author.Rules.{rules}
 use mathlib.Core.Path.{refl, sym, subst}
 use mathlib.Core.List.{List}
 use Prim.Native.Nat.{ℕ}

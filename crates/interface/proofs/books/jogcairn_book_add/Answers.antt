@@ -1,6 +1,5 @@
 -- `interface::books::jogcairn_book_add` meets its contract: the answer of add is packed.
 -- Assumes nothing.
-use borrow.Author.Rules.{rules}
 use Rattle.interface.proofs.books.jogcairn_book_add.Goals as goal
 
 pub returns : goal.returns

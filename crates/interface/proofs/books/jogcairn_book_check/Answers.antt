@@ -1,6 +1,5 @@
 -- `interface::books::jogcairn_book_check` meets its contract: the answer of the check is packed.
 -- Assumes nothing.
-use borrow.Author.Rules.{rules}
 use Rattle.interface.proofs.books.jogcairn_book_check.Goals as goal
 
 pub returns : goal.returns

@@ -1,6 +1,5 @@
 -- `interface::books::jogcairn_book_find` meets its contract: the answer of find is packed.
 -- Assumes nothing.
-use borrow.Author.Rules.{rules}
 use Rattle.refusals.specs.Outcome.{reply_outcome}
 use Rattle.interface.proofs.books.jogcairn_book_find.Goals as goal
 

@@ -1,6 +1,5 @@
 -- `interface::books::jogcairn_book_rank` meets its contract: the answer of rank is packed.
 -- Assumes nothing.
-use borrow.Author.Rules.{rules}
 use Rattle.interface.proofs.books.jogcairn_book_rank.Goals as goal
 
 pub returns : goal.returns

@@ -1,6 +1,5 @@
 -- `interface::books::jogcairn_book_word` meets its contract: what is told of the record is packed.
 -- Assumes nothing.
-use borrow.Author.Rules.{rules}
 use Rattle.interface.proofs.books.jogcairn_book_word.Goals as goal
 
 pub returns : goal.returns

@@ -1,6 +1,5 @@
 -- `interface::words::jogcairn_compare` meets its contract: the answer of the comparison is packed.
 -- Assumes nothing.
-use borrow.Author.Rules.{rules}
 use Rattle.refusals.specs.Pair.{pair_outcome_of}
 use Rattle.interface.proofs.words.jogcairn_compare.Goals as goal
 

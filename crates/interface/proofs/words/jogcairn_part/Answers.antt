@@ -1,6 +1,5 @@
 -- `interface::words::jogcairn_part` meets its contract: the place of the part is packed.
 -- Assumes nothing.
-use borrow.Author.Rules.{rules}
 use Rattle.refusals.specs.Outcome.{reply_outcome}
 use Rattle.interface.proofs.words.jogcairn_part.Goals as goal
 

@@ -1,6 +1,5 @@
 -- `interface::words::jogcairn_read` meets its contract: the answer for the word is packed.
 -- Assumes nothing.
-use borrow.Author.Rules.{rules}
 use Rattle.refusals.specs.Outcome.{outcome_of}
 use Rattle.interface.proofs.words.jogcairn_read.Goals as goal
 

@@ -1,6 +1,5 @@
 -- `interface::words::jogcairn_record` meets its contract: what is told of the record that was written is packed.
 -- Assumes nothing.
-use borrow.Author.Rules.{rules}
 use Rattle.interface.proofs.words.jogcairn_record.Goals as goal
 
 pub returns : goal.returns

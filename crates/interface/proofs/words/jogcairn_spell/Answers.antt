@@ -1,6 +1,5 @@
 -- `interface::words::jogcairn_spell` meets its contract: the answer of spelling is packed.
 -- Assumes nothing.
-use borrow.Author.Rules.{rules}
 use Rattle.interface.proofs.words.jogcairn_spell.Goals as goal
 
 pub returns : goal.returns

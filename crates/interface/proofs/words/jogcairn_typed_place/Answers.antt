@@ -1,6 +1,5 @@
 -- `interface::words::jogcairn_typed_place` meets its contract: the place in the word is packed.
 -- Assumes nothing.
-use borrow.Author.Rules.{rules}
 use Rattle.refusals.specs.Outcome.{reply_outcome}
 use Rattle.interface.proofs.words.jogcairn_typed_place.Goals as goal
 

@@ -1,6 +1,5 @@
 -- `wordbook::enter::enter` meets its contract: an empty word is refused, and any other is what the normaliser says of it.
 -- Assumes nothing.
-use borrow.Author.Rules.{rules}
 use mathlib.Core.Path.{refl}
 use native.Mathlib.Omega.{arith}
 use Rattle.refusals.specs.Outcome.{outcome_of}
