@@ -1,2 +1,3 @@
+pub mod Framing
 pub mod Marks
 pub mod Parts

@@ -30,6 +30,7 @@ pub fn has_mark(book: &[u8], at: usize, mark: &[u8; 2]) -> bool
 }
 
 // Whether a mark and a count stand at a place, and the record that they begin ends within the buffer.
+#[tactic(auto, using(crate::proofs::Framing::none_framed))]
 fn is_framed(book: &[u8], at: usize) -> bool
     requires { (length book.now ≤ book_limit) × (at ≤ length book.now) }
     ensures { result ≡ is_framed book.now at }

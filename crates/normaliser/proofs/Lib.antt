@@ -1,3 +1,4 @@
+pub mod Admitting
 pub mod Storing
 pub mod Determined
 pub mod Laws

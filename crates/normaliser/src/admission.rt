@@ -6,6 +6,7 @@ use formula::Word;
 use refusals::{Counted, Refusal};
 
 // How many values a word has, or why it is refused.
+#[tactic(auto, using(crate::proofs::Admitting::refuses_foreign))]
 pub(crate) fn admit(word: &[u16]) -> Counted
     ensures { AdmitAnswers word.now (outcome_of result) }
 {

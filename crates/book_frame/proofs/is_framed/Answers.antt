@@ -23,10 +23,6 @@ returns-then-not-has_mark-2 c =
     (λ e. mark_missed _ _ 0x4D 0x57 _ c.has_mark.ensures (c.if-not-has_mark.true) f.first e)
     (λ e. mark_missed _ _ 0x4D 0x2D _ c.has_mark-then-not-has_mark.ensures (c.if-not-has_mark-2.true) f.first e) f.mark))
 
-pub returns-then-count-lt1 : goal.returns-then-count-lt1
-returns-then-count-lt1 c =
-    sym (is_false _ (λ t. let f = framed_true _ _ t in let z : ⊥ = omega (arith, f.some, c.wide-count.ensures) in z))
-
 pub returns-then-count-gt-LIMIT : goal.returns-then-count-gt-LIMIT
 returns-then-count-gt-LIMIT c =
     sym (is_false _ (λ t. let f = framed_true _ _ t in let z : ⊥ = omega (arith, f.short, c.wide-count.ensures) in z))
@@ -51,7 +47,7 @@ returns c =
     (record {
       first = m.0;
       mark = m.1;
-      some = omega (arith, e, c.if-count-lt1.false);
+      some = omega (arith, e);
       short = omega (arith, e, c.if-count-gt-LIMIT.false);
       room = omega (arith, e, c.if-book-at.false);
     })))

@@ -10,19 +10,7 @@ use Rattle.normaliser.proofs.admission.admit.Goals as goal
 pub returns-then-word-gt-LIMIT : goal.returns-then-word-gt-LIMIT
 returns-then-word-gt-LIMIT c = too_long c.if-word-gt-LIMIT.true
 
-pub returns-then-foreign-word : goal.returns-then-foreign-word
-returns-then-foreign-word c =
-    let f = c.first_foreign-foreign.ensures in
-    let inside : c.first_foreign-foreign.result < length c.args.word.now = omega arith in
-    foreign
-    (record {
-      short = c.if-word-gt-LIMIT.false;
-      within = inside;
-      foreign = f.foreign inside;
-      before = λ k i. f.before k (omega arith) i;
-    })
-
 pub returns : goal.returns
 returns c =
     let f = c.first_foreign-foreign.ensures in
-    (record { short = c.if-word-gt-LIMIT.false; admitted = λ k i. f.before k (omega arith) (omega (arith, c.if-foreign-word.false)) }, refl)
+    (record { short = c.if-word-gt-LIMIT.false; admitted = λ k i. f.before k (omega arith) (omega arith) }, refl)
