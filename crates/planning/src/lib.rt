@@ -81,6 +81,7 @@ impl Plan {
 }
 
 // Where a record of `size` bytes goes in a book whose live records have `length` bytes.
+#[tactic(auto, using(crate::proofs::Behind::behind_last))]
 fn plan_record(book: &[u8], free: usize, length: usize, size: usize) -> Plan
     requires { Opened book.now free × ((list : List Entry) → IsBook book.now list → length ≡ live_length list) }
     ensures { RoomRight book.now free size result }
