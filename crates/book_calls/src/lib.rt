@@ -11,34 +11,34 @@ ghost use Rattle.ranking.specs.Whole.{OrderRight};
 ghost use Rattle.book_word.specs.WordAt.{WordRight};
 
 use book_check::open::{Opening, open_book};
-use refusals::{Counted, Refusal, Reply};
+use refusals::{Refusal, Reply};
 
 // Whether the buffer is a book, and how many live records it has.
-pub fn check(book: &[u8]) -> Counted
+pub fn check(book: &[u8]) -> Result<usize, Refusal>
     ensures { outcome_of result ≡ check_of (entries book.now) }
 {
     match open_book(book) {
-        Opening::Book { live, free: _ } => Counted::Count(live),
-        Opening::Wrong(place) => Counted::Refused(Refusal::NotABook(place)),
+        Opening::Book { live, free: _ } => Ok(live),
+        Opening::Wrong(place) => Err(Refusal::NotABook(place)),
     }
 }
 
 // Moves the live records to the front, fills the rest with zeros, and gives the live length.
-pub fn tidy(book: &mut [u8]) -> Counted
+pub fn tidy(book: &mut [u8]) -> Result<usize, Refusal>
     ensures { TidyRight book.old book.new (outcome_of result) }
 {
     tidying::tidy(book)
 }
 
 // Stock number and start of the live record with `number` live records before it in word order.
-pub fn rank(book: &[u8], number: usize) -> Reply
+pub fn rank(book: &[u8], number: usize) -> Result<Reply, Refusal>
     ensures { reply_outcome result ≡ rank_of (entries book.now) number }
 {
     ranking::rank(book, number)
 }
 
 // Puts the starts of all live records, in word order, at the front of `starts`, and tells how many there are.
-pub fn order(book: &[u8], starts: &mut [u16]) -> Counted
+pub fn order(book: &[u8], starts: &mut [u16]) -> Result<usize, Refusal>
     ensures { OrderRight book.now starts.old starts.new (outcome_of result) }
 {
     ranking::order_records(book, starts)
@@ -46,7 +46,7 @@ pub fn order(book: &[u8], starts: &mut [u16]) -> Counted
 
 // Writes the word of the record that starts at `start` to the front of `output`; tells the record's stock number, and how many values its word has,
 // with 256 more where it is live.
-pub fn word_at(book: &[u8], start: usize, output: &mut [u16]) -> Reply
+pub fn word_at(book: &[u8], start: usize, output: &mut [u16]) -> Result<Reply, Refusal>
     ensures { WordRight book.now start output.old output.new (reply_outcome result) }
 {
     book_word::word_at(book, start, output)

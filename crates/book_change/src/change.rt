@@ -8,7 +8,7 @@ ghost use Rattle.book_change.specs.Written.{bytes_added, AddRight, RemoveRight};
 
 use book_record::put_record;
 use planning::{Plan, plan_add, plan_remove};
-use refusals::{Counted, Reply};
+use refusals::{Refusal, Reply};
 use tidying::tidy_records;
 
 // Does what the plan says.
@@ -27,7 +27,7 @@ fn carry_out(book: &mut [u8], plan: Plan, word: &[u16], stock: u32)
 }
 
 // Puts a live record with the word just after the last record, and tidies the book first where it does not fit otherwise.
-pub fn add(book: &mut [u8], word: &[u16], stock: u32) -> Reply
+pub fn add(book: &mut [u8], word: &[u16], stock: u32) -> Result<Reply, Refusal>
     requires { Storable word.now }
     ensures { AddRight word.now stock book.old book.new (reply_outcome result) }
 {
@@ -37,11 +37,11 @@ pub fn add(book: &mut [u8], word: &[u16], stock: u32) -> Reply
 }
 
 // Marks the live record with the word as removed.
-pub fn remove(book: &mut [u8], word: &[u16]) -> Counted
+pub fn remove(book: &mut [u8], word: &[u16]) -> Result<usize, Refusal>
     ensures { RemoveRight word.now book.old book.new (outcome_of result) }
 {
     let plan = plan_remove(book, word);
-    let Counted::Count(start) = plan else {
+    let Ok(start) = plan else {
         return plan;
     };
     let removed = b"M-";

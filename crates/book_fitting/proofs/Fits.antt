@@ -17,7 +17,7 @@ use Rattle.formula.proofs.Lists.{All}
 use Rattle.formula.proofs.Filtered.{filtered_append, filtered_few, filtered_alike, filtered_all, filtered_map}
 use Rattle.weighing.specs.Keys.{key_of}
 use Rattle.weighing.specs.Order.{order_values}
-use Rattle.weighing.specs.declared.order.Order.{Order}
+use Rattle.std.specs.declared.cmp.Ordering.{Ordering}
 use Rattle.weighing.proofs.Prefix.{key_prefix, is_equal, prefix_compared, prefix_short}
 use Rattle.entries.specs.Limits.{book_limit}
 use Rattle.entries.specs.Entries.{Entry, word_at, entry_at}
@@ -40,7 +40,7 @@ module _ (keys prefix : List ℕ) (start : ℕ) (h : KeyWithin keys start) (coun
   prefix_longer l = prefix_short prefix (weights_at keys start) (omega (arith, weights_long))
 
   -- enough of them, compared
-  pub prefix_told : length prefix ≤ weight_count * count → (o : Order) → o ≡ order_values (take (length prefix) (drop (weight_count * start + 1) keys)) prefix
+  pub prefix_told : length prefix ≤ weight_count * count → (o : Ordering) → o ≡ order_values (take (length prefix) (drop (weight_count * start + 1) keys)) prefix
       → has_prefix keys prefix start ≡ is_equal o
   prefix_told l o e =
       sym (prefix_compared prefix (weights_at keys start))

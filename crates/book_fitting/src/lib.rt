@@ -4,9 +4,10 @@
 ghost use Rattle.std.specs.Prelude.{◌≡◌};
 ghost use Rattle.book_fitting.specs.Fitting.{has_prefix, KeyWithin, AllWithin, KeptRight};
 
+use std::cmp::Ordering;
 use formula::Word;
 use memory::casts::{place_of, wide};
-use weighing::order::{Order, order_bytes};
+use weighing::order::order_bytes;
 
 // Whether the weights of the record at a start begin with these.
 fn has_prefix(keys: &[u8], start: usize, prefix: &[u8]) -> bool
@@ -20,9 +21,9 @@ fn has_prefix(keys: &[u8], start: usize, prefix: &[u8]) -> bool
     let first = from + 1;
     let end = first + prefix.len();
     match order_bytes(&keys[first..end], prefix) {
-        Order::Less => false,
-        Order::Equal => true,
-        Order::Greater => false,
+        Ordering::Less => false,
+        Ordering::Equal => true,
+        Ordering::Greater => false,
     }
 }
 

@@ -12,8 +12,8 @@ use Rattle.refusals.specs.Refusal.{number_of, place_of}
 use Rattle.refusals.specs.Outcome.{outcome_of}
 use Rattle.refusals.specs.declared.Refusal.{Refusal}
 use Rattle.recogniser.specs.Answer.{Reads, Answers, Readable}
-use Rattle.refusals.specs.declared.Counted.{Counted}
-use Rattle.refusals.specs.declared.Counted.TheVariants.{Count, Refused}
+use Rattle.std.specs.declared.result.Result.{Result}
+use Rattle.std.specs.declared.result.Result.TheVariants.{Ok, Err}
 use Rattle.recogniser.proofs.Answered.{refused_unreadable}
 use Rattle.recogniser.proofs.Counted.{count_limit}
 use Rattle.weighing.specs.Keys.{used_bytes, key_limit, zeros, key_of}
@@ -22,14 +22,14 @@ use Rattle.keying.specs.Filled.{KeyIfRead, FillRight}
 use Rattle.book_keys.specs.Filing.{row_of, filed_key}
 use Rattle.book_keys.proofs.Rows.{row_gives}
 
-module _ (word : List ℕ) (readable : Readable word) (answer : Counted) (key : List ℕ) (right : FillRight word answer key) where
-  pub not_refused : (refusal : Refusal) → answer ≡ Refused refusal → ⊥
+module _ (word : List ℕ) (readable : Readable word) (answer : Result ℕ Refusal) (key : List ℕ) (right : FillRight word answer key) where
+  pub not_refused : (refusal : Refusal) → answer ≡ Err refusal → ⊥
   not_refused refusal e =
-      refused_unreadable word (number_of refusal) (place_of refusal) (subst (λ (a : Counted). Answers word (outcome_of a)) e right.answers) readable
+      refused_unreadable word (number_of refusal) (place_of refusal) (subst (λ (a : Result ℕ Refusal). Answers word (outcome_of a)) e right.answers) readable
 
-  module _ (n : ℕ) (e : answer ≡ Count n) where
+  module _ (n : ℕ) (e : answer ≡ Ok n) where
     reads : Reads word n
-    reads = subst (λ (a : Counted). Answers word (outcome_of a)) e right.answers
+    reads = subst (λ (a : Result ℕ Refusal). Answers word (outcome_of a)) e right.answers
 
     gives : Gives (row_of word) word
     gives = row_gives word readable
@@ -47,7 +47,7 @@ module _ (word : List ℕ) (readable : Readable word) (answer : Counted) (key : 
     pub filled_weights : take (used_bytes n) key ≡ key_of (row_of word)
     filled_weights =
         let row = row_of word in
-        let filled = subst (λ (a : Counted). KeyIfRead word (outcome_of a) key) e right.key row gives in
+        let filled = subst (λ (a : Result ℕ Refusal). KeyIfRead word (outcome_of a) key) e right.key row gives in
         ap (take (used_bytes n)) filled
         ∙ take_at (key_of row) (zeros (key_limit - used_bytes (length row))) (used_bytes n) (key_used row ∙ ap used_bytes (sym filled_count))
 

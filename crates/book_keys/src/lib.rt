@@ -16,7 +16,7 @@ use formula::Word;
 use keying::fill::fill;
 use memory::casts::{count_byte, wide};
 use memory::copies::put_bytes;
-use refusals::Counted;
+use refusals::Refusal;
 
 // The bytes for the keys of a book: those of the record at a start stand from 6 times the start on.
 pub const KEY_ROOM: usize = 98304;
@@ -51,7 +51,7 @@ fn file_key(book: &[u8], at: usize, keys: &mut [u8])
     let values = values_of(book, at + HEAD, count);
     let mut key = [0; Word::KEY];
     let answer = fill(&values[..count], &mut key);
-    if let Counted::Count(number) = answer {
+    if let Ok(number) = answer {
         put_key(keys, Word::WEIGHTS * at, &key, number);
     }
 }

@@ -11,9 +11,9 @@ use lib.ListN.{length, get_or, take, drop}
 use Rattle.formula.specs.Limits.{weight_count}
 use Rattle.formula.specs.Weighing.{weights}
 use Rattle.weighing.specs.Order.{order_numbers, in_turn, order_values, order_weights, order}
-use Rattle.weighing.specs.declared.order.Order.{Order}
-use Rattle.weighing.specs.declared.order.Order.TheVariants.{Equal}
-use Rattle.weighing.specs.contracts.order.Order.{the_type}
+use Rattle.std.specs.declared.cmp.Ordering.{Ordering}
+use Rattle.std.specs.declared.cmp.Ordering.TheVariants.{Equal}
+use Rattle.std.specs.contracts.cmp.Ordering.{the_type}
 use Rattle.weighing.proofs.OrderOfNumbers.{Stand, below, level, above, stand, less_numbers, equal_numbers, greater_numbers}
 use Rattle.weighing.proofs.Passing.{decided}
 use Rattle.weighing.proofs.Laws.{keys_order}
@@ -42,7 +42,7 @@ order_of_values (x ∷ xs) (y ∷ ys) = λ i. in_turn (order_of_value x y i) (or
 
 module _ (b keys : List ℕ) (first second : ℕ) (one : HasKey b keys first) (other : HasKey b keys second) (n m : ℕ)
     (first_count : n ≡ length (row_of (word_at b first))) (second_count : m ≡ length (row_of (word_at b second)))
-    (o : Order) (compared : o ≡ order_values (take (weight_count * n) (drop (weight_count * first + 1) keys)) (take (weight_count * m) (drop (weight_count * second + 1) keys))) where
+    (o : Ordering) (compared : o ≡ order_values (take (weight_count * n) (drop (weight_count * first + 1) keys)) (take (weight_count * m) (drop (weight_count * second + 1) keys))) where
   -- the weights of the two keys are in the order of the rows
   by_weights : o ≡ order_weights (weights (row_of (word_at b first))) (weights (row_of (word_at b second)))
   by_weights =
@@ -56,13 +56,13 @@ module _ (b keys : List ℕ) (first second : ℕ) (one : HasKey b keys first) (o
   weights_decide t r e =
       e ∙ ap is_less
       (sym (decided o (order_values (word_at b first) (word_at b second)) t)
-      ∙ ap (λ (w : Order). in_turn w (order_values (word_at b first) (word_at b second))) by_weights)
+      ∙ ap (λ (w : Ordering). in_turn w (order_values (word_at b first) (word_at b second))) by_weights)
 
-  pub values_decide : o ≡ Equal → (p : Order)
+  pub values_decide : o ≡ Equal → (p : Ordering)
       → p ≡ order_values (take (get_or b (first + 2) 0) (drop (first + head_size) b)) (take (get_or b (second + 2) 0) (drop (second + head_size) b))
       → (r : Bool) → r ≡ is_less p → r ≡ before (entry_at b first) (entry_at b second)
   unfolding before order
   values_decide same p q r e =
       e ∙ ap is_less
       (q ∙ sym (order_of_values (take (get_or b (first + 2) 0) (drop (first + head_size) b)) (take (get_or b (second + 2) 0) (drop (second + head_size) b)))
-      ∙ ap (λ (w : Order). in_turn w (order_values (word_at b first) (word_at b second))) (sym same ∙ by_weights))
+      ∙ ap (λ (w : Ordering). in_turn w (order_values (word_at b first) (word_at b second))) (sym same ∙ by_weights))

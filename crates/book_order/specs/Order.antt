@@ -2,8 +2,8 @@
 -- Assumes nothing.
 use Rattle.std.specs.Prelude.{◌≡◌, Bool, true, false, ◌⊎◌}
 use Rattle.weighing.specs.Order.{Filed, filed, order}
-use Rattle.weighing.specs.declared.order.Order.{Order}
-use Rattle.weighing.specs.declared.order.Order.TheVariants.{Less, Equal, Greater}
+use Rattle.std.specs.declared.cmp.Ordering.{Ordering}
+use Rattle.std.specs.declared.cmp.Ordering.TheVariants.{Less, Equal, Greater}
 use Rattle.entries.specs.Entries.{Entry}
 use Rattle.book_keys.specs.Filing.{row_of}
 
@@ -11,13 +11,13 @@ use Rattle.book_keys.specs.Filing.{row_of}
 abbrev pub file_of : Entry → Filed
 file_of entry = filed (row_of entry.word) entry.word
 
-abbrev pub is_less : Order → Bool
+abbrev pub is_less : Ordering → Bool
 is_less Less = true
 is_less Equal = false
 is_less Greater = false
 
 -- a first comparison finds no difference, or it is the order
-abbrev pub Decides : Order → Order → Type 0
+abbrev pub Decides : Ordering → Ordering → Type 0
 Decides first whole = (first ≡ Equal) ⊎ (first ≡ whole)
 
 -- "before it in word order"

@@ -8,19 +8,20 @@ ghost use Rattle.entries.specs.Entries.{entry_at};
 ghost use Rattle.book_keys.specs.Filing.{key_room, HasKey};
 ghost use Rattle.book_order.specs.Order.{is_less, before, Decides};
 
+use std::cmp::Ordering;
 use book_frame::HEAD;
 use book_keys::KEY_ROOM;
 use formula::Word;
 use memory::casts::wide;
-use weighing::order::{Order, order_bytes, order_numbers};
+use weighing::order::{order_bytes, order_numbers};
 
-fn is_less(order: Order) -> bool
+fn is_less(order: Ordering) -> bool
     ensures { result ≡ is_less order }
 {
     match order {
-        Order::Less => true,
-        Order::Equal => false,
-        Order::Greater => false,
+        Ordering::Less => true,
+        Ordering::Equal => false,
+        Ordering::Greater => false,
     }
 }
 
@@ -31,7 +32,7 @@ fn order_parts(
     first_size: usize,
     second: usize,
     second_size: usize,
-) -> Order
+) -> Ordering
     requires { (first + first_size ≤ length bytes.now) × (second + second_size ≤ length bytes.now) }
     ensures { result ≡ order_values (take first_size (drop first bytes.now)) (take second_size (drop second bytes.now)) }
 {
@@ -67,12 +68,12 @@ fn order_fronts(
     first_size: usize,
     second: usize,
     second_size: usize,
-) -> Order
+) -> Ordering
     requires { (first + first_size ≤ length bytes.now) × (second + second_size ≤ length bytes.now) × (length bytes.now ≤ key_room) }
     ensures { Decides result (order_values (take first_size (drop first bytes.now)) (take second_size (drop second bytes.now))) }
 {
     if first_size < 8 || second_size < 8 {
-        return Order::Equal;
+        return Ordering::Equal;
     }
     order_numbers(front(bytes, first), front(bytes, second))
 }
@@ -84,12 +85,12 @@ fn order_keys(
     first_size: usize,
     second: usize,
     second_size: usize,
-) -> Order
+) -> Ordering
     requires { (first + first_size ≤ length bytes.now) × (second + second_size ≤ length bytes.now) × (length bytes.now ≤ key_room) }
     ensures { result ≡ order_values (take first_size (drop first bytes.now)) (take second_size (drop second bytes.now)) }
 {
     let order = order_fronts(bytes, first, first_size, second, second_size);
-    let Order::Equal = order else {
+    let Ordering::Equal = order else {
         return order;
     };
     order_parts(bytes, first, first_size, second, second_size)
@@ -109,7 +110,7 @@ pub fn is_before(book: &[u8], keys: &[u8; KEY_ROOM], first: usize, second: usize
         second_key + 1,
         Word::WEIGHTS * wide(keys[second_key]),
     );
-    let Order::Equal = by_weights else {
+    let Ordering::Equal = by_weights else {
         return is_less(by_weights);
     };
     is_less(order_parts(

@@ -33,35 +33,35 @@ fn is_start(book: &[u8], free: usize, start: usize) -> bool
 }
 
 // Writes the word of the record at a place to the front of `output`, where there is room for it, and tells of the record.
-fn tell_record(book: &[u8], at: usize, output: &mut [u16]) -> Reply
+fn tell_record(book: &[u8], at: usize, output: &mut [u16]) -> Result<Reply, Refusal>
     requires { (length book.now ≤ book_limit) × T (is_framed book.now at) }
     ensures { ToldRight (entry_at book.now at) output.old output.new (reply_outcome result) }
 {
     let count = wide(book[at + 2]);
     if output.len() < count {
-        return Reply::Refused(Refusal::OutputTooShort(count));
+        return Err(Refusal::OutputTooShort(count));
     }
     copy_values(book, at + HEAD, count, output);
     let stock = stock_at(book, at) as usize;
     if has_mark(book, at, b"MW") {
         let marked = count + LIVE_MARK;
-        return Reply::Two(stock, marked);
+        return Ok(Reply::Two(stock, marked));
     }
-    Reply::Two(stock, count)
+    Ok(Reply::Two(stock, count))
 }
 
 // Writes the word of the record that starts at `start` to the front of `output`; tells the record's stock number, and how many values its word has,
 // with 256 more where it is live.
-pub fn word_at(book: &[u8], start: usize, output: &mut [u16]) -> Reply
+pub fn word_at(book: &[u8], start: usize, output: &mut [u16]) -> Result<Reply, Refusal>
     ensures { WordRight book.now start output.old output.new (reply_outcome result) }
 {
     match open_book(book) {
-        Opening::Wrong(place) => Reply::Refused(Refusal::NotABook(place)),
+        Opening::Wrong(place) => Err(Refusal::NotABook(place)),
         Opening::Book { live: _, free } => {
             if is_start(book, free, start) {
                 return tell_record(book, start, output);
             }
-            Reply::Nothing
+            Ok(Reply::Nothing)
         }
     }
 }

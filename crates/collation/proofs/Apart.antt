@@ -12,15 +12,16 @@ use Rattle.letters.specs.Weights.{head_weight}
 use Rattle.formula.specs.Syllable.{syllable}
 use Rattle.formula.specs.Row.{Row, Gives, join}
 use Rattle.formula.specs.Weighing.{weights_of}
-use Rattle.refusals.specs.declared.Paired.{Paired}
+use Rattle.std.specs.declared.result.Result.{Result}
+use Rattle.refusals.specs.declared.PairRefusal.{PairRefusal}
 use Rattle.recogniser.specs.Answer.{Readable}
 use Rattle.storage.specs.Stored.{stored_form}
 use Rattle.storage.proofs.Rows.{gives_stored}
 use Rattle.normaliser.proofs.Storing.{readable_stores}
 use Rattle.weighing.specs.Order.{in_turn, order_numbers, order_values, order_weights, filed, order}
-use Rattle.weighing.specs.declared.order.Order.{Order}
-use Rattle.weighing.specs.declared.order.Order.TheVariants.{Less, Equal, Greater}
-use Rattle.weighing.specs.contracts.order.Order.{the_type}
+use Rattle.std.specs.declared.cmp.Ordering.{Ordering}
+use Rattle.std.specs.declared.cmp.Ordering.TheVariants.{Less, Equal, Greater}
+use Rattle.std.specs.contracts.cmp.Ordering.{the_type}
 use Rattle.weighing.proofs.Lexicographic.{less_not_equal, greater_not_equal}
 use Rattle.weighing.proofs.OrderOfNumbers.{Stand, below, level, above, stand, equal_numbers}
 use Rattle.weighing.proofs.Passing.{decided}
@@ -37,20 +38,20 @@ some_head [] d n = absurd (n refl)
 some_head (x ∷ word) d n = refl
 
 -- an order that is told by its tag not to be equal is not
-apart : {A : Type 0} (o : Order) → OneOf (0 ∷ 2 ∷ []) (tag_of the_type o) → o ≡ Equal → A
+apart : {A : Type 0} (o : Ordering) → OneOf (0 ∷ 2 ∷ []) (tag_of the_type o) → o ≡ Equal → A
 apart Less t e = less_not_equal e
 apart Greater t e = greater_not_equal e
 apart Equal (inl t) e = let z : ⊥ = omega arith in absurd z
 apart Equal (inr t) e = let z : ⊥ = omega arith in absurd z
 
 -- the first of four comparisons decides
-decides : (o : Order) → OneOf (0 ∷ 2 ∷ []) (tag_of the_type o) → (w x y z : Order) → w ≡ o → in_turn (in_turn (in_turn w x) y) z ≡ o
+decides : (o : Ordering) → OneOf (0 ∷ 2 ∷ []) (tag_of the_type o) → (w x y z : Ordering) → w ≡ o → in_turn (in_turn (in_turn w x) y) z ≡ o
 decides o t w x y z e =
-    ap (λ (u : Order). in_turn (in_turn (in_turn u x) y) z) e
-    ∙ ap (λ (u : Order). in_turn (in_turn u y) z) (decided o x t) ∙ ap (λ (u : Order). in_turn u z) (decided o y t) ∙ decided o z t
+    ap (λ (u : Ordering). in_turn (in_turn (in_turn u x) y) z) e
+    ∙ ap (λ (u : Ordering). in_turn (in_turn u y) z) (decided o x t) ∙ ap (λ (u : Ordering). in_turn u z) (decided o y t) ∙ decided o z t
 
 module _ (a b : List ℕ) where
-  heads_order : (row other : Row) → (o : Order) → OneOf (0 ∷ 2 ∷ []) (tag_of the_type o)
+  heads_order : (row other : Row) → (o : Ordering) → OneOf (0 ∷ 2 ∷ []) (tag_of the_type o)
       → o ≡ order_numbers (first_head (join row)) (first_head (join other)) → order (filed row a) (filed other b) ≡ o
   unfolding order order_weights order_values weights_of
   heads_order [] [] o t e = apart o t (e ∙ equal_numbers 0 0 refl)
@@ -69,7 +70,7 @@ module _ (a b : List ℕ) where
   heads_order (syllable h m v f g ∷ row) (syllable k n u i j ∷ other) o t e = decides o t _ _ _ _ (sym e)
 
 -- so two rows whose first heads weigh differently are in the order of the heads
-pub heads_tell : (one other : List ℕ) → Readable one → Readable other → (o : Order) → OneOf (0 ∷ 2 ∷ []) (tag_of the_type o)
+pub heads_tell : (one other : List ℕ) → Readable one → Readable other → (o : Ordering) → OneOf (0 ∷ 2 ∷ []) (tag_of the_type o)
     → o ≡ order_numbers (first_head one) (first_head other) → HeadsTell one other o
 heads_tell one other r s o t e = go o t told
   where
@@ -82,17 +83,17 @@ heads_tell one other r s o t e = go o t told
         (e ∙ ap (λ (w : List ℕ). order_numbers (first_head w) (first_head other)) (sym r.gives.joined)
         ∙ ap (λ (w : List ℕ). order_numbers (first_head (join r.row)) (first_head w)) (sym s.gives.joined)))
 
-    go : (p : Order) → OneOf (0 ∷ 2 ∷ []) (tag_of the_type p) → Ordered one other p → HeadsTell one other p
+    go : (p : Ordering) → OneOf (0 ∷ 2 ∷ []) (tag_of the_type p) → Ordered one other p → HeadsTell one other p
     go Less u x = x
     go Equal u x = tt
     go Greater u x = x
 
 -- and what they tell is the answer
-pub heads_answer : (one other : List ℕ) (o : Order) → HeadsTell one other o → OneOf (0 ∷ 2 ∷ []) (tag_of the_type o) → (answer : Paired)
+pub heads_answer : (one other : List ℕ) (o : Ordering) → HeadsTell one other o → OneOf (0 ∷ 2 ∷ []) (tag_of the_type o) → (answer : Result ℕ PairRefusal)
     → answer ≡ compared_as o → CompareRight one other answer
 heads_answer one other o h t = order_told one other o (go o h t)
   where
-    go : (p : Order) → HeadsTell one other p → OneOf (0 ∷ 2 ∷ []) (tag_of the_type p) → Ordered one other p
+    go : (p : Ordering) → HeadsTell one other p → OneOf (0 ∷ 2 ∷ []) (tag_of the_type p) → Ordered one other p
     go Less x u = x
     go Equal x u = apart Equal u refl
     go Greater x u = x

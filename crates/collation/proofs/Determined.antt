@@ -5,7 +5,8 @@ use mathlib.Core.List.{List}
 use Prim.Native.Nat.{ℕ}
 use Rattle.refusals.specs.Outcome.{Outcome, accepts, accepts_both, absent, refuses, outcome_of}
 use Rattle.refusals.specs.Pair.{PairOutcome, pair_outcome_of}
-use Rattle.refusals.specs.declared.Paired.{Paired}
+use Rattle.std.specs.declared.result.Result.{Result}
+use Rattle.refusals.specs.declared.PairRefusal.{PairRefusal}
 use Rattle.refusals.proofs.Laws.{counted_once, paired_once}
 use Rattle.refusals.proofs.Pairs.{BothPass, pair_once}
 use Rattle.normaliser.specs.Normal.{StoreRefusedWith, Stores, StoreAnswers}
@@ -37,7 +38,7 @@ pub outcome_once : (first second : List ℕ) (a b : PairOutcome) → CompareAnsw
 outcome_once = pair_once Stores StoreRefusedWith Compares store_refused_alike stored_not_refused both_stored order_once
 
 -- two answers that meet the promise of a comparison are equal
-pub compare_determined : (first second : List ℕ) (a b : Paired) → CompareRight first second a → CompareRight first second b → a ≡ b
+pub compare_determined : (first second : List ℕ) (a b : Result ℕ PairRefusal) → CompareRight first second a → CompareRight first second b → a ≡ b
 compare_determined first second a b r s = paired_once a b (outcome_once first second (pair_outcome_of a) (pair_outcome_of b) r s)
 
 bytes_once : (word : List ℕ) (o : Outcome) (a b : List ℕ) → StoreAnswers word o → KeyFor word o a → KeyFor word o b → a ≡ b

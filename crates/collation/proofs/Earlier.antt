@@ -5,7 +5,7 @@ use mathlib.Core.List.{List}
 use Prim.Native.Nat.{ℕ}
 use lib.ListN.{length}
 use Rattle.formula.specs.Earlier.{Edition}
-use Rattle.refusals.specs.declared.Counted.TheVariants.{Count}
+use Rattle.std.specs.declared.result.Result.TheVariants.{Ok}
 use Rattle.refusals.specs.Pair.{PairOutcome, tells}
 use Rattle.rows.proofs.Earlier.{earlier_gives}
 use Rattle.recogniser.specs.Answer.{Admissible}
@@ -24,7 +24,7 @@ use Rattle.collation.proofs.Laws.{ordered_by}
 use Rattle.collation.proofs.Determined.{outcome_once, key_determined}
 
 pub earlier_key : {edition : Edition} (word : List ℕ) → Admissible word → (b : ReadableIn edition (stored_form word)) → (key : Key) → KeyRight word key
-    → key ≡ record { answer = Count (length b.row); bytes = key_bytes b.row }
+    → key ≡ record { answer = Ok (length b.row); bytes = key_bytes b.row }
 earlier_key word a b key right =
     key_determined word key _ right
     (record {

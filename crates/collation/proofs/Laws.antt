@@ -8,15 +8,16 @@ use lib.Seq.{take_at}
 use Rattle.formula.specs.Row.{Row, Gives}
 use Rattle.formula.specs.Weighing.{weights}
 use Rattle.refusals.specs.Outcome.{outcome_of}
-use Rattle.refusals.specs.declared.Counted.{Counted}
-use Rattle.refusals.specs.declared.Counted.TheVariants.{Count}
+use Rattle.std.specs.declared.result.Result.{Result}
+use Rattle.refusals.specs.declared.Refusal.{Refusal}
+use Rattle.std.specs.declared.result.Result.TheVariants.{Ok}
 use Rattle.rows.proofs.Viable.{only_row}
 use Rattle.storage.specs.Stored.{stored_form}
 use Rattle.normaliser.specs.Normal.{Stores, StoreAnswers}
 use Rattle.weighing.specs.Order.{in_turn, order_values, order_weights, Filed, filed, order}
 use Rattle.weighing.specs.Keys.{key_limit, used_bytes, zeros, key_of}
-use Rattle.weighing.specs.declared.order.Order.{Order}
-use Rattle.weighing.specs.declared.order.Order.TheVariants.{Less, Equal}
+use Rattle.std.specs.declared.cmp.Ordering.{Ordering}
+use Rattle.std.specs.declared.cmp.Ordering.TheVariants.{Less, Equal}
 use Rattle.weighing.proofs.Lexicographic.{opposite, less_not_equal}
 use Rattle.weighing.proofs.Laws.{words_are_ordered, keys_order, key_used}
 use Rattle.collation.specs.Keyed.{KeyFor, KeyRight}
@@ -41,12 +42,12 @@ in_order first second n m s t =
 -- whichever rows give them
 pub ordered_by : (first second : List ℕ) (n m : ℕ) → Stores first n → Stores second m
     → (row other : Row) → Gives row (stored_form first) → Gives other (stored_form second)
-    → (o : Order) → order (filed row (stored_form first)) (filed other (stored_form second)) ≡ o → Ordered first second o
+    → (o : Ordering) → order (filed row (stored_form first)) (filed other (stored_form second)) ≡ o → Ordered first second o
 ordered_by first second n m s t row other g h o e =
     subst (Ordered first second) ((in_order first second n m s t).by_weights row other g h ∙ e) (in_order first second n m s t)
 
 -- the order of two words that are, at their own rows
-at_rows : (first second : List ℕ) (o : Order) (s : Ordered first second o)
+at_rows : (first second : List ℕ) (o : Ordering) (s : Ordered first second o)
     → o ≡ order (filed s.first_stores.reads.row (stored_form first)) (filed s.second_stores.reads.row (stored_form second))
 at_rows first second o s =
     s.by_weights s.first_stores.reads.row s.second_stores.reads.row s.first_stores.reads.gives s.second_stores.reads.gives
@@ -57,7 +58,7 @@ irreflexive word s =
     less_not_equal
     (s.by_weights g.row g.row g.gives g.gives ∙ words_are_ordered.alike (filed g.row (stored_form word)))
 
-pub turned : (first second : List ℕ) (o : Order) → Ordered first second o → Ordered second first (opposite o)
+pub turned : (first second : List ℕ) (o : Ordering) → Ordered first second o → Ordered second first (opposite o)
 turned first second o s =
     record {
       first_count = s.second_count;
@@ -110,19 +111,19 @@ identical_equal first second n m s t e =
     }
 
 -- the used bytes of a key are the weights of the row
-module _ (word : List ℕ) (key : Key) (right : KeyRight word key) (n : ℕ) (e : key.answer ≡ Count n) where
+module _ (word : List ℕ) (key : Key) (right : KeyRight word key) (n : ℕ) (e : key.answer ≡ Ok n) where
   pub key_stores : Stores word n
-  key_stores = subst (λ (a : Counted). StoreAnswers word (outcome_of a)) e right.answers
+  key_stores = subst (λ (a : Result ℕ Refusal). StoreAnswers word (outcome_of a)) e right.answers
 
   pub used_bytes_lem : (row : Row) → Gives row (stored_form word) → take (used_bytes n) key.bytes ≡ key_of row
   used_bytes_lem row g =
       let count : length row ≡ n = ap length (key_stores.reads.only row g) ∙ key_stores.reads.count in
-      ap (take (used_bytes n)) (subst (λ (a : Counted). KeyFor word (outcome_of a) key.bytes) e right.bytes row g)
+      ap (take (used_bytes n)) (subst (λ (a : Result ℕ Refusal). KeyFor word (outcome_of a) key.bytes) e right.bytes row g)
       ∙ take_at (key_of row) (zeros (key_limit - used_bytes (length row))) (used_bytes n) (key_used row ∙ ap used_bytes count)
 
 -- the used bytes of two keys, compared byte by byte, the shorter first where one begins the other, are in the order of the rows of weights
-module _ (first : List ℕ) (key : Key) (right : KeyRight first key) (n : ℕ) (e : key.answer ≡ Count n)
-    (second : List ℕ) (other : Key) (other_right : KeyRight second other) (m : ℕ) (f : other.answer ≡ Count m) where
+module _ (first : List ℕ) (key : Key) (right : KeyRight first key) (n : ℕ) (e : key.answer ≡ Ok n)
+    (second : List ℕ) (other : Key) (other_right : KeyRight second other) (m : ℕ) (f : other.answer ≡ Ok m) where
   pub keys_in_order : (row third : Row) → Gives row (stored_form first) → Gives third (stored_form second)
       → order_values (take (used_bytes n) key.bytes) (take (used_bytes m) other.bytes) ≡ order_weights (weights row) (weights third)
   keys_in_order row third g h =
@@ -139,5 +140,5 @@ module _ (first : List ℕ) (key : Key) (right : KeyRight first key) (n : ℕ) (
         first_stores = key_stores first key right n e;
         second_count = m;
         second_stores = key_stores second other other_right m f;
-        by_weights = λ row third g h. ap (λ (o : Order). in_turn o (order_values (stored_form first) (stored_form second))) (keys_in_order row third g h);
+        by_weights = λ row third g h. ap (λ (o : Ordering). in_turn o (order_values (stored_form first) (stored_form second))) (keys_in_order row third g h);
       }

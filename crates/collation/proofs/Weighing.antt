@@ -10,8 +10,8 @@ use Rattle.formula.specs.Row.{Gives}
 use Rattle.refusals.specs.Refusal.{number_of, place_of}
 use Rattle.refusals.specs.Outcome.{outcome_of}
 use Rattle.refusals.specs.declared.Refusal.{Refusal}
-use Rattle.refusals.specs.declared.Counted.{Counted}
-use Rattle.refusals.specs.declared.Counted.TheVariants.{Count, Refused}
+use Rattle.std.specs.declared.result.Result.{Result}
+use Rattle.std.specs.declared.result.Result.TheVariants.{Ok, Err}
 use Rattle.recogniser.specs.Answer.{Answers}
 use Rattle.recogniser.proofs.Counted.{count_limit}
 use Rattle.storage.specs.Stored.{stored_form}
@@ -26,74 +26,74 @@ use Rattle.collation.specs.Comparison.{Ordered}
 use Rattle.collation.proofs.Laws.{keys_compare}
 
 -- the weights of a row of syllables, which is its own stored form
-pub row_weighed : (word : List ℕ) (answer : Counted) (bytes : List ℕ) → FillRight word answer bytes → (n : ℕ) → answer ≡ Count n
+pub row_weighed : (word : List ℕ) (answer : Result ℕ Refusal) (bytes : List ℕ) → FillRight word answer bytes → (n : ℕ) → answer ≡ Ok n
     → WeighRight word answer bytes
 row_weighed word answer bytes right n e =
-    let reads = subst (λ (a : Counted). Answers word (outcome_of a)) e right.answers in
-    let filled = subst (λ (a : Counted). KeyIfRead word (outcome_of a) bytes) e right.key in
+    let reads = subst (λ (a : Result ℕ Refusal). Answers word (outcome_of a)) e right.answers in
+    let filled = subst (λ (a : Result ℕ Refusal). KeyIfRead word (outcome_of a) bytes) e right.key in
     record {
-      answers = subst (λ (a : Counted). StoreAnswers word (outcome_of a)) (sym e) (reads_stores word n reads);
+      answers = subst (λ (a : Result ℕ Refusal). StoreAnswers word (outcome_of a)) (sym e) (reads_stores word n reads);
       weighed =
-          subst (λ (a : Counted). KeyFor word (outcome_of a) bytes) (sym e)
+          subst (λ (a : Result ℕ Refusal). KeyFor word (outcome_of a) bytes) (sym e)
           (λ row g. filled row (subst (Gives row) (gives_stored reads.row word reads.gives) g));
       room = right.size;
     }
 
 -- what a word's stored form, with at most as many values as a word has, gives when it is read and weighed
-module _ (word values : List ℕ) (short : length word ≤ limit) (e : values ≡ stored_form word) (answer : Counted) (bytes : List ℕ)
+module _ (word values : List ℕ) (short : length word ≤ limit) (e : values ≡ stored_form word) (answer : Result ℕ Refusal) (bytes : List ℕ)
     (right : FillRight values answer bytes) where
   at_form : FillRight (stored_form word) answer bytes
   at_form = subst (λ (l : List ℕ). FillRight l answer bytes) e right
 
-  pub form_weighed : (n : ℕ) → answer ≡ Count n → WeighRight word answer bytes
+  pub form_weighed : (n : ℕ) → answer ≡ Ok n → WeighRight word answer bytes
   form_weighed n f =
-      let reads = subst (λ (a : Counted). Answers (stored_form word) (outcome_of a)) f at_form.answers in
+      let reads = subst (λ (a : Result ℕ Refusal). Answers (stored_form word) (outcome_of a)) f at_form.answers in
       record {
         answers =
-            subst (λ (a : Counted). StoreAnswers word (outcome_of a)) (sym f)
+            subst (λ (a : Result ℕ Refusal). StoreAnswers word (outcome_of a)) (sym f)
             (record { admissible = word_admissible word short reads.admissible; reads = reads });
         weighed =
-            subst (λ (a : Counted). KeyFor word (outcome_of a) bytes) (sym f)
-            (subst (λ (a : Counted). KeyIfRead (stored_form word) (outcome_of a) bytes) f at_form.key);
+            subst (λ (a : Result ℕ Refusal). KeyFor word (outcome_of a) bytes) (sym f)
+            (subst (λ (a : Result ℕ Refusal). KeyIfRead (stored_form word) (outcome_of a) bytes) f at_form.key);
         room = right.size;
       }
 
   -- a refusal goes with zeros
-  pub form_refused : (refusal told : Refusal) → answer ≡ Refused refusal → HandedIn word refusal told → WeighRight word (Refused told) bytes
+  pub form_refused : (refusal told : Refusal) → answer ≡ Err refusal → HandedIn word refusal told → WeighRight word (Err told) bytes
   form_refused refusal told f h =
       record {
         answers =
             refused_right word short refusal told
-            (subst (λ (a : Counted). Answers (stored_form word) (outcome_of a)) f at_form.answers) h;
-        weighed = subst (λ (a : Counted). KeyIfRead (stored_form word) (outcome_of a) bytes) f at_form.key;
+            (subst (λ (a : Result ℕ Refusal). Answers (stored_form word) (outcome_of a)) f at_form.answers) h;
+        weighed = subst (λ (a : Result ℕ Refusal). KeyIfRead (stored_form word) (outcome_of a) bytes) f at_form.key;
         room = right.size;
       }
 
 -- and a refusal leaves a key of zeros
-pub refused_zeros : (word : List ℕ) (answer : Counted) (bytes : List ℕ) → FillRight word answer bytes → (refusal : Refusal)
-    → answer ≡ Refused refusal → bytes ≡ zeros key_limit
-refused_zeros word answer bytes right refusal e = subst (λ (a : Counted). KeyIfRead word (outcome_of a) bytes) e right.key
+pub refused_zeros : (word : List ℕ) (answer : Result ℕ Refusal) (bytes : List ℕ) → FillRight word answer bytes → (refusal : Refusal)
+    → answer ≡ Err refusal → bytes ≡ zeros key_limit
+refused_zeros word answer bytes right refusal e = subst (λ (a : Result ℕ Refusal). KeyIfRead word (outcome_of a) bytes) e right.key
 
-pub weighed_key : (word : List ℕ) (answer : Counted) (bytes : List ℕ) → WeighRight word answer bytes
+pub weighed_key : (word : List ℕ) (answer : Result ℕ Refusal) (bytes : List ℕ) → WeighRight word answer bytes
     → KeyRight word (record { answer = answer; bytes = bytes })
 weighed_key word answer bytes right = record { answers = right.answers; bytes = right.weighed }
 
-pub weighed_refused : (word : List ℕ) (answer : Counted) (bytes : List ℕ) → WeighRight word answer bytes → (refusal : Refusal)
-    → answer ≡ Refused refusal → StoreRefusedWith word (number_of refusal) (place_of refusal)
-weighed_refused word answer bytes right refusal e = subst (λ (a : Counted). StoreAnswers word (outcome_of a)) e right.answers
+pub weighed_refused : (word : List ℕ) (answer : Result ℕ Refusal) (bytes : List ℕ) → WeighRight word answer bytes → (refusal : Refusal)
+    → answer ≡ Err refusal → StoreRefusedWith word (number_of refusal) (place_of refusal)
+weighed_refused word answer bytes right refusal e = subst (λ (a : Result ℕ Refusal). StoreAnswers word (outcome_of a)) e right.answers
 
 -- a word that is weighed, with the number of its syllables
 pub record Weighed : Type 0 where
   pub word : List ℕ
-  pub answer : Counted
+  pub answer : Result ℕ Refusal
   pub bytes : List ℕ
   pub right : WeighRight word answer bytes
   pub count : ℕ
-  pub told : answer ≡ Count count
+  pub told : answer ≡ Ok count
 
 module _ (w : Weighed) where
   pub weighed_stores : Stores w.word w.count
-  weighed_stores = subst (λ (a : Counted). StoreAnswers w.word (outcome_of a)) w.told w.right.answers
+  weighed_stores = subst (λ (a : Result ℕ Refusal). StoreAnswers w.word (outcome_of a)) w.told w.right.answers
 
   pub weighed_limit : w.count ≤ limit
   weighed_limit = count_limit (stored_form w.word) w.count weighed_stores.reads

@@ -16,8 +16,8 @@ use Rattle.storage.specs.Stored.{is_run_mark, rank, goes_behind, makes_long_vowe
 use Rattle.normaliser.proofs.Worked.{is_stored_as, StoredAs, stored_as}
 use Rattle.weighing.specs.Order.{order_values, order_weights, filed, order}
 use Rattle.weighing.specs.Keys.{key_of}
-use Rattle.weighing.specs.declared.order.Order.{Order}
-use Rattle.weighing.specs.declared.order.Order.TheVariants.{Less, Equal, Greater}
+use Rattle.std.specs.declared.cmp.Ordering.{Ordering}
+use Rattle.std.specs.declared.cmp.Ordering.TheVariants.{Less, Equal, Greater}
 use Rattle.collation.specs.Comparison.{Ordered}
 use Rattle.collation.proofs.Laws.{ordered_by}
 
@@ -30,7 +30,7 @@ pub record Example : Type 0 where
 pub record Pair : Type 0 where
   pub first : Example
   pub second : Example
-  pub is : Order
+  pub is : Ordering
 
 -- a word of one syllable
 abbrev closed_twice : List ℕ → Row → ℕ → ℕ → ℕ → ℕ → ℕ → ℕ → Example
@@ -166,7 +166,7 @@ pairs =
 is_stored : Example → Bool
 is_stored e = is_stored_as e.word e.row && same_list (key_of e.row) e.key
 
-same_order : Order → Order → Bool
+same_order : Ordering → Ordering → Bool
 same_order Less Less = true
 same_order Less Equal = false
 same_order Less Greater = false
@@ -199,7 +199,7 @@ stored e t =
     let weighs = same_list (key_of e.row) e.key in
     record { kept = stored_as e.word e.row (both_left is weighs t); weighs = same_list_equal (key_of e.row) e.key (both_right is weighs t) }
 
-same_order_lem : (o p : Order) → T (same_order o p) → o ≡ p
+same_order_lem : (o p : Ordering) → T (same_order o p) → o ≡ p
 unfolding same_order
 same_order_lem Less Less t = refl
 same_order_lem Less Equal t = absurd t

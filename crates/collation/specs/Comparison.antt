@@ -4,22 +4,23 @@ use Rattle.std.specs.Prelude.{◌≡◌, List, [], ◌∷◌, ℕ}
 use Rattle.letters.specs.Weights.{head_weight}
 use Rattle.formula.specs.Row.{Row, Gives}
 use Rattle.refusals.specs.Pair.{PairOutcome, pair_outcome_of, PairAnswers}
-use Rattle.refusals.specs.declared.Paired.{Paired}
-use Rattle.refusals.specs.declared.Paired.TheVariants.{Told}
+use Rattle.std.specs.declared.result.Result.{Result}
+use Rattle.refusals.specs.declared.PairRefusal.{PairRefusal}
+use Rattle.std.specs.declared.result.Result.TheVariants.{Ok}
 use Rattle.storage.specs.Stored.{stored_form}
 use Rattle.normaliser.specs.Normal.{StoreRefusedWith, Stores}
 use Rattle.weighing.specs.Order.{filed, order}
-use Rattle.weighing.specs.declared.order.Order.{Order}
-use Rattle.weighing.specs.declared.order.Order.TheVariants.{Less as Before, Equal as Alike, Greater as Behind}
+use Rattle.std.specs.declared.cmp.Ordering.{Ordering}
+use Rattle.std.specs.declared.cmp.Ordering.TheVariants.{Less as Before, Equal as Alike, Greater as Behind}
 
 -- an order as the number that is told: 0 for before, 1 for equal, 2 for behind
-abbrev pub order_number : Order → ℕ
+abbrev pub order_number : Ordering → ℕ
 order_number Before = 0
 order_number Alike = 1
 order_number Behind = 2
 
 -- both stored forms are rows of syllables, and they are in this order
-pub record Ordered (first second : List ℕ) (is : Order) : Type 0 where
+pub record Ordered (first second : List ℕ) (is : Ordering) : Type 0 where
   pub first_count : ℕ
   pub first_stores : Stores first first_count
   pub second_count : ℕ
@@ -29,7 +30,7 @@ pub record Ordered (first second : List ℕ) (is : Order) : Type 0 where
 
 -- they are in the order that is told
 pub record Compares (first second : List ℕ) (number : ℕ) : Type 0 where
-  pub is : Order
+  pub is : Ordering
   pub ordered : Ordered first second is
   pub numbered : number ≡ order_number is
 
@@ -37,12 +38,12 @@ abbrev pub CompareAnswers : List ℕ → List ℕ → PairOutcome → Type 0
 CompareAnswers first second outcome = PairAnswers Stores StoreRefusedWith Compares first second outcome
 
 -- the promise of a comparison
-abbrev pub CompareRight : List ℕ → List ℕ → Paired → Type 0
+abbrev pub CompareRight : List ℕ → List ℕ → Result ℕ PairRefusal → Type 0
 CompareRight first second answer = CompareAnswers first second (pair_outcome_of answer)
 
 -- inner contracts cite what follows: the answer that says the order,
-abbrev pub compared_as : Order → Paired
-compared_as order = Told (order_number order)
+abbrev pub compared_as : Ordering → Result ℕ PairRefusal
+compared_as order = Ok (order_number order)
 
 -- the weight of the first value as a head; 0 where it is none, and for no values,
 abbrev pub first_head : List ℕ → ℕ
@@ -50,7 +51,7 @@ first_head [] = 0
 first_head (x ∷ word) = head_weight x
 
 -- and the order that the first heads tell; that they are equal tells nothing
-abbrev pub HeadsTell : List ℕ → List ℕ → Order → Type 0
+abbrev pub HeadsTell : List ℕ → List ℕ → Ordering → Type 0
 HeadsTell first second Before = Ordered first second Before
 HeadsTell first second Alike = Unit {0}
 HeadsTell first second Behind = Ordered first second Behind

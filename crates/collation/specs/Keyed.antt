@@ -3,7 +3,8 @@
 use Rattle.std.specs.Prelude.{◌≡◌, List, ℕ, length}
 use Rattle.formula.specs.Row.{Row, Gives}
 use Rattle.refusals.specs.Outcome.{Outcome, accepts, accepts_both, absent, refuses, outcome_of}
-use Rattle.refusals.specs.declared.Counted.{Counted}
+use Rattle.std.specs.declared.result.Result.{Result}
+use Rattle.refusals.specs.declared.Refusal.{Refusal}
 use Rattle.storage.specs.Stored.{stored_form}
 use Rattle.normaliser.specs.Normal.{StoreAnswers}
 use Rattle.weighing.specs.Keys.{key_limit, zeros, key_bytes}
@@ -22,7 +23,7 @@ pub record KeyRight (word : List ℕ) (key : Key) : Type 0 where
   pub bytes : KeyFor word (outcome_of key.answer) key.bytes
 
 -- inner contracts cite what follows: the same of an answer beside the bytes
-pub record WeighRight (word : List ℕ) (answer : Counted) (bytes : List ℕ) : Type 0 where
+pub record WeighRight (word : List ℕ) (answer : Result ℕ Refusal) (bytes : List ℕ) : Type 0 where
   pub answers : StoreAnswers word (outcome_of answer)
   pub weighed : KeyFor word (outcome_of answer) bytes
   pub room : length bytes ≡ key_limit

@@ -5,25 +5,26 @@ ghost use Rattle.storage.specs.Stored.{stored_form};
 ghost use Rattle.weighing.specs.Order.{order_values};
 ghost use Rattle.collation.specs.Comparison.{CompareRight, compared_as};
 
+use std::cmp::Ordering;
 use crate::heads::order_heads;
 use crate::weigh::weigh;
 use formula::Word;
-use refusals::{Counted, Paired};
-use weighing::order::{Order, order_bytes, order_values};
+use refusals::PairRefusal;
+use weighing::order::{order_bytes, order_values};
 
 // What is told of two words that are in this order.
-fn answer_of(order: Order) -> Paired
+fn answer_of(order: Ordering) -> Result<usize, PairRefusal>
     ensures { result ≡ compared_as order }
 {
     match order {
-        Order::Less => Paired::Told(0),
-        Order::Equal => Paired::Told(1),
-        Order::Greater => Paired::Told(2),
+        Ordering::Less => Ok(0),
+        Ordering::Equal => Ok(1),
+        Ordering::Greater => Ok(2),
     }
 }
 
 // The order of the stored forms of two words by their code values.
-fn order_forms(first: &[u16], second: &[u16]) -> Order
+fn order_forms(first: &[u16], second: &[u16]) -> Ordering
     requires { (length first.now ≤ limit) × (length second.now ≤ limit) }
     ensures { result ≡ order_values (stored_form first.now) (stored_form second.now) }
 {
@@ -37,25 +38,25 @@ fn order_forms(first: &[u16], second: &[u16]) -> Order
 }
 
 // Compares two words by their weights, whatever their first heads are.
-fn compare_keys(first: &[u16], second: &[u16]) -> Paired
+fn compare_keys(first: &[u16], second: &[u16]) -> Result<usize, PairRefusal>
     ensures { CompareRight first.now second.now result }
 {
     let mut one = [0; Word::KEY];
     let one_answer = weigh(first, &mut one);
     let one_count = match one_answer {
-        Counted::Refused(refusal) => return Paired::FirstRefused(refusal),
-        Counted::Count(count) => count,
+        Err(refusal) => return Err(PairRefusal::First(refusal)),
+        Ok(count) => count,
     };
     let mut other = [0; Word::KEY];
     let other_answer = weigh(second, &mut other);
     let other_count = match other_answer {
-        Counted::Refused(refusal) => return Paired::SecondRefused(refusal),
-        Counted::Count(count) => count,
+        Err(refusal) => return Err(PairRefusal::Second(refusal)),
+        Ok(count) => count,
     };
     let one_end = Word::WEIGHTS * one_count;
     let other_end = Word::WEIGHTS * other_count;
     let order = order_bytes(&one[..one_end], &other[..other_end]);
-    let Order::Equal = order else {
+    let Ordering::Equal = order else {
         return answer_of(order);
     };
     answer_of(order_forms(first, second))
@@ -63,11 +64,11 @@ fn compare_keys(first: &[u16], second: &[u16]) -> Paired
 
 // How the first word stands to the second, 0 for before, 1 for equal and 2 for behind, or which of them is refused and why; of words of any values and any
 // length.
-pub fn compare(first: &[u16], second: &[u16]) -> Paired
+pub fn compare(first: &[u16], second: &[u16]) -> Result<usize, PairRefusal>
     ensures { CompareRight first.now second.now result }
 {
     let order = order_heads(first, second);
-    if let Order::Equal = order {
+    if let Ordering::Equal = order {
         return compare_keys(first, second);
     }
     answer_of(order)

@@ -2,9 +2,10 @@
 ghost use Rattle.std.specs.Prelude.{◌≡◌};
 ghost use Rattle.collation.specs.Comparison.{first_head, HeadsTell};
 
+use std::cmp::Ordering;
 use letters::weight::head_weight;
 use recogniser::walk::is_row;
-use weighing::order::{Order, order_numbers};
+use weighing::order::order_numbers;
 
 // The weight of a word's first value as a head; 0 where it is none, and for no values.
 fn first_head(word: &[u16]) -> usize
@@ -17,11 +18,11 @@ fn first_head(word: &[u16]) -> usize
 }
 
 // The order of two rows of syllables whose first heads weigh differently; that they are equal tells nothing.
-pub(crate) fn order_heads(first: &[u16], second: &[u16]) -> Order
+pub(crate) fn order_heads(first: &[u16], second: &[u16]) -> Ordering
     ensures { HeadsTell first.now second.now result }
 {
     let order = order_numbers(first_head(first), first_head(second));
-    if let Order::Equal = order {
+    if let Ordering::Equal = order {
         return order;
     }
     if is_row(first) {
@@ -29,5 +30,5 @@ pub(crate) fn order_heads(first: &[u16], second: &[u16]) -> Order
             return order;
         }
     }
-    Order::Equal
+    Ordering::Equal
 }

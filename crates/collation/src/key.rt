@@ -3,12 +3,12 @@ ghost use Rattle.collation.specs.Keyed.{KeyRight};
 
 use crate::weigh::weigh;
 use formula::Word;
-use refusals::Counted;
+use refusals::Refusal;
 
 // The weights of a word, six bytes a syllable and zeros behind them, with the number of syllables; zeros with a refusal.
 #[derive(Clone, Copy)]
 pub struct Key {
-    pub answer: Counted,
+    pub answer: Result<usize, Refusal>,
     pub bytes: [u8; Word::KEY],
 }
 

@@ -3,7 +3,8 @@
 use Rattle.std.specs.Prelude.{◌≡◌, List, ℕ, length}
 use Rattle.formula.specs.Row.{Row, Gives}
 use Rattle.refusals.specs.Outcome.{Outcome, accepts, accepts_both, absent, refuses, outcome_of}
-use Rattle.refusals.specs.declared.Counted.{Counted}
+use Rattle.std.specs.declared.result.Result.{Result}
+use Rattle.refusals.specs.declared.Refusal.{Refusal}
 use Rattle.recogniser.specs.Answer.{Answers}
 use Rattle.weighing.specs.Keys.{key_limit, zeros, key_bytes}
 
@@ -14,7 +15,7 @@ KeyIfRead word (accepts_both n m) bytes = Unit {0}
 KeyIfRead word absent bytes = Unit {0}
 KeyIfRead word (refuses number place) bytes = bytes ≡ zeros key_limit
 
-pub record FillRight (word : List ℕ) (answer : Counted) (bytes : List ℕ) : Type 0 where
+pub record FillRight (word : List ℕ) (answer : Result ℕ Refusal) (bytes : List ℕ) : Type 0 where
   pub answers : Answers word (outcome_of answer)
   pub key : KeyIfRead word (outcome_of answer) bytes
   pub size : length bytes ≡ key_limit

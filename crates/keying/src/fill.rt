@@ -10,7 +10,7 @@ ghost use Rattle.keying.specs.Filled.{FillRight};
 use formula::{Window, Word};
 use letters::weight::medial_weights;
 use recogniser::walk::answer_at;
-use refusals::{Counted, Refusal};
+use refusals::Refusal;
 use syllable_weights::put_weights;
 use syllables::window::{closed_by, window_after};
 use transitions::classes::begins;
@@ -49,12 +49,12 @@ fn advance(
 
 // Reads a word of any values and any length, and fills a key of zeros with its weights; with a refusal it is a key of zeros again. A syllable is
 // put when the next one begins, and the last at the end.
-pub fn fill(word: &[u16], bytes: &mut [u8; Word::KEY]) -> Counted
+pub fn fill(word: &[u16], bytes: &mut [u8; Word::KEY]) -> Result<usize, Refusal>
     requires { bytes.old ≡ zeros key_limit }
     ensures { FillRight word.now result bytes.new }
 {
     if Word::LIMIT < word.len() {
-        return Counted::Refused(Refusal::TooLong);
+        return Err(Refusal::TooLong);
     }
     let medials = medial_weights();
     let mut window = Word::unread();
@@ -73,7 +73,7 @@ pub fn fill(word: &[u16], bytes: &mut [u8; Word::KEY]) -> Counted
         at += 1;
     }
     let answer = answer_at(word, at, state, window.count);
-    if let Counted::Count(_) = answer {
+    if let Ok(_) = answer {
         put_last(bytes, window.count, window.last, &medials);
         return answer;
     }

@@ -11,7 +11,7 @@ use answer_text::put_refused;
 use key_text::{put, put_values};
 use labelling::skeleton;
 use lines::decode;
-use refusals::Counted;
+use refusals::Refusal;
 use skeletons::LIMIT;
 
 // What follows the number of a line that is a label.
@@ -33,8 +33,8 @@ fn put_word_label(out: &mut [u8], at: usize, word: &[u16]) -> usize
     let mut values = [0; LIMIT];
     let answer = skeleton(word, &mut values);
     match answer {
-        Counted::Refused(refusal) => put_refused(out, at, refusal),
-        Counted::Count(count) => put_skeleton(out, at, &values[..count]),
+        Err(refusal) => put_refused(out, at, refusal),
+        Ok(count) => put_skeleton(out, at, &values[..count]),
     }
 }
 
@@ -45,7 +45,7 @@ pub fn put_label(out: &mut [u8], at: usize, line: &[u8]) -> usize
 {
     let decoded = decode(line);
     let answer = decoded.answer;
-    if let Counted::Refused(refusal) = answer {
+    if let Err(refusal) = answer {
         return put_refused(out, at, refusal);
     }
     let word = decoded.word;

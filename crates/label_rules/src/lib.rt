@@ -8,7 +8,7 @@ ghost use Rattle.refusals.specs.Outcome.{outcome_of};
 ghost use Rattle.label_rules.specs.Rules.{looks_like_letter, is_other, value_before, is_confusable, first_stop_or_sign, first_confusable, label_of};
 
 use formula::Word;
-use refusals::{Counted, Refusal};
+use refusals::Refusal;
 
 // The digits that look like a letter.
 const ZERO: u16 = 0x1040;
@@ -95,19 +95,19 @@ fn first_confusable(word: &[u16]) -> usize
 }
 
 // What is answered to the stored form of a word with so many syllables: their number, or the first rule that it breaks.
-pub fn answer_by_rules(word: &[u16], syllables: usize) -> Counted
+pub fn answer_by_rules(word: &[u16], syllables: usize) -> Result<usize, Refusal>
     ensures { outcome_of result ≡ label_of word.now syllables }
 {
     let sign = first_stop_or_sign(word);
     if sign < word.len() {
-        return Counted::Refused(Refusal::StopOrSign(sign));
+        return Err(Refusal::StopOrSign(sign));
     }
     let digit = first_confusable(word);
     if digit < word.len() {
-        return Counted::Refused(Refusal::ConfusableDigit(digit));
+        return Err(Refusal::ConfusableDigit(digit));
     }
     if Word::LABEL_LIMIT < syllables {
-        return Counted::Refused(Refusal::TooManySyllables);
+        return Err(Refusal::TooManySyllables);
     }
-    Counted::Count(syllables)
+    Ok(syllables)
 }

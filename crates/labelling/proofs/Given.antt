@@ -8,8 +8,8 @@ use lib.ListN.{length, take, drop, replicate}
 use Rattle.refusals.specs.Refusal.{number_of, place_of}
 use Rattle.refusals.specs.Outcome.{accepts, outcome_of}
 use Rattle.refusals.specs.declared.Refusal.{Refusal}
-use Rattle.refusals.specs.declared.Counted.{Counted}
-use Rattle.refusals.specs.declared.Counted.TheVariants.{Count, Refused}
+use Rattle.std.specs.declared.result.Result.{Result}
+use Rattle.std.specs.declared.result.Result.TheVariants.{Ok, Err}
 use Rattle.skeletons.specs.Skeleton.{skeleton_limit}
 use Rattle.labelling.specs.Labelling.{IsLabel, LabelRefusedWith, skeleton, SkeletonRight}
 use Rattle.labelling.proofs.Fronts.{fronted, only_refused}
@@ -34,13 +34,13 @@ given word before after size right =
     record { count = f.thing; label = f.stands; long = f.long; written = f.written; front = f.front; fits = f.fits }
 
 -- the same of the answer that is told
-module _ {word before after : List ℕ} (answer : Counted) (right : SkeletonRight word before after (outcome_of answer)) where
-  pub told_given : (n : ℕ) → answer ≡ Count n → Given word before after n
-  told_given n e = given word before after n (subst (λ (w : Counted). SkeletonRight word before after (outcome_of w)) e right)
+module _ {word before after : List ℕ} (answer : Result ℕ Refusal) (right : SkeletonRight word before after (outcome_of answer)) where
+  pub told_given : (n : ℕ) → answer ≡ Ok n → Given word before after n
+  told_given n e = given word before after n (subst (λ (w : Result ℕ Refusal). SkeletonRight word before after (outcome_of w)) e right)
 
-  pub told_refused : skeleton_limit ≤ length before → (refusal : Refusal) → answer ≡ Refused refusal
+  pub told_refused : skeleton_limit ≤ length before → (refusal : Refusal) → answer ≡ Err refusal
       → LabelRefusedWith word (number_of refusal) (place_of refusal)
   told_refused room refusal e =
       only_refused (LabelRefusedWith word) (IsLabel word) (skeleton word) before after (λ n l. let short = skeleton_short word n l in omega arith)
       (number_of refusal) (place_of refusal)
-      (subst (λ (w : Counted). SkeletonRight word before after (outcome_of w)) e right)
+      (subst (λ (w : Result ℕ Refusal). SkeletonRight word before after (outcome_of w)) e right)

@@ -11,8 +11,8 @@ use Rattle.refusals.specs.Outcome.{Outcome, accepts, refuses, outcome_of}
 use Rattle.refusals.specs.Output.{refused, Puts, whole, no_room}
 use Rattle.memory.specs.Put.{Written}
 use Rattle.refusals.specs.declared.Refusal.{Refusal}
-use Rattle.refusals.specs.declared.Counted.{Counted}
-use Rattle.refusals.specs.declared.Counted.TheVariants.{Count, Refused}
+use Rattle.std.specs.declared.result.Result.{Result}
+use Rattle.std.specs.declared.result.Result.TheVariants.{Ok, Err}
 use Rattle.refusals.proofs.Putting.{puts_writes}
 use Rattle.recogniser.specs.Answer.{Reads, Readable}
 use Rattle.storage.specs.Stored.{stored_form}
@@ -92,15 +92,15 @@ module _ (word after : List ℕ) (count : ℕ) (f : Formed word after count) whe
   pub formed_stores : (n : ℕ) → Reads (take count after) n → Stores word n
   formed_stores n r = record { admissible = f.stores.admissible; reads = subst (λ (l : List ℕ). Reads l n) f.front r }
 
-module _ {word before after : List ℕ} (answer : Counted) (right : NormaliseRight word before after (outcome_of answer)) where
-  pub formed : (n : ℕ) → answer ≡ Count n → Formed word after n
+module _ {word before after : List ℕ} (answer : Result ℕ Refusal) (right : NormaliseRight word before after (outcome_of answer)) where
+  pub formed : (n : ℕ) → answer ≡ Ok n → Formed word after n
   formed n e =
-      let f = fronted (StoreRefusedWith word) (Stores word) (stored_form word) before after n (subst (λ (w : Counted). NormaliseRight word before after (outcome_of w)) e right) in
+      let f = fronted (StoreRefusedWith word) (Stores word) (stored_form word) before after n (subst (λ (w : Result ℕ Refusal). NormaliseRight word before after (outcome_of w)) e right) in
       record { syllables = f.thing; stores = f.stands; front = f.front; fits = f.fits }
 
   -- and where it is refused, it is no word
-  pub not_formed : limit ≤ length before → (refusal : Refusal) → answer ≡ Refused refusal → LabelRefusedWith word (number_of refusal) (place_of refusal)
+  pub not_formed : limit ≤ length before → (refusal : Refusal) → answer ≡ Err refusal → LabelRefusedWith word (number_of refusal) (place_of refusal)
   not_formed room refusal e =
       no_word
       (only_refused (StoreRefusedWith word) (Stores word) (stored_form word) before after (λ n s. let short = s.reads.admissible.short in omega arith)
-      (number_of refusal) (place_of refusal) (subst (λ (w : Counted). NormaliseRight word before after (outcome_of w)) e right))
+      (number_of refusal) (place_of refusal) (subst (λ (w : Result ℕ Refusal). NormaliseRight word before after (outcome_of w)) e right))

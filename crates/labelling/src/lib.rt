@@ -12,7 +12,7 @@ use formula::Word;
 use label_rules::answer_by_rules;
 use normaliser::normalise;
 use recogniser::walk::answer_of;
-use refusals::{Counted, Refusal};
+use refusals::Refusal;
 use skeletons::LIMIT;
 
 // How many syllables a row has.
@@ -21,24 +21,24 @@ fn count_syllables(row: &[u16]) -> usize
     ensures { Reads row.now result }
 {
     match answer_of(row) {
-        Counted::Count(syllables) => syllables,
-        Counted::Refused(_) => 0,
+        Ok(syllables) => syllables,
+        Err(_) => 0,
     }
 }
 
 // Whether a word is a label: how many syllables it has, or why it is refused.
-pub fn label(word: &[u16]) -> Counted
+pub fn label(word: &[u16]) -> Result<usize, Refusal>
     ensures { LabelAnswers word.now (outcome_of result) }
 {
     let read = answer_of(word);
-    if let Counted::Count(syllables) = read {
+    if let Ok(syllables) = read {
         return answer_by_rules(word, syllables);
     }
     let mut values = [0; Word::LIMIT];
     let stored = normalise(word, &mut values);
     match stored {
-        Counted::Refused(refusal) => Counted::Refused(refusal),
-        Counted::Count(count) => {
+        Err(refusal) => Err(refusal),
+        Ok(count) => {
             let syllables = count_syllables(&values[..count]);
             answer_by_rules(&values[..count], syllables)
         }
@@ -57,33 +57,33 @@ fn has_room(form: &[u16], room: usize) -> bool
 }
 
 // Writes the skeleton of a row of so many syllables to the front of the output, where the rules accept it and there is room.
-fn put_skeleton(form: &[u16], syllables: usize, output: &mut [u16]) -> Counted
+fn put_skeleton(form: &[u16], syllables: usize, output: &mut [u16]) -> Result<usize, Refusal>
     requires { Reads form.now syllables }
     ensures { FormPut form.now syllables output.old output.new (outcome_of result) }
 {
     let answer = answer_by_rules(form, syllables);
-    if let Counted::Refused(refusal) = answer {
-        return Counted::Refused(refusal);
+    if let Err(refusal) = answer {
+        return Err(refusal);
     }
     if has_room(form, output.len()) {
-        return Counted::Count(skeletons::put(form, output));
+        return Ok(skeletons::put(form, output));
     }
-    Counted::Refused(Refusal::OutputTooShort(skeletons::measure(form)))
+    Err(Refusal::OutputTooShort(skeletons::measure(form)))
 }
 
 // Writes the skeleton of a label to the front of `output`, and tells how many values it has.
-pub fn skeleton(word: &[u16], output: &mut [u16]) -> Counted
+pub fn skeleton(word: &[u16], output: &mut [u16]) -> Result<usize, Refusal>
     ensures { SkeletonRight word.now output.old output.new (outcome_of result) }
 {
     let read = answer_of(word);
-    if let Counted::Count(syllables) = read {
+    if let Ok(syllables) = read {
         return put_skeleton(word, syllables, output);
     }
     let mut values = [0; Word::LIMIT];
     let stored = normalise(word, &mut values);
     match stored {
-        Counted::Refused(refusal) => Counted::Refused(refusal),
-        Counted::Count(count) => {
+        Err(refusal) => Err(refusal),
+        Ok(count) => {
             let syllables = count_syllables(&values[..count]);
             put_skeleton(&values[..count], syllables, output)
         }

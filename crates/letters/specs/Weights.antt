@@ -4,8 +4,8 @@ use Rattle.std.specs.Prelude.{Bool, true, false, ◌&&◌, ◌||◌, List, [], �
 use Rattle.letters.specs.Choice.{pick}
 use Rattle.letters.specs.Letters.{within, is_consonant, is_independent_vowel, is_digit, is_stop, is_sign}
 use Rattle.letters.specs.Marks.{YaRa, neither, ya, ra, MedialGroup, group, medial_groups, Vowel, no_vowel, vowel_aa, vowel_i, vowel_ii, vowel_u, vowel_uu, vowel_e, vowel_ai, vowel_e_aa, vowel_e_aa_killer, vowel_am, vowel_i_u, vowel_u_am, ToneMark, no_tone, dot, visarga}
-use Rattle.letters.specs.declared.weight.Weighed.{Weighed}
-use Rattle.letters.specs.declared.weight.Weighed.TheVariants.{Weight, Nothing}
+use Rattle.std.specs.declared.option.Option.{Option}
+use Rattle.std.specs.declared.option.Option.TheVariants.{None, Some}
 
 -- a value that may be the head of a syllable
 abbrev pub is_head : ℕ → Bool
@@ -54,12 +54,12 @@ abbrev pub medial_set : MedialGroup → ℕ
 medial_set (group yr w h) = ya_ra_set yr + (bit_if w 4 + bit_if h 8)
 
 -- the weight of the group among these that has the set of medials n
-abbrev pub weight_in : List MedialGroup → ℕ → Weighed
-weight_in [] n = Nothing
-weight_in (g ∷ gs) n = pick (eqb n (medial_set g)) (Weight (medial_weight g)) (weight_in gs n)
+abbrev pub weight_in : List MedialGroup → ℕ → Option ℕ
+weight_in [] n = None
+weight_in (g ∷ gs) n = pick (eqb n (medial_set g)) (Some (medial_weight g)) (weight_in gs n)
 
 -- the weight of a set of medials; a set with Y and R, or with anything else, is no group's
-abbrev pub medial_set_weight : ℕ → Weighed
+abbrev pub medial_set_weight : ℕ → Option ℕ
 medial_set_weight n = weight_in medial_groups n
 
 -- "A final letter is 1000 to 1020."
@@ -112,27 +112,27 @@ tone_weight dot = 1
 tone_weight visarga = 2
 
 -- the vowel that is written with the one mark x, by weight
-abbrev pub vowel_of_mark : ℕ → Weighed
+abbrev pub vowel_of_mark : ℕ → Option ℕ
 vowel_of_mark x =
-    pick (within 0x102B 0x102C x) (Weight 1)
-    (pick (within 0x102D 0x1032 x) (Weight (x - 0x102D + 2)) (pick (eqb x 0x1036) (Weight 10) Nothing))
+    pick (within 0x102B 0x102C x) (Some 1)
+    (pick (within 0x102D 0x1032 x) (Some (x - 0x102D + 2)) (pick (eqb x 0x1036) (Some 10) None))
 
 -- the vowel that is written as the vowel of weight v and then x, by weight: each of the twelve by its last mark
-abbrev pub vowel_with : ℕ → ℕ → Weighed
+abbrev pub vowel_with : ℕ → ℕ → Option ℕ
 vowel_with v x =
     pick (eqb v 0) (vowel_of_mark x)
-    (pick (eqb v 6 && within 0x102B 0x102C x) (Weight 8)
-    (pick (eqb v 8 && eqb x 0x103A) (Weight 9)
-    (pick (eqb v 2 && eqb x 0x102F) (Weight 11) (pick (eqb v 4 && eqb x 0x1036) (Weight 12) Nothing))))
+    (pick (eqb v 6 && within 0x102B 0x102C x) (Some 8)
+    (pick (eqb v 8 && eqb x 0x103A) (Some 9)
+    (pick (eqb v 2 && eqb x 0x102F) (Some 11) (pick (eqb v 4 && eqb x 0x1036) (Some 12) None))))
 
 -- what a value weighs where it is a tone, and that it does not where it is none
-abbrev pub tone_weighed : ℕ → Weighed
-tone_weighed x = pick (eqb x 0x1037) (Weight 1) (pick (eqb x 0x1038) (Weight 2) Nothing)
+abbrev pub tone_weighed : ℕ → Option ℕ
+tone_weighed x = pick (eqb x 0x1037) (Some 1) (pick (eqb x 0x1038) (Some 2) None)
 
 -- the weight, or what stands for it where there is none
-abbrev pub weight_or : Weighed → ℕ → ℕ
-weight_or (Weight n) other = n
-weight_or Nothing other = other
+abbrev pub weight_or : Option ℕ → ℕ → ℕ
+weight_or (Some n) other = n
+weight_or None other = other
 
 -- the entry of a set of medials in the table of the sixteen sets: its weight, or 255 for a set that is no group's
 abbrev pub medial_entry : ℕ → ℕ

@@ -1,7 +1,6 @@
 // The weights of document 01, "Weights": of heads, independent vowels and medial groups.
 ghost use Rattle.std.specs.Prelude.{◌≡◌};
-ghost use Rattle.letters.specs.Choice.{pick};
-ghost use Rattle.letters.specs.Weights.{head_weight, independent_vowel_weight, medial_set_weight, weight_or, medial_table};
+ghost use Rattle.letters.specs.Weights.{head_weight, independent_vowel_weight, medial_set_weight, medial_table};
 
 // What stands in the table for a set of medials that is no group: Y and R together.
 const FORBIDDEN: u8 = 255;
@@ -10,23 +9,6 @@ const FORBIDDEN: u8 = 255;
 const MEDIAL_WEIGHTS: [u8; 16] = [
     0, 1, 2, FORBIDDEN, 3, 5, 6, FORBIDDEN, 4, 7, 8, FORBIDDEN, 9, 10, 11, FORBIDDEN,
 ];
-
-// What a value or a set weighs, where it is of the class that is asked about.
-#[derive(Clone, Copy)]
-pub enum Weighed {
-    Weight(u8),
-    Nothing,
-}
-
-// The weight, or what stands for it where there is none.
-pub fn weight_or(weighed: Weighed, other: u8) -> u8
-    ensures { result ≡ weight_or weighed other }
-{
-    let Weighed::Weight(weight) = weighed else {
-        return other;
-    };
-    weight
-}
 
 // The weight of a head, worked out from the unbroken ranges of heads; an independent vowel weighs as the last consonant does, and what is no head
 // weighs 0. The compiler makes comparisons of the ranges, and no list: `differential/tests/stored_lists.rs` takes apart what it made.
@@ -62,23 +44,12 @@ pub fn medial_weights() -> [u8; 16]
 }
 
 // The weight of a set of medials, the empty one too; a set with Y and R is no group's.
-pub fn medial_weight(set: u8) -> Weighed
+pub fn medial_weight(set: u8) -> Option<u8>
     ensures { result ≡ medial_set_weight set }
 {
     if set >= 16 {
-        return Weighed::Nothing;
+        return None;
     }
     let weight = MEDIAL_WEIGHTS[set as usize];
-    weight_if(weight != FORBIDDEN, weight)
-}
-
-// The weight, where it is allowed.
-fn weight_if(allowed: bool, weight: u8) -> Weighed
-    ensures { result ≡ pick allowed (Weighed.Weight weight) Weighed.Nothing }
-{
-    if allowed {
-        Weighed::Weight(weight)
-    } else {
-        Weighed::Nothing
-    }
+    (weight != FORBIDDEN).then_some(weight)
 }

@@ -4,7 +4,8 @@ use mathlib.Core.Path.{◌≡◌, sym, ◌∙◌}
 use mathlib.Core.List.{List}
 use Prim.Native.Nat.{ℕ}
 use Rattle.refusals.specs.Pair.{PairOutcome, pair_outcome_of}
-use Rattle.refusals.specs.declared.Paired.{Paired}
+use Rattle.std.specs.declared.result.Result.{Result}
+use Rattle.refusals.specs.declared.PairRefusal.{PairRefusal}
 use Rattle.refusals.proofs.Laws.{paired_once}
 use Rattle.refusals.proofs.Pairs.{BothPass, pair_once}
 use Rattle.labelling.specs.Labelling.{IsLabel, LabelRefusedWith}
@@ -26,6 +27,6 @@ module _ (first second : List ℕ) where
 pub look_alike_once : (first second : List ℕ) (a b : PairOutcome) → LookAlikeAnswers first second a → LookAlikeAnswers first second b → a ≡ b
 look_alike_once = pair_once IsLabel LabelRefusedWith Likened label_refused_alike label_not_refused both_labels likened_once
 
-pub look_alike_determined : (first second : List ℕ) (a b : Paired) → LookAlikeAnswers first second (pair_outcome_of a)
+pub look_alike_determined : (first second : List ℕ) (a b : Result ℕ PairRefusal) → LookAlikeAnswers first second (pair_outcome_of a)
     → LookAlikeAnswers first second (pair_outcome_of b) → a ≡ b
 look_alike_determined first second a b r s = paired_once a b (look_alike_once first second (pair_outcome_of a) (pair_outcome_of b) r s)

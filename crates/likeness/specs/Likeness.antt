@@ -4,10 +4,11 @@ use Rattle.std.specs.Prelude.{◌≡◌, List, ℕ}
 use Rattle.letters.specs.Weights.{bit_if}
 use Rattle.formula.specs.Lists.{same_list}
 use Rattle.refusals.specs.Pair.{PairOutcome, PairAnswers}
-use Rattle.refusals.specs.declared.Paired.{Paired}
-use Rattle.refusals.specs.declared.Paired.TheVariants.{Told}
-use Rattle.weighing.specs.declared.order.Order.{Order}
-use Rattle.weighing.specs.declared.order.Order.TheVariants.{Less, Equal, Greater}
+use Rattle.std.specs.declared.result.Result.{Result}
+use Rattle.refusals.specs.declared.PairRefusal.{PairRefusal}
+use Rattle.std.specs.declared.result.Result.TheVariants.{Ok}
+use Rattle.std.specs.declared.cmp.Ordering.{Ordering}
+use Rattle.std.specs.declared.cmp.Ordering.TheVariants.{Less, Equal, Greater}
 use Rattle.labelling.specs.Labelling.{IsLabel, LabelRefusedWith, skeleton}
 
 -- "Two labels look alike exactly when their skeletons are identical"
@@ -31,7 +32,7 @@ abbrev pub LookAlikeAnswers : List ℕ → List ℕ → PairOutcome → Type 0
 LookAlikeAnswers first second outcome = PairAnswers IsLabel LabelRefusedWith Likened first second outcome
 
 -- an inner contract cites it: the answer that goes with the order of two skeletons by their values
-abbrev pub likeness_of : Order → Paired
-likeness_of Less = Told 0
-likeness_of Equal = Told 1
-likeness_of Greater = Told 0
+abbrev pub likeness_of : Ordering → Result ℕ PairRefusal
+likeness_of Less = Ok 0
+likeness_of Equal = Ok 1
+likeness_of Greater = Ok 0

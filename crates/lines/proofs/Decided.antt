@@ -11,13 +11,13 @@ use Rattle.letters.specs.Choice.{pick}
 use Rattle.formula.specs.Limits.{line_limit}
 use Rattle.formula.specs.Held.{word_of}
 use Rattle.refusals.specs.declared.Refusal.TheVariants.{TooLong, FaultyLine}
-use Rattle.refusals.specs.declared.Counted.TheVariants.{Count}
+use Rattle.std.specs.declared.result.Result.TheVariants.{Ok}
 use Rattle.lines.specs.Line.{Decoding, values, faulty, decode_from, too_long, faulty_three, DecodeRight, refused_line}
 use Rattle.lines.specs.declared.Decoded.{Decoded}
 
 -- the word that the values make, or refusal 7
 abbrev pub answer_of : Decoding → Decoded
-answer_of (values vs) = record { answer = Count (length vs); word = word_of vs }
+answer_of (values vs) = record { answer = Ok (length vs); word = word_of vs }
 answer_of (faulty p) = refused_line (FaultyLine p)
 
 -- refusal 1 comes before anything else

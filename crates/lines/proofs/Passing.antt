@@ -10,7 +10,7 @@ use borrow.Author.Tests.{le-leb}
 use Rattle.letters.specs.Choice.{pick}
 use Rattle.formula.specs.Limits.{limit, line_limit}
 use Rattle.refusals.specs.declared.Refusal.TheVariants.{FaultyLine}
-use Rattle.refusals.specs.declared.Counted.TheVariants.{Count}
+use Rattle.std.specs.declared.result.Result.TheVariants.{Ok}
 use Rattle.lines.specs.Line.{Decoding, values, faulty, after, decode_from, refused_line}
 use Rattle.lines.specs.declared.Decoded.{Decoded}
 use Rattle.lines.proofs.Decided.{answer_of, decoded_of}
@@ -76,7 +76,7 @@ passed_faulty line array count at p small here =
 
 -- at the line's end the values so far are the word
 pub passed_all : (line array : List ℕ) (count at : ℕ) → Passed line array count at → length line ≤ line_limit → length line ≤ at
-    → ◌≡◌ {A = Decoded} (record { answer = Count count; word = record { values = array; count = count } }) (decoded_of line)
+    → ◌≡◌ {A = Decoded} (record { answer = Ok count; word = record { values = array; count = count } }) (decoded_of line)
 unfolding decoded_of pick after
 passed_all line array count at p small done =
     let whole : decode_from 0 line ≡ values p.held =

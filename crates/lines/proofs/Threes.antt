@@ -13,8 +13,8 @@ use Rattle.letters.specs.Choice.{pick}
 use Rattle.letters.proofs.Picks.{and_left, and_right}
 use Rattle.lines.specs.Line.{is_three, value_of, Decoding, faulty, after, decode_from}
 use Rattle.lines.specs.Three.{three_of, three_at}
-use Rattle.lines.specs.declared.Three.{Three}
-use Rattle.lines.specs.declared.Three.TheVariants.{Value, Faulty}
+use Rattle.std.specs.declared.option.Option.{Option}
+use Rattle.std.specs.declared.option.Option.TheVariants.{None, Some}
 
 -- what the bytes of a three are
 pub record Bounds (a b c : ℕ) : Type 0 where
@@ -57,15 +57,15 @@ bounds_three a b c h =
     )
 
 -- what the three at a place says of the line from there on
-abbrev pub Turn : List ℕ → ℕ → Three → Type 0
-Turn line at (Value v) = (at + 3 ≤ length line) × (decode_from at (drop at line) ≡ after (v ∷ []) (decode_from (at + 3) (drop (at + 3) line)))
-Turn line at Faulty = decode_from at (drop at line) ≡ faulty at
+abbrev pub Turn : List ℕ → ℕ → Option ℕ → Type 0
+Turn line at (Some v) = (at + 3 ≤ length line) × (decode_from at (drop at line) ≡ after (v ∷ []) (decode_from (at + 3) (drop (at + 3) line)))
+Turn line at None = decode_from at (drop at line) ≡ faulty at
 
 -- a whole three, with the outcome of its test
 turn_whole : (line : List ℕ) (at v : ℕ) (test : Bool) (d : Decoding) → at + 3 ≤ length line
     → d ≡ decode_from (at + 3) (drop (at + 3) line)
     → decode_from at (drop at line) ≡ pick test (after (v ∷ []) d) (faulty at)
-    → Turn line at (pick test (Value v) Faulty)
+    → Turn line at (pick test (Some v) None)
 unfolding pick
 turn_whole line at v true d more rest here = (more, cc)
 turn_whole line at v false d more rest here = here

@@ -1,4 +1,4 @@
--- Document 01, "Refused because of what is handed in", refusals 1 and 7: the code values of a line of UTF-8 bytes.
+-- Document 01, "Err because of what is handed in", refusals 1 and 7: the code values of a line of UTF-8 bytes.
 -- Assumes nothing.
 use Rattle.std.specs.Prelude.{◌≡◌, Bool, ◌&&◌, List, [], ◌∷◌, ◌++◌, ℕ, ◌+◌, ◌-◌, ◌*◌, ◌/◌, ◌%◌, ◌≤◌, ◌<◌, eqb, leb, length}
 use Rattle.letters.specs.Choice.{pick}
@@ -7,7 +7,7 @@ use Rattle.formula.specs.Held.{word_of}
 use Rattle.formula.specs.declared.Word.{Word}
 use Rattle.refusals.specs.Outcome.{Outcome, accepts, accepts_both, absent, refuses, outcome_of}
 use Rattle.refusals.specs.declared.Refusal.{Refusal}
-use Rattle.refusals.specs.declared.Counted.TheVariants.{Refused}
+use Rattle.std.specs.declared.result.Result.TheVariants.{Err}
 use Rattle.lines.specs.declared.Decoded.{Decoded}
 
 -- "E1, then 80 or 81, then 80 to BF"
@@ -73,4 +73,4 @@ DecodeRight line r = LineAnswers line (outcome_of r.answer) r.word
 
 -- a refused line; an inner contract cites it
 abbrev pub refused_line : Refusal → Decoded
-refused_line refusal = record { answer = Refused refusal; word = word_of [] }
+refused_line refusal = record { answer = Err refusal; word = word_of [] }

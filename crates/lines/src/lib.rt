@@ -6,12 +6,12 @@ ghost use Rattle.lines.specs.Line.{is_three, DecodeRight, refused_line};
 ghost use Rattle.lines.specs.Three.{three_of, three_at};
 
 use formula::Word;
-use refusals::{Counted, Refusal};
+use refusals::Refusal;
 
 // How many values a line has, and beside it the word; where the line is refused, a word of no values.
 #[derive(Clone, Copy)]
 pub struct Decoded {
-    pub answer: Counted,
+    pub answer: Result<usize, Refusal>,
     pub word: Word,
 }
 
@@ -34,14 +34,14 @@ pub fn decode(line: &[u8]) -> Decoded
     let mut at = 0;
     while at < line.len() {
         match three_at(line, at) {
-            Three::Value(value) => values[count] = value,
-            Three::Faulty => return refused(Refusal::FaultyLine(at)),
+            Some(value) => values[count] = value,
+            None => return refused(Refusal::FaultyLine(at)),
         }
         count += 1;
         at += 3;
     }
     Decoded {
-        answer: Counted::Count(count),
+        answer: Ok(count),
         word: Word { values, count },
     }
 }
@@ -51,30 +51,30 @@ fn refused(refusal: Refusal) -> Decoded
     ensures { result ≡ refused_line refusal }
 {
     Decoded {
-        answer: Counted::Refused(refusal),
+        answer: Err(refusal),
         word: Word::empty(),
     }
 }
 
 // The three that begins at a place, where a short one is faulty.
-fn three_at(line: &[u8], at: usize) -> Three
+fn three_at(line: &[u8], at: usize) -> Option<u16>
     requires { at ≤ length line.now }
     ensures { result ≡ three_at line.now at }
 {
     if line.len() - at < 3 {
-        return Three::Faulty;
+        return None;
     }
     three_of(line[at], line[at + 1], line[at + 2])
 }
 
 // The value of three bytes, where they are a three.
-fn three_of(first: u8, second: u8, third: u8) -> Three
+fn three_of(first: u8, second: u8, third: u8) -> Option<u16>
     ensures { result ≡ three_of first second third }
 {
     if is_three(first, second, third) {
-        Three::Value(0x1000 + (second as u16 - 0x80) * 0x40 + (third as u16 - 0x80))
+        Some(0x1000 + (second as u16 - 0x80) * 0x40 + (third as u16 - 0x80))
     } else {
-        Three::Faulty
+        None
     }
 }
 

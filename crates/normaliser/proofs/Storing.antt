@@ -17,8 +17,8 @@ use Rattle.formula.proofs.Lists.{both, both_left, both_right, every, every_at, a
 use Rattle.refusals.specs.Refusal.{number_of, place_of}
 use Rattle.refusals.specs.Outcome.{outcome_of}
 use Rattle.refusals.specs.declared.Refusal.{Refusal}
-use Rattle.refusals.specs.declared.Counted.{Counted}
-use Rattle.refusals.specs.declared.Counted.TheVariants.{Count}
+use Rattle.std.specs.declared.result.Result.{Result}
+use Rattle.std.specs.declared.result.Result.TheVariants.{Ok}
 use Rattle.recogniser.specs.Answer.{Admissible, Reads, Readable, FirstForeign, RefusedWith, too_long, foreign, no_continuation, unfinished}
 use Rattle.recogniser.specs.Concluded.{AdmittedTo}
 use Rattle.storage.specs.Stored.{is_run_mark, goes_behind, insert, makes_long_vowel, makes_letter, stored_form}
@@ -117,12 +117,12 @@ module _ (word : List ℕ) (short : length word ≤ limit) where
           (store_refused (number_of refusal) (place_of refusal) r n)
 
 -- what is known of a word whose stored form is read
-module _ (word : List ℕ) (r : Normalised) (right : NormalRight word r) (n : ℕ) (e : r.answer ≡ Count n) where
+module _ (word : List ℕ) (r : Normalised) (right : NormalRight word r) (n : ℕ) (e : r.answer ≡ Ok n) where
   pub stores : Stores word n
-  stores = subst (λ (a : Counted). StoreAnswers word (outcome_of a)) e right.answers
+  stores = subst (λ (a : Result ℕ Refusal). StoreAnswers word (outcome_of a)) e right.answers
 
   pub held_form : r.word ≡ word_of (stored_form word)
-  held_form = subst (λ (a : Counted). WordFor word (outcome_of a) r.word) e right.held
+  held_form = subst (λ (a : Result ℕ Refusal). WordFor word (outcome_of a) r.word) e right.held
 
   pub held_room : r.word.count ≤ length r.word.values
   held_room = held_fits r.word (stored_form word) held_form

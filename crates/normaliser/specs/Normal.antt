@@ -8,7 +8,7 @@ use Rattle.refusals.specs.Refusal.{number_of, place_of}
 use Rattle.refusals.specs.Outcome.{Outcome, accepts, accepts_both, absent, refuses, outcome_of}
 use Rattle.refusals.specs.Output.{Writes}
 use Rattle.refusals.specs.declared.Refusal.{Refusal}
-use Rattle.refusals.specs.declared.Counted.TheVariants.{Refused}
+use Rattle.std.specs.declared.result.Result.TheVariants.{Err}
 use Rattle.recogniser.specs.Answer.{AdmissibleWithin, RefusedWithin, ReadsWithin}
 use Rattle.recogniser.specs.Concluded.{AdmittedTo}
 use Rattle.storage.specs.Stored.{stored_form}
@@ -55,7 +55,7 @@ NormaliseRight word = Writes (StoreRefusedWith word) (Stores word) (λ n. stored
 
 -- inner contracts cite what follows
 abbrev pub refused_word : Refusal → Normalised
-refused_word refusal = record { answer = Refused refusal; word = word_of [] }
+refused_word refusal = record { answer = Err refusal; word = word_of [] }
 
 -- the refusal is the same, but for a foreign value: that is the first of the word
 pub record HandedIn (word : List ℕ) (refusal answer : Refusal) : Type 0 where

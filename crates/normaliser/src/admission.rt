@@ -3,19 +3,19 @@ ghost use Rattle.refusals.specs.Outcome.{outcome_of};
 ghost use Rattle.normaliser.specs.Admission.{AdmitAnswers};
 
 use formula::Word;
-use refusals::{Counted, Refusal};
+use refusals::Refusal;
 
 // How many values a word has, or why it is refused.
 #[tactic(auto, using(crate::proofs::Admitting::refuses_foreign))]
-pub(crate) fn admit(word: &[u16]) -> Counted
+pub(crate) fn admit(word: &[u16]) -> Result<usize, Refusal>
     ensures { AdmitAnswers word.now (outcome_of result) }
 {
     if Word::LIMIT < word.len() {
-        return Counted::Refused(Refusal::TooLong);
+        return Err(Refusal::TooLong);
     }
     let foreign = recogniser::foreign::first_foreign(word);
     if foreign < word.len() {
-        return Counted::Refused(Refusal::Foreign(foreign));
+        return Err(Refusal::Foreign(foreign));
     }
-    Counted::Count(word.len())
+    Ok(word.len())
 }

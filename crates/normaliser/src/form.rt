@@ -4,15 +4,15 @@ ghost use Rattle.normaliser.specs.Form.{FormRight};
 
 use crate::admission::admit;
 use crate::put_out;
-use refusals::Counted;
+use refusals::Refusal;
 
 // Writes the stored form of a word to the front of `output`, whether or not it is a row of syllables.
-pub fn stored_form(word: &[u16], output: &mut [u16]) -> Counted
+pub fn stored_form(word: &[u16], output: &mut [u16]) -> Result<usize, Refusal>
     ensures { FormRight word.now output.old output.new (outcome_of result) }
 {
     let answer = admit(word);
-    if let Counted::Refused(refusal) = answer {
-        return Counted::Refused(refusal);
+    if let Err(refusal) = answer {
+        return Err(refusal);
     }
     let form = storage::stored(word);
     let count = form.count;

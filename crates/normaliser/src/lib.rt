@@ -8,7 +8,7 @@ ghost use Rattle.normaliser.specs.Normal.{refused_word, HandedIn, NormalRight, N
 
 use formula::Word;
 use memory::copies::put_values;
-use refusals::{Counted, Refusal};
+use refusals::Refusal;
 
 mod admission; // admission.rt: the tests 1 and 2
 pub mod form; // form.rt: the stored form of any word
@@ -17,7 +17,7 @@ pub mod typed; // typed.rt: where a value of the stored form was typed
 // A stored word by value, and how it reads. With a refusal the word is empty.
 #[derive(Clone, Copy)]
 struct Normalised {
-    answer: Counted,
+    answer: Result<usize, Refusal>,
     word: Word,
 }
 
@@ -25,7 +25,7 @@ fn refused(refusal: Refusal) -> Normalised
     ensures { result ≡ refused_word refusal }
 {
     Normalised {
-        answer: Counted::Refused(refusal),
+        answer: Err(refusal),
         word: Word::empty(),
     }
 }
@@ -51,25 +51,25 @@ fn normal_form(word: &[u16]) -> Normalised
     let count = form.count;
     let values = form.values;
     let answer = recogniser::walk::answer_of(&values[..count]);
-    if let Counted::Refused(refusal) = answer {
+    if let Err(refusal) = answer {
         return refused(as_handed_in(word, refusal));
     }
     Normalised { answer, word: form }
 }
 
 // Writes values to the front of `output`, where there is room for them, and tells how many.
-pub fn put_out(values: &[u16], output: &mut [u16]) -> Counted
+pub fn put_out(values: &[u16], output: &mut [u16]) -> Result<usize, Refusal>
     ensures { Puts values.now output.old output.new (outcome_of result) }
 {
     if output.len() < values.len() {
-        return Counted::Refused(Refusal::OutputTooShort(values.len()));
+        return Err(Refusal::OutputTooShort(values.len()));
     }
     put_values(values, output, 0);
-    Counted::Count(values.len())
+    Ok(values.len())
 }
 
 // Writes the stored form of a word to the front of `output`. A row of syllables is its own stored form.
-pub fn normalise(word: &[u16], output: &mut [u16]) -> Counted
+pub fn normalise(word: &[u16], output: &mut [u16]) -> Result<usize, Refusal>
     ensures { NormaliseRight word.now output.old output.new (outcome_of result) }
 {
     if recogniser::walk::is_row(word) {
@@ -77,8 +77,8 @@ pub fn normalise(word: &[u16], output: &mut [u16]) -> Counted
     }
     let normal = normal_form(word);
     let answer = normal.answer;
-    if let Counted::Refused(refusal) = answer {
-        return Counted::Refused(refusal);
+    if let Err(refusal) = answer {
+        return Err(refusal);
     }
     let form = normal.word;
     let count = form.count;

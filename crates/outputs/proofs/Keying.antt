@@ -12,16 +12,16 @@ use Rattle.refusals.specs.Refusal.{number_of, place_of}
 use Rattle.refusals.specs.Outcome.{accepts, refuses, outcome_of}
 use Rattle.refusals.specs.Output.{refused, put, too_short}
 use Rattle.refusals.specs.declared.Refusal.{Refusal}
-use Rattle.refusals.specs.declared.Counted.{Counted}
-use Rattle.refusals.specs.declared.Counted.TheVariants.{Refused}
+use Rattle.std.specs.declared.result.Result.{Result}
+use Rattle.std.specs.declared.result.Result.TheVariants.{Err}
 use Rattle.normaliser.specs.Normal.{Stores}
 use Rattle.weighing.specs.Keys.{key_limit, key_bytes}
 use Rattle.collation.specs.Keyed.{KeyFor, WeighRight}
 use Rattle.collation.proofs.Weighing.{Weighed, weighed_refused, weighed_stores}
 use Rattle.outputs.specs.Outputs.{StoredRow, KeyWritten}
 
-pub refused_right : (word : List ℕ) (answer : Counted) (bytes : List ℕ) → WeighRight word answer bytes → (refusal : Refusal)
-    → answer ≡ Refused refusal → (before after : List ℕ) → after ≡ before → KeyWritten word before after (refuses (number_of refusal) (place_of refusal))
+pub refused_right : (word : List ℕ) (answer : Result ℕ Refusal) (bytes : List ℕ) → WeighRight word answer bytes → (refusal : Refusal)
+    → answer ≡ Err refusal → (before after : List ℕ) → after ≡ before → KeyWritten word before after (refuses (number_of refusal) (place_of refusal))
 refused_right word answer bytes right refusal e before after same = refused (weighed_refused word answer bytes right refusal e) same
 
 module _ (w : Weighed) where
@@ -35,7 +35,7 @@ module _ (w : Weighed) where
   stored_row = record { stores = subst (Stores w.word) (sym counted) (weighed_stores w); gives = (weighed_stores w).reads.gives }
 
   bytes_are : w.bytes ≡ key_bytes row
-  bytes_are = subst (λ (a : Counted). KeyFor w.word (outcome_of a) w.bytes) w.told w.right.weighed row stored_row.gives
+  bytes_are = subst (λ (a : Result ℕ Refusal). KeyFor w.word (outcome_of a) w.bytes) w.told w.right.weighed row stored_row.gives
 
   key_size : length (key_bytes row) ≡ key_limit
   key_size = sym (ap length bytes_are) ∙ w.right.room

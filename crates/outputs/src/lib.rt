@@ -10,54 +10,54 @@ use lines::decode;
 use memory::copies::put_bytes;
 use normaliser::put_out;
 use reading::records::{RecordAnswer, record_at};
-use refusals::{Counted, Refusal, Reply};
+use refusals::{Refusal, Reply};
 
 // Writes the record of the syllable `number`, from 0, to the front of the output; nothing where there is no such syllable.
-pub fn put_record(word: &[u16], number: usize, output: &mut [u8]) -> Reply
+pub fn put_record(word: &[u16], number: usize, output: &mut [u8]) -> Result<Reply, Refusal>
     ensures { RecordWritten word.now number output.old output.new (reply_outcome result) }
 {
     let given = record_at(word, number);
     let answer = given.answer;
     match answer {
-        RecordAnswer::Refused(refusal) => Reply::Refused(refusal),
-        RecordAnswer::NoSyllable => Reply::Nothing,
+        RecordAnswer::Refused(refusal) => Err(refusal),
+        RecordAnswer::NoSyllable => Ok(Reply::Nothing),
         RecordAnswer::Found => {
             if output.len() < Word::RECORD {
-                return Reply::Refused(Refusal::OutputTooShort(Word::RECORD));
+                return Err(Refusal::OutputTooShort(Word::RECORD));
             }
             let bytes = given.bytes;
             put_bytes(&bytes, output, 0);
-            Reply::One(Word::RECORD)
+            Ok(Reply::One(Word::RECORD))
         }
     }
 }
 
 // Writes the key of a word to the front of the output.
-pub fn put_key(word: &[u16], output: &mut [u8]) -> Counted
+pub fn put_key(word: &[u16], output: &mut [u8]) -> Result<usize, Refusal>
     ensures { KeyWritten word.now output.old output.new (outcome_of result) }
 {
     let mut bytes = [0; Word::KEY];
     let answer = weigh(word, &mut bytes);
     match answer {
-        Counted::Refused(refusal) => Counted::Refused(refusal),
-        Counted::Count(count) => {
+        Err(refusal) => Err(refusal),
+        Ok(count) => {
             if output.len() < Word::KEY {
-                return Counted::Refused(Refusal::OutputTooShort(Word::KEY));
+                return Err(Refusal::OutputTooShort(Word::KEY));
             }
             put_bytes(&bytes, output, 0);
-            Counted::Count(count)
+            Ok(count)
         }
     }
 }
 
 // Writes the values of a line to the front of the output.
-pub fn put_values(line: &[u8], output: &mut [u16]) -> Counted
+pub fn put_values(line: &[u8], output: &mut [u16]) -> Result<usize, Refusal>
     ensures { DecodeWritten line.now output.old output.new (outcome_of result) }
 {
     let decoded = decode(line);
     let answer = decoded.answer;
-    if let Counted::Refused(refusal) = answer {
-        return Counted::Refused(refusal);
+    if let Err(refusal) = answer {
+        return Err(refusal);
     }
     let word = decoded.word;
     let count = word.count;

@@ -25,8 +25,8 @@ use Rattle.normaliser.specs.Typed.{TypedAnswers}
 use Rattle.writing.specs.Write as writing
 use Rattle.spelling.specs.Spell as spelling
 use Rattle.spelling.proofs.Longest.{spelled_within}
-use Rattle.weighing.specs.declared.order.Order.{Order}
-use Rattle.weighing.specs.declared.order.Order.TheVariants.{Less, Equal, Greater}
+use Rattle.std.specs.declared.cmp.Ordering.{Ordering}
+use Rattle.std.specs.declared.cmp.Ordering.TheVariants.{Less, Equal, Greater}
 use Rattle.collation.specs.Comparison.{order_number, Compares, CompareAnswers}
 use Rattle.packing.specs.Packing.{answer, Fits}
 use Rattle.packing.specs.Answers.{outcome_numbers, pair_numbers}
@@ -147,7 +147,7 @@ module _ (Passes : List ℕ → ℕ → Type 0) (Refuses : List ℕ → ℕ → 
   pair_fits (first_refuses number place) r = small_fits number 1 place (omega arith) (small first number place r)
   pair_fits (second_refuses number place) r = small_fits number 2 place (omega arith) (small second number place r.second_refused)
 
-order_few : (o : Order) → order_number o < 0x100000000
+order_few : (o : Ordering) → order_number o < 0x100000000
 order_few Less = omega arith
 order_few Equal = omega arith
 order_few Greater = omega arith

@@ -10,7 +10,7 @@ ghost use Rattle.packing.specs.Packing.{answer, pack};
 ghost use Rattle.packing.specs.Answers.{outcome_numbers, preview_numbers, pair_numbers};
 
 use planning::Preview;
-use refusals::{Counted, Paired, Refusal, Reply};
+use refusals::{PairRefusal, Refusal, Reply};
 
 // The number of a tag, a second number and a first; each is cut to its 8, 24 or 32 bits.
 fn packed(tag: u64, second: u64, first: u64) -> u64
@@ -27,24 +27,24 @@ fn refused(refusal: Refusal, second: u64) -> u64
 }
 
 // A number that a call tells: of syllables, of values, of live records, or where a record starts.
-pub fn of_counted(answer: Counted) -> u64
+pub fn of_counted(answer: Result<usize, Refusal>) -> u64
     ensures { result ≡ pack (outcome_numbers (outcome_of answer)) }
 {
     match answer {
-        Counted::Count(count) => packed(0, 0, count as u64),
-        Counted::Refused(refusal) => refused(refusal, 0),
+        Ok(count) => packed(0, 0, count as u64),
+        Err(refusal) => refused(refusal, 0),
     }
 }
 
 // What a call replies: its first number, and its second where it has two; or that there is nothing of the number asked for.
-pub fn of_reply(answer: Reply) -> u64
+pub fn of_reply(answer: Result<Reply, Refusal>) -> u64
     ensures { result ≡ pack (outcome_numbers (reply_outcome answer)) }
 {
     match answer {
-        Reply::One(first) => packed(0, 0, first as u64),
-        Reply::Two(first, second) => packed(0, second as u64, first as u64),
-        Reply::Nothing => packed(128, 0, 0),
-        Reply::Refused(refusal) => refused(refusal, 0),
+        Ok(Reply::One(first)) => packed(0, 0, first as u64),
+        Ok(Reply::Two(first, second)) => packed(0, second as u64, first as u64),
+        Ok(Reply::Nothing) => packed(128, 0, 0),
+        Err(refusal) => refused(refusal, 0),
     }
 }
 
@@ -57,12 +57,12 @@ pub fn of_preview(preview: Preview) -> u64
 }
 
 // What is told of two words, or the refusal, with the word that it is of.
-pub fn of_pair(answer: Paired) -> u64
+pub fn of_pair(answer: Result<usize, PairRefusal>) -> u64
     ensures { result ≡ pack (pair_numbers (pair_outcome_of answer)) }
 {
     match answer {
-        Paired::Told(first) => packed(0, 0, first as u64),
-        Paired::FirstRefused(refusal) => refused(refusal, 1),
-        Paired::SecondRefused(refusal) => refused(refusal, 2),
+        Ok(first) => packed(0, 0, first as u64),
+        Err(PairRefusal::First(refusal)) => refused(refusal, 1),
+        Err(PairRefusal::Second(refusal)) => refused(refusal, 2),
     }
 }

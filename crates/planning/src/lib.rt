@@ -13,16 +13,16 @@ ghost use Rattle.planning.specs.Preview.{preview_of, preview_outcome};
 
 use book_frame::HEAD;
 use lookup::{Look, look_up};
-use refusals::{Counted, Refusal, Reply};
+use refusals::{Refusal, Reply};
 
 // Stock number and start of the live record with the word.
-pub fn find(book: &[u8], word: &[u16]) -> Reply
+pub fn find(book: &[u8], word: &[u16]) -> Result<Reply, Refusal>
     ensures { reply_outcome result ≡ find_of (entries book.now) word.now }
 {
     match look_up(book, word) {
-        Look::Wrong(place) => Reply::Refused(Refusal::NotABook(place)),
-        Look::Live { start, stock } => Reply::Two(stock as usize, start),
-        Look::Missing { free: _, length: _ } => Reply::Refused(Refusal::NotLive),
+        Look::Wrong(place) => Err(Refusal::NotABook(place)),
+        Look::Live { start, stock } => Ok(Reply::Two(stock as usize, start)),
+        Look::Missing { free: _, length: _ } => Err(Refusal::NotLive),
     }
 }
 
@@ -38,20 +38,20 @@ pub enum Plan {
 // What a preview tells: the answer of add, the byte where its record would start, and whether it would tidy.
 #[derive(Clone, Copy)]
 pub struct Preview {
-    pub answer: Reply,
+    pub answer: Result<Reply, Refusal>,
     pub start: usize,
     pub tidies: bool,
 }
 
 impl Plan {
     // What add replies: the start of the record, and 1 where the book is tidied for it.
-    pub fn reply(self) -> Reply
+    pub fn reply(self) -> Result<Reply, Refusal>
         ensures { reply_outcome result ≡ plan_outcome self }
     {
         match self {
-            Plan::Refused(refusal) => Reply::Refused(refusal),
-            Plan::Behind { start } => Reply::Two(start, 0),
-            Plan::Tidied { start, free: _ } => Reply::Two(start, 1),
+            Plan::Refused(refusal) => Err(refusal),
+            Plan::Behind { start } => Ok(Reply::Two(start, 0)),
+            Plan::Tidied { start, free: _ } => Ok(Reply::Two(start, 1)),
         }
     }
 
@@ -111,12 +111,12 @@ pub fn plan_add(book: &[u8], word: &[u16]) -> Plan
 }
 
 // Where the live record with the word would be removed.
-pub fn plan_remove(book: &[u8], word: &[u16]) -> Counted
+pub fn plan_remove(book: &[u8], word: &[u16]) -> Result<usize, Refusal>
     ensures { PlacedRight book.now (remove_of (entries book.now) word.now) (outcome_of result) }
 {
     match look_up(book, word) {
-        Look::Wrong(place) => Counted::Refused(Refusal::NotABook(place)),
-        Look::Live { start, stock: _ } => Counted::Count(start),
-        Look::Missing { free: _, length: _ } => Counted::Refused(Refusal::NotLive),
+        Look::Wrong(place) => Err(Refusal::NotABook(place)),
+        Look::Live { start, stock: _ } => Ok(start),
+        Look::Missing { free: _, length: _ } => Err(Refusal::NotLive),
     }
 }

@@ -10,28 +10,28 @@ ghost use Rattle.prefix_search.specs.Prefix.{PrefixRight, ListsPassing};
 use book_check::open::{Opening, open_book};
 use formula::Word;
 use keying::fill::fill;
-use refusals::{Counted, Refusal};
+use refusals::Refusal;
 use sorting::records::sort_records;
 
 // Puts the starts of the live records that begin with the weights of a key, in word order, at the front of `starts`.
-fn find_key(book: &[u8], prefix: &[u8], starts: &mut [u16]) -> Counted
+fn find_key(book: &[u8], prefix: &[u8], starts: &mut [u16]) -> Result<usize, Refusal>
     ensures { ListsPassing book.now (fits_key prefix.now) starts.old starts.new (outcome_of result) }
 {
     match open_book(book) {
-        Opening::Wrong(place) => Counted::Refused(Refusal::NotABook(place)),
+        Opening::Wrong(place) => Err(Refusal::NotABook(place)),
         Opening::Book { live: _, free } => sort_records(book, free, prefix, starts),
     }
 }
 
 // Puts the starts of the live records that begin with the syllables of a readable word, in word order, at the front of `starts`.
-pub fn find_prefix(book: &[u8], word: &[u16], starts: &mut [u16]) -> Counted
+pub fn find_prefix(book: &[u8], word: &[u16], starts: &mut [u16]) -> Result<usize, Refusal>
     requires { Readable word.now }
     ensures { PrefixRight book.now (row_of word.now) starts.old starts.new (outcome_of result) }
 {
     let mut key = [0; Word::KEY];
     match fill(word, &mut key) {
-        Counted::Refused(refusal) => Counted::Refused(refusal),
-        Counted::Count(syllables) => {
+        Err(refusal) => Err(refusal),
+        Ok(syllables) => {
             let used = Word::WEIGHTS * syllables;
             find_key(book, &key[..used], starts)
         }

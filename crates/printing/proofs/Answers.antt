@@ -8,8 +8,8 @@ use Rattle.formula.specs.Limits.{line_limit}
 use Rattle.weighing.specs.Keys.{key_limit, zeros}
 use Rattle.refusals.specs.Outcome.{outcome_of}
 use Rattle.refusals.specs.declared.Refusal.{Refusal}
-use Rattle.refusals.specs.declared.Counted.{Counted}
-use Rattle.refusals.specs.declared.Counted.TheVariants.{Count, Refused}
+use Rattle.std.specs.declared.result.Result.{Result}
+use Rattle.std.specs.declared.result.Result.TheVariants.{Ok, Err}
 use Rattle.recogniser.proofs.Counted.{count_limit}
 use Rattle.storage.specs.Stored.{stored_form}
 use Rattle.normaliser.specs.Normal.{StoreAnswers}
@@ -27,13 +27,13 @@ use Rattle.printing.specs.Output.{answer_text, Printable, KeyOfLine, of_values, 
 key_printable : (word : List ℕ) (key : Key) → KeyRight word key → Printable key.answer
 key_printable word key right = go key.answer right.answers
   where
-    go : (answer : Counted) → StoreAnswers word (outcome_of answer) → Printable answer
-    go (Count count) stores = count_limit (stored_form word) count stores.reads
-    go (Refused refusal) stores = tt
+    go : (answer : Result ℕ Refusal) → StoreAnswers word (outcome_of answer) → Printable answer
+    go (Ok count) stores = count_limit (stored_form word) count stores.reads
+    go (Err refusal) stores = tt
 
 -- what decoding tells of a line that is refused
-pub refused_right : (line : List ℕ) (decoded : Decoded) → DecodeRight line decoded → (refusal : Refusal) → decoded.answer ≡ Refused refusal
-    → LineRight line (record { answer = Refused refusal; bytes = zeros key_limit })
+pub refused_right : (line : List ℕ) (decoded : Decoded) → DecodeRight line decoded → (refusal : Refusal) → decoded.answer ≡ Err refusal
+    → LineRight line (record { answer = Err refusal; bytes = zeros key_limit })
 refused_right line decoded right refusal e = record { right = line_refused (told_refusal line decoded right refusal e) refl refl; printable = tt }
 
 -- and of one that has values

@@ -8,31 +8,31 @@ use Rattle.refusals.specs.Refusal.{number_of, place_of}
 use Rattle.refusals.specs.Outcome.{refuses, outcome_of}
 use Rattle.refusals.specs.declared.Refusal.{Refusal}
 use Rattle.refusals.specs.declared.Refusal.TheVariants.{NoSuchRow}
-use Rattle.refusals.specs.declared.Counted.{Counted}
-use Rattle.refusals.specs.declared.Counted.TheVariants.{Count, Refused}
+use Rattle.std.specs.declared.result.Result.{Result}
+use Rattle.std.specs.declared.result.Result.TheVariants.{Ok, Err}
 use Rattle.collation.specs.Keyed.{KeyRight}
 use Rattle.collation.specs.declared.key.Key.{Key}
 use Rattle.key_text.specs.Text.{decimal_of, key_text}
 use Rattle.answer_text.specs.Answer.{refused_text}
 
 -- the refusal of an answer; one that is none is never asked for it
-abbrev pub refusal_in : Counted → Refusal
-refusal_in (Refused refusal) = refusal
-refusal_in (Count count) = NoSuchRow
+abbrev pub refusal_in : Result ℕ Refusal → Refusal
+refusal_in (Err refusal) = refusal
+refusal_in (Ok count) = NoSuchRow
 
 -- "OK, syllable count, key"
 unfoldable pub accepted_text : ℕ → List ℕ → List ℕ
 accepted_text count key = (0x4F ∷ 0x4B ∷ 0x20 ∷ decimal_of count) ++ (0x20 ∷ key_text count key)
 
 -- what the answer of a line and its key come to
-abbrev pub answer_text : Counted → List ℕ → List ℕ
-answer_text (Count count) key = accepted_text count key
-answer_text (Refused refusal) key = refused_text (number_of refusal) (place_of refusal)
+abbrev pub answer_text : Result ℕ Refusal → List ℕ → List ℕ
+answer_text (Ok count) key = accepted_text count key
+answer_text (Err refusal) key = refused_text (number_of refusal) (place_of refusal)
 
 -- the answers that a line has: no word has more syllables than values
-abbrev pub Printable : Counted → Type 0
-Printable (Count count) = count ≤ limit
-Printable (Refused refusal) = Unit {0}
+abbrev pub Printable : Result ℕ Refusal → Type 0
+Printable (Ok count) = count ≤ limit
+Printable (Err refusal) = Unit {0}
 
 -- the key of a line: that of its values, or all zeros with the refusal of the line
 pub data KeyOfLine (line : List ℕ) (key : Key) : Type 0 where

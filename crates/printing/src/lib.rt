@@ -12,7 +12,7 @@ use collation::key::{Key, key_of};
 use formula::Word;
 use key_text::{put, put_decimal, put_key};
 use lines::decode;
-use refusals::{Counted, Refusal};
+use refusals::Refusal;
 
 // The key of the word of a line, or why the line or the word is refused.
 fn answer_line(line: &[u8]) -> Key
@@ -20,9 +20,9 @@ fn answer_line(line: &[u8]) -> Key
 {
     let decoded = decode(line);
     let answer = decoded.answer;
-    if let Counted::Refused(refusal) = answer {
+    if let Err(refusal) = answer {
         return Key {
-            answer: Counted::Refused(refusal),
+            answer: Err(refusal),
             bytes: [0; Word::KEY],
         };
     }
@@ -33,12 +33,12 @@ fn answer_line(line: &[u8]) -> Key
 }
 
 // The refusal of an answer that is one.
-fn refusal_in(answer: Counted) -> Refusal
+fn refusal_in(answer: Result<usize, Refusal>) -> Refusal
     ensures { result ≡ refusal_in answer }
 {
     match answer {
-        Counted::Refused(refusal) => refusal,
-        Counted::Count(_) => Refusal::NoSuchRow,
+        Err(refusal) => refusal,
+        Ok(_) => Refusal::NoSuchRow,
     }
 }
 
@@ -63,7 +63,7 @@ pub fn put_word(out: &mut [u8], at: usize, line: &[u8]) -> usize
     let key = answer_line(line);
     let answer = key.answer;
     let bytes = key.bytes;
-    let Counted::Count(count) = answer else {
+    let Ok(count) = answer else {
         return put_refused(out, at, refusal_in(answer));
     };
     put_accepted(out, at, count, &bytes)

@@ -17,7 +17,9 @@ use Rattle.letters.specs.Choice.{pick}
 use Rattle.formula.specs.Syllable.{Final, no_final, final_of, part}
 use Rattle.formula.specs.Row.{Row, join_after, parts_after, parts}
 use Rattle.refusals.specs.Outcome.{reply_outcome}
+use Rattle.std.specs.declared.result.Result.{Result}
 use Rattle.refusals.specs.declared.Reply.{Reply}
+use Rattle.refusals.specs.declared.Refusal.{Refusal}
 use Rattle.refusals.specs.declared.Reply.TheVariants.{One, Two, Nothing, Refused}
 use Rattle.refusals.specs.contracts.Reply.{the_type}
 use Rattle.rows.specs.Machine.{end_of, kept_join}
@@ -173,7 +175,7 @@ pub part_refused : (word : List ℕ) (k number place : ℕ) → RefusedWith word
 part_refused word k number place w = record { has = λ a row g. absurd (refused_no_row word number place w a row g); refused = λ _. refl }
 
 -- an answer that is told by its tag to be other than a place and a length
-pub part_none : (word : List ℕ) (k : ℕ) (answer : Reply) → OneOf (0 ∷ 2 ∷ 3 ∷ []) (tag_of the_type answer) → PartAnswers word k (reply_outcome answer)
+pub part_none : (word : List ℕ) (k : ℕ) (answer : Result Reply Refusal) → OneOf (0 ∷ 2 ∷ 3 ∷ []) (tag_of the_type answer) → PartAnswers word k (reply_outcome answer)
     → PartRight word k []
 part_none word k (One n) other a = absurd a
 part_none word k Nothing other a = part_beyond word k a

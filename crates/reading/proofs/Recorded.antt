@@ -14,8 +14,9 @@ use Rattle.formula.specs.Row.{Row, is_row_after, Gives}
 use Rattle.formula.specs.Record.{record_of}
 use Rattle.formula.specs.Packed.{packed}
 use Rattle.refusals.specs.Outcome.{outcome_of}
-use Rattle.refusals.specs.declared.Counted.{Counted}
-use Rattle.refusals.specs.declared.Counted.TheVariants.{Count}
+use Rattle.std.specs.declared.result.Result.{Result}
+use Rattle.refusals.specs.declared.Refusal.{Refusal}
+use Rattle.std.specs.declared.result.Result.TheVariants.{Ok}
 use Rattle.rows.proofs.Complete.{first}
 use Rattle.syllables.proofs.Parted.{parted}
 use Rattle.recogniser.specs.Answer.{Reads, Answers}
@@ -37,12 +38,12 @@ bytes_at f (s ∷ row) t rest zero d h = bytes_packed s (first f s row t).is
 bytes_at f (s ∷ row) t rest (suc k) d h = bytes_at (final_of s) row (first f s row t).rest rest k d (le_of_suc-le-suc h)
 
 -- what is known of a reading that has n syllables
-module _ (word : List ℕ) (reading : Reading) (right : ReadRight word reading) (n : ℕ) (e : reading.answer ≡ Count n) where
+module _ (word : List ℕ) (reading : Reading) (right : ReadRight word reading) (n : ℕ) (e : reading.answer ≡ Ok n) where
   pub reads : Reads word n
-  reads = subst (λ (a : Counted). Answers word (outcome_of a)) e right.answers
+  reads = subst (λ (a : Result ℕ Refusal). Answers word (outcome_of a)) e right.answers
 
   pub syllables : (row : Row) → Gives row word → reading.syllables ≡ map packed row ++ replicate (limit - n) 0
-  syllables = subst (λ (a : Counted). SyllablesFor word (outcome_of a) reading.syllables) e right.syllables
+  syllables = subst (λ (a : Result ℕ Refusal). SyllablesFor word (outcome_of a) reading.syllables) e right.syllables
 
   pub has_record : (k : ℕ) → k < n → (d : ℕ) (bytes : List ℕ) → bytes ≡ bytes_by (get_or reading.syllables k d) → HasRecord word k bytes
   has_record k h d bytes b =

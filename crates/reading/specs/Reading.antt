@@ -6,7 +6,7 @@ use Rattle.formula.specs.Row.{Row, Gives}
 use Rattle.formula.specs.Packed.{packed}
 use Rattle.refusals.specs.Outcome.{Outcome, accepts, accepts_both, absent, refuses, outcome_of}
 use Rattle.refusals.specs.declared.Refusal.{Refusal}
-use Rattle.refusals.specs.declared.Counted.TheVariants.{Refused}
+use Rattle.std.specs.declared.result.Result.TheVariants.{Err}
 use Rattle.recogniser.specs.Answer.{Answers}
 use Rattle.reading.specs.declared.read.Reading.{Reading}
 
@@ -24,4 +24,4 @@ pub record ReadRight (word : List ℕ) (reading : Reading) : Type 0 where
 
 -- a refused reading; an inner contract cites it
 abbrev pub refused_reading : Refusal → Reading
-refused_reading refusal = record { answer = Refused refusal; syllables = replicate limit 0 }
+refused_reading refusal = record { answer = Err refusal; syllables = replicate limit 0 }

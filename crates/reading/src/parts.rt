@@ -7,7 +7,7 @@ ghost use Rattle.reading.specs.Parts.{end_by, PartAnswers, PartRight};
 use formula::Word;
 use memory::casts::wide;
 use recogniser::walk::answer_at;
-use refusals::{Counted, Refusal, Reply};
+use refusals::{Refusal, Reply};
 use scanning::scan_word;
 
 // Where the syllable `number` ends: where the next one begins, or at the word's end.
@@ -23,32 +23,32 @@ fn end_of(starts: &[u8; Word::LIMIT], count: usize, number: usize, end: usize) -
 }
 
 // The place and the length of the part of the syllable `number`, from 0.
-pub fn part_place(word: &[u16], number: usize) -> Reply
+pub fn part_place(word: &[u16], number: usize) -> Result<Reply, Refusal>
     ensures { PartAnswers word.now number (reply_outcome result) }
 {
     if Word::LIMIT < word.len() {
-        return Reply::Refused(Refusal::TooLong);
+        return Err(Refusal::TooLong);
     }
     let scan = scan_word(word);
     let answer = answer_at(word, scan.at, scan.state, scan.count);
     let count = match answer {
-        Counted::Refused(refusal) => return Reply::Refused(refusal),
-        Counted::Count(count) => count,
+        Err(refusal) => return Err(refusal),
+        Ok(count) => count,
     };
     if count <= number {
-        return Reply::Nothing;
+        return Ok(Reply::Nothing);
     }
     let starts = scan.starts;
     let from = wide(starts[number]);
     let to = end_of(&starts, count, number, word.len());
-    Reply::Two(from, to - from)
+    Ok(Reply::Two(from, to - from))
 }
 
 // The part of the syllable `number`, from 0; empty where the word is refused or has no such syllable.
 pub fn part_at(word: &[u16], number: usize) -> &[u16]
     ensures { PartRight word.now number result.now }
 {
-    let Reply::Two(place, size) = part_place(word, number) else {
+    let Ok(Reply::Two(place, size)) = part_place(word, number) else {
         return &word[..0];
     };
     let end = place + size;

@@ -4,13 +4,13 @@ ghost use Rattle.reading.specs.Reading.{ReadRight, refused_reading};
 
 use formula::Word;
 use recogniser::walk::answer_at;
-use refusals::{Counted, Refusal};
+use refusals::Refusal;
 use scanning::scan_word;
 
 // A word as read. `syllables` has its syllables first, each packed in one number, and zeros behind them or with a refusal.
 #[derive(Clone, Copy)]
 pub struct Reading {
-    pub answer: Counted,
+    pub answer: Result<usize, Refusal>,
     pub syllables: [u64; Word::LIMIT],
 }
 
@@ -18,7 +18,7 @@ fn refused(refusal: Refusal) -> Reading
     ensures { result ≡ refused_reading refusal }
 {
     Reading {
-        answer: Counted::Refused(refusal),
+        answer: Err(refusal),
         syllables: [0; Word::LIMIT],
     }
 }
@@ -32,7 +32,7 @@ pub fn read(word: &[u16]) -> Reading
     }
     let scan = scan_word(word);
     let answer = answer_at(word, scan.at, scan.state, scan.count);
-    if let Counted::Refused(refusal) = answer {
+    if let Err(refusal) = answer {
         return refused(refusal);
     }
     let syllables = scan.syllables;

@@ -5,7 +5,7 @@ ghost use Rattle.reading.specs.Records.{medial_weight_by, bytes_by, without_reco
 use crate::read::read;
 use formula::Word;
 use letters::weight::weight_or;
-use refusals::{Counted, Refusal};
+use refusals::Refusal;
 use syllables::parts;
 
 #[derive(Clone, Copy)]
@@ -61,8 +61,8 @@ pub fn record_at(word: &[u16], number: usize) -> SyllableRecord
     let reading = read(word);
     let answer = reading.answer;
     match answer {
-        Counted::Refused(refusal) => without_record(RecordAnswer::Refused(refusal)),
-        Counted::Count(count) => {
+        Err(refusal) => without_record(RecordAnswer::Refused(refusal)),
+        Ok(count) => {
             if count <= number {
                 return without_record(RecordAnswer::NoSyllable);
             }

@@ -4,22 +4,22 @@ ghost use Rattle.recogniser.specs.Answer.{Answers};
 ghost use Rattle.recogniser.specs.Concluded.{Halted};
 
 use crate::foreign::foreign_from;
-use refusals::{Counted, Refusal};
+use refusals::Refusal;
 
 // The answer where a pass over the word has stopped with so many syllables, the last of which waits for a letter or not.
-pub(crate) fn answer_where(word: &[u16], at: usize, waits: bool, count: usize) -> Counted
+pub(crate) fn answer_where(word: &[u16], at: usize, waits: bool, count: usize) -> Result<usize, Refusal>
     requires { Halted word.now at waits count }
     ensures { Answers word.now (outcome_of result) }
 {
     if at < word.len() {
         let place = foreign_from(word, at);
         if place < word.len() {
-            return Counted::Refused(Refusal::Foreign(place));
+            return Err(Refusal::Foreign(place));
         }
-        return Counted::Refused(Refusal::NoContinuation(at));
+        return Err(Refusal::NoContinuation(at));
     }
     if waits {
-        return Counted::Refused(Refusal::Unfinished(at));
+        return Err(Refusal::Unfinished(at));
     }
-    Counted::Count(count)
+    Ok(count)
 }

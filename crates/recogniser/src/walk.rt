@@ -7,7 +7,7 @@ ghost use Rattle.recogniser.specs.Walked.{WalkStopped};
 
 use crate::answer::answer_where;
 use formula::Word;
-use refusals::{Counted, Refusal};
+use refusals::Refusal;
 use transitions::tables::{Rules, next, rules_of};
 
 // The state of a row whose last final waits for a letter.
@@ -41,7 +41,7 @@ pub(crate) fn walk_word(word: &[u16]) -> Walk
 }
 
 // The answer where a walk over the word has stopped.
-pub fn answer_at(word: &[u16], at: usize, state: usize, count: usize) -> Counted
+pub fn answer_at(word: &[u16], at: usize, state: usize, count: usize) -> Result<usize, Refusal>
     requires { WalkStopped word.now at state count }
     ensures { Answers word.now (outcome_of result) }
 {
@@ -49,11 +49,11 @@ pub fn answer_at(word: &[u16], at: usize, state: usize, count: usize) -> Counted
 }
 
 // The answer for a word of any values and any length.
-pub fn answer_of(word: &[u16]) -> Counted
+pub fn answer_of(word: &[u16]) -> Result<usize, Refusal>
     ensures { Answers word.now (outcome_of result) }
 {
     if Word::LIMIT < word.len() {
-        return Counted::Refused(Refusal::TooLong);
+        return Err(Refusal::TooLong);
     }
     let walk = walk_word(word);
     answer_at(word, walk.at, walk.state, walk.count)
@@ -64,7 +64,7 @@ pub fn is_row(word: &[u16]) -> bool
     ensures { RowTest word.now result }
 {
     let answer = answer_of(word);
-    let Counted::Count(_) = answer else {
+    let Ok(_) = answer else {
         return false;
     };
     true

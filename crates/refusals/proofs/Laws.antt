@@ -7,13 +7,13 @@ use Prim.Native.Nat.{ℕ}
 use lib.ListN.{get_or}
 use Rattle.refusals.specs.declared.Refusal.{Refusal}
 use Rattle.refusals.specs.declared.Refusal.TheVariants.{TooLong, Foreign, NoContinuation, Unfinished, OutputTooShort, NoSuchRow, FaultyLine, EmptyWord, NotABook, AlreadyLive, NotLive, BookFull, RankTooHigh, StopOrSign, ConfusableDigit, TooManySyllables}
-use Rattle.refusals.specs.declared.Counted.{Counted}
-use Rattle.refusals.specs.declared.Counted.TheVariants.{Count, Refused}
+use Rattle.std.specs.declared.result.Result.{Result}
+use Rattle.std.specs.declared.result.Result.TheVariants.{Ok, Err}
 use Rattle.refusals.specs.declared.Reply.{Reply}
-use Rattle.refusals.specs.declared.Reply.TheVariants as reply
+use Rattle.refusals.specs.declared.Reply.TheVariants.{One, Two, Nothing}
 use Rattle.refusals.specs.Refusal.{number_of, place_of}
-use Rattle.refusals.specs.declared.Paired.{Paired}
-use Rattle.refusals.specs.declared.Paired.TheVariants as paired
+use Rattle.refusals.specs.declared.PairRefusal.{PairRefusal}
+use Rattle.refusals.specs.declared.PairRefusal.TheVariants.{First, Second}
 use Rattle.refusals.specs.Outcome.{outcome_of, reply_outcome}
 use Rattle.refusals.specs.Pair.{pair_outcome_of}
 
@@ -50,39 +50,39 @@ pub number_place_injective : (r s : Refusal) → number_of r ≡ number_of s →
 number_place_injective r s e f = cc (refusal_of_own r, refusal_of_own s)
 
 -- counted answers with equal outcomes are equal
-pub counted_once : (a b : Counted) → outcome_of a ≡ outcome_of b → a ≡ b
-counted_once (Count n) (Count m) e = cc
-counted_once (Count n) (Refused s) e = cc
-counted_once (Refused r) (Count m) e = cc
-counted_once (Refused r) (Refused s) e = cc (number_place_injective r s (cc) (cc))
+pub counted_once : (a b : Result ℕ Refusal) → outcome_of a ≡ outcome_of b → a ≡ b
+counted_once (Ok n) (Ok m) e = cc
+counted_once (Ok n) (Err s) e = cc
+counted_once (Err r) (Ok m) e = cc
+counted_once (Err r) (Err s) e = cc (number_place_injective r s (cc) (cc))
 
 -- replies with equal outcomes are equal
-pub reply_once : (a b : Reply) → reply_outcome a ≡ reply_outcome b → a ≡ b
-reply_once (reply.One n) (reply.One m) e = cc
-reply_once (reply.One n) (reply.Two f s) e = cc
-reply_once (reply.One n) reply.Nothing e = cc
-reply_once (reply.One n) (reply.Refused r) e = cc
-reply_once (reply.Two f s) (reply.One m) e = cc
-reply_once (reply.Two f s) (reply.Two g t) e = cc
-reply_once (reply.Two f s) reply.Nothing e = cc
-reply_once (reply.Two f s) (reply.Refused r) e = cc
-reply_once reply.Nothing (reply.One m) e = cc
-reply_once reply.Nothing (reply.Two g t) e = cc
-reply_once reply.Nothing reply.Nothing e = refl
-reply_once reply.Nothing (reply.Refused r) e = cc
-reply_once (reply.Refused r) (reply.One m) e = cc
-reply_once (reply.Refused r) (reply.Two g t) e = cc
-reply_once (reply.Refused r) reply.Nothing e = cc
-reply_once (reply.Refused r) (reply.Refused s) e = cc (number_place_injective r s (cc) (cc))
+pub reply_once : (a b : Result Reply Refusal) → reply_outcome a ≡ reply_outcome b → a ≡ b
+reply_once (Ok (One n)) (Ok (One m)) e = cc
+reply_once (Ok (One n)) (Ok (Two f s)) e = cc
+reply_once (Ok (One n)) (Ok Nothing) e = cc
+reply_once (Ok (One n)) (Err r) e = cc
+reply_once (Ok (Two f s)) (Ok (One m)) e = cc
+reply_once (Ok (Two f s)) (Ok (Two g t)) e = cc
+reply_once (Ok (Two f s)) (Ok Nothing) e = cc
+reply_once (Ok (Two f s)) (Err r) e = cc
+reply_once (Ok Nothing) (Ok (One m)) e = cc
+reply_once (Ok Nothing) (Ok (Two g t)) e = cc
+reply_once (Ok Nothing) (Ok Nothing) e = refl
+reply_once (Ok Nothing) (Err r) e = cc
+reply_once (Err r) (Ok (One m)) e = cc
+reply_once (Err r) (Ok (Two g t)) e = cc
+reply_once (Err r) (Ok Nothing) e = cc
+reply_once (Err r) (Err s) e = cc (number_place_injective r s (cc) (cc))
 
 -- answers on two words with equal outcomes are equal
-pub paired_once : (a b : Paired) → pair_outcome_of a ≡ pair_outcome_of b → a ≡ b
-paired_once (paired.Told n) (paired.Told m) e = cc
-paired_once (paired.Told n) (paired.FirstRefused s) e = cc
-paired_once (paired.Told n) (paired.SecondRefused s) e = cc
-paired_once (paired.FirstRefused r) (paired.Told m) e = cc
-paired_once (paired.FirstRefused r) (paired.FirstRefused s) e = cc (number_place_injective r s (cc) (cc))
-paired_once (paired.FirstRefused r) (paired.SecondRefused s) e = cc
-paired_once (paired.SecondRefused r) (paired.Told m) e = cc
-paired_once (paired.SecondRefused r) (paired.FirstRefused s) e = cc
-paired_once (paired.SecondRefused r) (paired.SecondRefused s) e = cc (number_place_injective r s (cc) (cc))
+pub paired_once : (a b : Result ℕ PairRefusal) → pair_outcome_of a ≡ pair_outcome_of b → a ≡ b
+paired_once (Ok n) (Ok m) e = cc
+paired_once (Ok n) (Err (First s)) e = cc
+paired_once (Ok n) (Err (Second s)) e = cc
+paired_once (Err (First r)) (Ok m) e = cc
+paired_once (Err (First r)) (Err (First s)) e = cc (number_place_injective r s (cc) (cc))
+paired_once (Err (First r)) (Err (Second s)) e = cc
+paired_once (Err (Second r)) (Ok m) e = cc
+paired_once (Err (Second r)) (Err (First s)) e = cc
+paired_once (Err (Second r)) (Err (Second s)) e = cc (number_place_injective r s (cc) (cc))

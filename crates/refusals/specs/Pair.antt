@@ -1,8 +1,10 @@
 -- Document 01: "of two words, the first is tested whole, and the answer says which": what a call on two words answers.
 -- Assumes nothing.
 use Rattle.std.specs.Prelude.{List, ℕ}
-use Rattle.refusals.specs.declared.Paired.{Paired}
-use Rattle.refusals.specs.declared.Paired.TheVariants.{Told, FirstRefused, SecondRefused}
+use Rattle.std.specs.declared.result.Result.{Result}
+use Rattle.refusals.specs.declared.PairRefusal.{PairRefusal}
+use Rattle.std.specs.declared.result.Result.TheVariants.{Ok, Err}
+use Rattle.refusals.specs.declared.PairRefusal.TheVariants.{First, Second}
 use Rattle.refusals.specs.Refusal.{number_of, place_of}
 
 -- what is told of both words, or a refusal's number and place with the word that it is of
@@ -12,10 +14,10 @@ pub data PairOutcome : Type 0 where
   second_refuses : ℕ → ℕ → PairOutcome
 
 -- what an answer on two words comes to
-abbrev pub pair_outcome_of : Paired → PairOutcome
-pair_outcome_of (Told n) = tells n
-pair_outcome_of (FirstRefused refusal) = first_refuses (number_of refusal) (place_of refusal)
-pair_outcome_of (SecondRefused refusal) = second_refuses (number_of refusal) (place_of refusal)
+abbrev pub pair_outcome_of : Result ℕ PairRefusal → PairOutcome
+pair_outcome_of (Ok n) = tells n
+pair_outcome_of (Err (First refusal)) = first_refuses (number_of refusal) (place_of refusal)
+pair_outcome_of (Err (Second refusal)) = second_refuses (number_of refusal) (place_of refusal)
 
 -- by the tests that a word passes with so many syllables, or is refused by, and by what is told of two words that pass them
 module _ (Passes : List ℕ → ℕ → Type 0) (Refuses : List ℕ → ℕ → ℕ → Type 0) (Tells : List ℕ → List ℕ → ℕ → Type 0) where

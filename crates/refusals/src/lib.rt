@@ -77,26 +77,17 @@ impl Refusal {
     }
 }
 
-// A number that a call tells, or why it is refused.
-#[derive(Clone, Copy)]
-pub enum Counted {
-    Count(usize),
-    Refused(Refusal),
-}
-
-// What a call replies: one number, two numbers, that there is nothing of the number asked for, or why it is refused.
+// What a call replies that is not refused: one number, two numbers, or that there is nothing of the number asked for.
 #[derive(Clone, Copy)]
 pub enum Reply {
     One(usize),
     Two(usize, usize),
     Nothing,
-    Refused(Refusal),
 }
 
-// What a call on two words answers: a number that it tells of both, or which of them is refused and why.
+// Which of two words is refused, and why.
 #[derive(Clone, Copy)]
-pub enum Paired {
-    Told(usize),
-    FirstRefused(Refusal),
-    SecondRefused(Refusal),
+pub enum PairRefusal {
+    First(Refusal),
+    Second(Refusal),
 }

@@ -6,8 +6,8 @@ use mathlib.Core.List.{List}
 use Prim.Native.Nat.{ℕ}
 use native.Mathlib.Omega.{arith}
 use Rattle.weighing.specs.Order.{Filed, order}
-use Rattle.weighing.specs.declared.order.Order.{Order}
-use Rattle.weighing.specs.declared.order.Order.TheVariants.{Less, Equal, Greater}
+use Rattle.std.specs.declared.cmp.Ordering.{Ordering}
+use Rattle.std.specs.declared.cmp.Ordering.TheVariants.{Less, Equal, Greater}
 use Rattle.weighing.proofs.Lexicographic.{opposite}
 use Rattle.weighing.proofs.Laws.{words_are_ordered}
 use Rattle.entries.specs.Entries.{entry_at}
@@ -17,7 +17,7 @@ use Rattle.sorting.specs.Sorting.{goes_before}
 pub true_not_false : {A : Type 0} → true ≡ false → A
 true_not_false e = let z : ◌≡◌ {A = ℕ} 0 1 = cc in let n : ⊥ = omega arith in absurd n
 
-less_is : (o : Order) → is_less o ≡ true → o ≡ Less
+less_is : (o : Ordering) → is_less o ≡ true → o ≡ Less
 less_is Less e = refl
 less_is Equal e = true_not_false (sym e)
 less_is Greater e = true_not_false (sym e)
@@ -29,7 +29,7 @@ filed_transitive x y z p q = ap is_less (words_are_ordered.transitive x y z (les
 filed_level : (x y z : Filed) → is_less (order x y) ≡ false → is_less (order y z) ≡ false → is_less (order x z) ≡ false
 filed_level x y z p q = go (order x z) refl (order x y) refl
   where
-    go : (o : Order) → order x z ≡ o → (u : Order) → order x y ≡ u → is_less (order x z) ≡ false
+    go : (o : Ordering) → order x z ≡ o → (u : Ordering) → order x y ≡ u → is_less (order x z) ≡ false
     go Equal e u d = ap is_less e
     go Greater e u d = ap is_less e
     go Less e Less d = true_not_false (sym (ap is_less d) ∙ p)

@@ -8,10 +8,10 @@ use crate::merging::sort_front;
 use book_fitting::keep_fitting;
 use book_keys::{KEY_ROOM, MOST_LIVE, file_records};
 use memory::copies::put_values;
-use refusals::{Counted, Refusal};
+use refusals::Refusal;
 
 // Puts the starts of the live records whose weights begin with these, in word order, at the front of `starts`, where there is room for them.
-pub fn sort_records(book: &[u8], free: usize, prefix: &[u8], starts: &mut [u16]) -> Counted
+pub fn sort_records(book: &[u8], free: usize, prefix: &[u8], starts: &mut [u16]) -> Result<usize, Refusal>
     requires { Opened book.now free }
     ensures { PutsPassing book.now (fits_key prefix.now) starts.old starts.new (outcome_of result) }
 {
@@ -20,9 +20,9 @@ pub fn sort_records(book: &[u8], free: usize, prefix: &[u8], starts: &mut [u16])
     let live = file_records(book, free, &mut keys, &mut found);
     let count = keep_fitting(&keys, prefix, &mut found[..live]);
     if starts.len() < count {
-        return Counted::Refused(Refusal::OutputTooShort(count));
+        return Err(Refusal::OutputTooShort(count));
     }
     put_values(&found[..count], starts, 0);
     sort_front(book, &keys, starts, count, &mut found);
-    Counted::Count(count)
+    Ok(count)
 }

@@ -14,8 +14,8 @@ use Rattle.formula.specs.Spelled.{spelled}
 use Rattle.refusals.specs.Refusal.{number_of, place_of}
 use Rattle.refusals.specs.Outcome.{outcome_of, accepts_both, refuses}
 use Rattle.refusals.specs.declared.Refusal.{Refusal}
-use Rattle.refusals.specs.declared.Counted.{Counted}
-use Rattle.refusals.specs.declared.Counted.TheVariants.{Count, Refused}
+use Rattle.std.specs.declared.result.Result.{Result}
+use Rattle.std.specs.declared.result.Result.TheVariants.{Ok, Err}
 use Rattle.recogniser.specs.Answer.{Reads, Answers}
 use Rattle.reading.specs.Reading.{ReadRight}
 use Rattle.reading.specs.declared.read.Reading.{Reading}
@@ -32,12 +32,12 @@ spelled_count [] = refl
 spelled_count (s ∷ row) = ap suc (spelled_count row)
 
 -- a reading that refuses the word
-pub spell_refused : (word : List ℕ) (reading : Reading) → ReadRight word reading → (refusal : Refusal) → reading.answer ≡ Refused refusal → (lent : Lists)
+pub spell_refused : (word : List ℕ) (reading : Reading) → ReadRight word reading → (refusal : Refusal) → reading.answer ≡ Err refusal → (lent : Lists)
     → SpellRight word lent lent (refuses (number_of refusal) (place_of refusal))
-spell_refused word reading right refusal e lent = word_refused (subst (λ (a : Counted). Answers word (outcome_of a)) e right.answers) refl
+spell_refused word reading right refusal e lent = word_refused (subst (λ (a : Result ℕ Refusal). Answers word (outcome_of a)) e right.answers) refl
 
 -- what is known of a reading that has n syllables
-module _ (word : List ℕ) (reading : Reading) (right : ReadRight word reading) (n : ℕ) (e : reading.answer ≡ Count n) where
+module _ (word : List ℕ) (reading : Reading) (right : ReadRight word reading) (n : ℕ) (e : reading.answer ≡ Ok n) where
   read_row : Reads word n
   read_row = reads word reading right n e
 

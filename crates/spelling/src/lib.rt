@@ -10,7 +10,7 @@ ghost use Rattle.spelling.specs.Put.{SpelledSize, SyllableRoom, SyllablePut, Roo
 ghost use Rattle.spelling.specs.Spell.{lists, SpellRight};
 
 use formula::Word;
-use refusals::{Counted, Refusal, Reply};
+use refusals::{Refusal, Reply};
 
 // The link of a final that is spelled: plain, where there is one.
 fn plain_link(link: u8) -> u8
@@ -72,24 +72,24 @@ fn put(syllables: &[u64; Word::LIMIT], count: usize, values: &mut [u16], starts:
 
 // Writes a word's spelled syllables to the front of `values`, and the place there where each begins to the front of `starts`;
 // tells how many of each were written.
-pub fn spell(word: &[u16], values: &mut [u16], starts: &mut [u16]) -> Reply
+pub fn spell(word: &[u16], values: &mut [u16], starts: &mut [u16]) -> Result<Reply, Refusal>
     ensures { SpellRight word.now (lists values.old starts.old) (lists values.new starts.new) (reply_outcome result) }
 {
     let reading = reading::read::read(word);
     let answer = reading.answer;
     match answer {
-        Counted::Refused(refusal) => Reply::Refused(refusal),
-        Counted::Count(count) => {
+        Err(refusal) => Err(refusal),
+        Ok(count) => {
             let syllables = reading.syllables;
             let size = measure(&syllables, count);
             if values.len() < size {
-                return Reply::Refused(Refusal::OutputTooShort(size));
+                return Err(Refusal::OutputTooShort(size));
             }
             if starts.len() < count {
-                return Reply::Refused(Refusal::OutputTooShort(count));
+                return Err(Refusal::OutputTooShort(count));
             }
             put(&syllables, count, values, starts);
-            Reply::Two(size, count)
+            Ok(Reply::Two(size, count))
         }
     }
 }

@@ -9,7 +9,7 @@ use book_check::open::{Opening, open_book};
 use book_frame::{HEAD, has_mark};
 use memory::casts::wide;
 use memory::copies::{clear, move_down};
-use refusals::{Counted, Refusal};
+use refusals::Refusal;
 
 // Moves the live records of a book down to its front, in the order of their starts, and gives the place behind them.
 fn close_gaps(book: &mut [u8], free: usize) -> usize
@@ -40,14 +40,14 @@ pub fn tidy_records(book: &mut [u8], free: usize) -> usize
 }
 
 // Tidies a buffer that is a book, and gives its live length.
-pub fn tidy(book: &mut [u8]) -> Counted
+pub fn tidy(book: &mut [u8]) -> Result<usize, Refusal>
     ensures { TidyRight book.old book.new (outcome_of result) }
 {
     match open_book(book) {
         Opening::Book { live: _, free } => {
             let length = tidy_records(book, free);
-            Counted::Count(length)
+            Ok(length)
         }
-        Opening::Wrong(place) => Counted::Refused(Refusal::NotABook(place)),
+        Opening::Wrong(place) => Err(Refusal::NotABook(place)),
     }
 }

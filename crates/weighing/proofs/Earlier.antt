@@ -15,7 +15,7 @@ use Rattle.formula.specs.Earlier.{Edition, base, independent_finals, is_single, 
 use Rattle.formula.proofs.Weighing.{final_weighs}
 use Rattle.formula.proofs.Lists.{every, same_list, is_prefix_of_lists, both, both_left, both_right}
 use Rattle.weighing.specs.Order.{in_turn, order_values, order_weights, filed, order}
-use Rattle.weighing.specs.declared.order.Order.{Order}
+use Rattle.std.specs.declared.cmp.Ordering.{Ordering}
 use Rattle.weighing.specs.Prefix.{begins_with}
 use Rattle.weighing.specs.Earlier.{filed_by_five}
 use Rattle.weighing.proofs.OrderOfNumbers.{equal_numbers}
@@ -85,7 +85,7 @@ module _ (edition : Edition) (r s : Row) (i : IsRowIn edition r) (j : IsRowIn ed
   -- so words of theirs stand as they stood
   pub earlier_order : (x y : List ℕ) → order (filed_by_five r x) (filed_by_five s y) ≡ order (filed r x) (filed s y)
   unfolding order
-  earlier_order x y = ap (λ (o : Order). in_turn o (order_values x y)) earlier_weights
+  earlier_order x y = ap (λ (o : Ordering). in_turn o (order_values x y)) earlier_weights
 
   -- and one begins with the other as it did
   pub earlier_begins : is_prefix_of_lists (five_weights s) (five_weights r) ≡ begins_with r s

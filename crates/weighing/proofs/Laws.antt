@@ -12,7 +12,7 @@ use Rattle.formula.specs.Syllable.{Final, plain, plain_pair, syllable}
 use Rattle.formula.specs.Row.{Row}
 use Rattle.formula.specs.Weighing.{final_weight_of, second_final_weight_of, weights_of, weights}
 use Rattle.weighing.specs.Order.{order_numbers, in_turn, lexicographic, order_values, order_weights, Filed, order}
-use Rattle.weighing.specs.declared.order.Order.TheVariants.{Less}
+use Rattle.std.specs.declared.cmp.Ordering.TheVariants.{Less}
 use Rattle.weighing.specs.Keys.{used_bytes, key_limit, zeros, key_of, key_bytes}
 use Rattle.weighing.proofs.Lexicographic.{IsOrder, lexicographic_is_order, in_turn_is_order, over_append}
 use Rattle.weighing.proofs.OrderOfNumbers.{less_numbers, numbers_are_ordered}

@@ -7,16 +7,16 @@ use Prim.Native.Nat.{ℕ}
 use native.Mathlib.Omega.{arith}
 use lib.ListN.{length}
 use Rattle.weighing.specs.Order.{in_turn, lexicographic}
-use Rattle.weighing.specs.declared.order.Order.{Order}
-use Rattle.weighing.specs.declared.order.Order.TheVariants.{Less, Equal, Greater}
+use Rattle.std.specs.declared.cmp.Ordering.{Ordering}
+use Rattle.std.specs.declared.cmp.Ordering.TheVariants.{Less, Equal, Greater}
 
-abbrev pub opposite : Order → Order
+abbrev pub opposite : Ordering → Ordering
 opposite Less = Greater
 opposite Equal = Equal
 opposite Greater = Less
 
 -- a strict total order, by a function that answers which of the three holds
-pub record IsOrder (A : Type 0) (f : A → A → Order) : Type 0 where
+pub record IsOrder (A : Type 0) (f : A → A → Ordering) : Type 0 where
   pub alike : (a : A) → f a a ≡ Equal
   pub identical : (a b : A) → f a b ≡ Equal → a ≡ b
   pub turned : (a b : A) → f b a ≡ opposite (f a b)
@@ -32,28 +32,28 @@ pub less_not_greater : {A : Type 0} → Less ≡ Greater → A
 less_not_greater e = let z : ◌≡◌ {A = ℕ} 0 1 = cc in let n : ⊥ = omega arith in absurd n
 
 -- how two comparisons in turn come out
-pub in_turn_equal : (o p : Order) → in_turn o p ≡ Equal → (o ≡ Equal) × (p ≡ Equal)
+pub in_turn_equal : (o p : Ordering) → in_turn o p ≡ Equal → (o ≡ Equal) × (p ≡ Equal)
 in_turn_equal Less p e = less_not_equal e
 in_turn_equal Equal p e = (refl, e)
 in_turn_equal Greater p e = greater_not_equal e
 
-pub in_turn_less : (o p : Order) → in_turn o p ≡ Less → (o ≡ Less) ⊎ ((o ≡ Equal) × (p ≡ Less))
+pub in_turn_less : (o p : Ordering) → in_turn o p ≡ Less → (o ≡ Less) ⊎ ((o ≡ Equal) × (p ≡ Less))
 in_turn_less Less p e = inl refl
 in_turn_less Equal p e = inr (refl, e)
 in_turn_less Greater p e = less_not_greater (sym e)
 
-pub in_turn_turned : (o p : Order) → in_turn (opposite o) (opposite p) ≡ opposite (in_turn o p)
+pub in_turn_turned : (o p : Ordering) → in_turn (opposite o) (opposite p) ≡ opposite (in_turn o p)
 in_turn_turned Less p = refl
 in_turn_turned Equal p = refl
 in_turn_turned Greater p = refl
 
-pub in_turn_again : (o p q : Order) → in_turn (in_turn o p) q ≡ in_turn o (in_turn p q)
+pub in_turn_again : (o p q : Ordering) → in_turn (in_turn o p) q ≡ in_turn o (in_turn p q)
 in_turn_again Less p q = refl
 in_turn_again Equal p q = refl
 in_turn_again Greater p q = refl
 
 -- transitive steps in two comparisons in turn
-pub in_turn_transitive : {A B : Type 0} (f : A → A → Order) (g : B → B → Order) → IsOrder A f → (a b c : A) (x y z : B)
+pub in_turn_transitive : {A B : Type 0} (f : A → A → Ordering) (g : B → B → Ordering) → IsOrder A f → (a b c : A) (x y z : B)
     → (g x y ≡ Less → g y z ≡ Less → g x z ≡ Less)
     → in_turn (f a b) (g x y) ≡ Less → in_turn (f b c) (g y z) ≡ Less → in_turn (f a c) (g x z) ≡ Less
 in_turn_transitive {A = A} f g o a b c x y z next p q = go (in_turn_less (f a b) (g x y) p) (in_turn_less (f b c) (g y z) q)
@@ -65,7 +65,7 @@ in_turn_transitive {A = A} f g o a b c x y z next p q = go (in_turn_less (f a b)
     go (inr l) (inl m) = rw (ap (λ (u : A). f u c) (o.identical a b l.0) ∙ m)
     go (inr l) (inr m) = rw (ap (λ (u : A). f u c) (o.identical a b l.0) ∙ m.0) (next l.1 m.1)
 
-module _ {A : Type 0} (f : A → A → Order) (o : IsOrder A f) where
+module _ {A : Type 0} (f : A → A → Ordering) (o : IsOrder A f) where
   alike : (xs : List A) → lexicographic f xs xs ≡ Equal
   alike [] = refl
   alike (x ∷ xs) = rw (o.alike x) (alike xs)
@@ -103,7 +103,7 @@ module _ {A : Type 0} (f : A → A → Order) (o : IsOrder A f) where
       }
 
 -- two orders in turn are an order of the pairs, here of what two functions take from a value
-pub in_turn_is_order : {A B C : Type 0} (f : A → A → Order) (g : B → B → Order) (a : C → A) (b : C → B) → IsOrder A f → IsOrder B g
+pub in_turn_is_order : {A B C : Type 0} (f : A → A → Ordering) (g : B → B → Ordering) (a : C → A) (b : C → B) → IsOrder A f → IsOrder B g
     → ((x y : C) → a x ≡ a y → b x ≡ b y → x ≡ y) → IsOrder C (λ x y. in_turn (f (a x) (a y)) (g (b x) (b y)))
 in_turn_is_order f g a b o p pair =
     record {
@@ -116,7 +116,7 @@ in_turn_is_order f g a b o p pair =
     }
 
 -- lists of one length before others decide first
-pub over_append : {A : Type 0} (f : A → A → Order) (xs ys us vs : List A) → length xs ≡ length ys
+pub over_append : {A : Type 0} (f : A → A → Ordering) (xs ys us vs : List A) → length xs ≡ length ys
     → lexicographic f (xs ++ us) (ys ++ vs) ≡ in_turn (lexicographic f xs ys) (lexicographic f us vs)
 over_append f [] [] us vs e = refl
 over_append f [] (y ∷ ys) us vs e = let z : ⊥ = omega arith in absurd z

@@ -5,3 +5,4 @@ pub mod Front
 pub mod Laws
 pub mod Prefix
 pub mod Earlier
+pub mod Library

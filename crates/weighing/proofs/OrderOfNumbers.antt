@@ -7,7 +7,7 @@ use native.Mathlib.Omega.{arith}
 use borrow.Author.Tests.{lt-ltb, le-ltb, eq-eqb, ne_eqb}
 use Rattle.letters.specs.Choice.{pick}
 use Rattle.weighing.specs.Order.{order_numbers}
-use Rattle.weighing.specs.declared.order.Order.TheVariants.{Less, Equal, Greater}
+use Rattle.std.specs.declared.cmp.Ordering.TheVariants.{Less, Equal, Greater}
 use Rattle.weighing.proofs.Lexicographic.{opposite, IsOrder, less_not_equal, less_not_greater, greater_not_equal}
 
 -- the three cases of two numbers

@@ -10,13 +10,13 @@ use types.Run.{OneOf}
 use denote.Enum.Declared.{tag_of}
 use lib.ListN.{length, get_or, drop, length-drop}
 use Rattle.weighing.specs.Order.{order_numbers, in_turn, lexicographic}
-use Rattle.weighing.specs.declared.order.Order.{Order}
-use Rattle.weighing.specs.declared.order.Order.TheVariants.{Less, Equal, Greater}
-use Rattle.weighing.specs.contracts.order.Order.{the_type}
+use Rattle.std.specs.declared.cmp.Ordering.{Ordering}
+use Rattle.std.specs.declared.cmp.Ordering.TheVariants.{Less, Equal, Greater}
+use Rattle.std.specs.contracts.cmp.Ordering.{the_type}
 use Rattle.weighing.proofs.OrderOfNumbers.{Stand, below, level, above, stand, less_numbers, equal_numbers, greater_numbers}
 
 -- the elements before `at` are equal, so the order is that of what is left
-pub record AlikeTo {A : Type 0} (f : A → A → Order) (xs ys : List A) (at : ℕ) : Type 0 where
+pub record AlikeTo {A : Type 0} (f : A → A → Ordering) (xs ys : List A) (at : ℕ) : Type 0 where
   pub in_first : at ≤ length xs
   pub in_second : at ≤ length ys
   pub rest : lexicographic f xs ys ≡ lexicographic f (drop at xs) (drop at ys)
@@ -31,13 +31,13 @@ less_of_both m n k h i = go (stand m n)
     go (above l o) = greater_numbers (m - k) (n - k) (omega arith) ∙ sym o
 
 -- the first comparison decides where it is not equal: by its tag, as code tests it
-pub decided : (o p : Order) → OneOf (0 ∷ 2 ∷ []) (tag_of the_type o) → in_turn o p ≡ o
+pub decided : (o p : Ordering) → OneOf (0 ∷ 2 ∷ []) (tag_of the_type o) → in_turn o p ≡ o
 decided Less p t = refl
 decided Equal p (inl t) = let z : ⊥ = omega arith in absurd z
 decided Equal p (inr t) = let z : ⊥ = omega arith in absurd z
 decided Greater p t = refl
 
-module _ {A : Type 0} (f : A → A → Order) where
+module _ {A : Type 0} (f : A → A → Ordering) where
   pub step_by : (xs ys : List A) (at : ℕ) (d : A) → at < length xs → at < length ys
       → lexicographic f (drop at xs) (drop at ys) ≡ in_turn (f (get_or xs at d) (get_or ys at d)) (lexicographic f (drop (suc at) xs) (drop (suc at) ys))
   step_by [] ys at d h k = absurd (not-suc-le-zero h)
@@ -64,15 +64,15 @@ module _ {A : Type 0} (f : A → A → Order) where
           in_first = omega arith;
           in_second = omega arith;
           rest =
-              a.rest ∙ step_by xs ys at d h k ∙ ap (λ (o : Order). in_turn o (lexicographic f (drop (suc at) xs) (drop (suc at) ys))) e
+              a.rest ∙ step_by xs ys at d h k ∙ ap (λ (o : Ordering). in_turn o (lexicographic f (drop (suc at) xs) (drop (suc at) ys))) e
               ∙ ap (λ (n : ℕ). lexicographic f (drop n xs) (drop n ys)) (sym (add-one at));
         }
 
     pub differs : (at : ℕ) (d : A) → AlikeTo f xs ys at → at < length xs → at < length ys
-        → (o : Order) → o ≡ f (get_or xs at d) (get_or ys at d) → OneOf (0 ∷ 2 ∷ []) (tag_of the_type o) → o ≡ lexicographic f xs ys
+        → (o : Ordering) → o ≡ f (get_or xs at d) (get_or ys at d) → OneOf (0 ∷ 2 ∷ []) (tag_of the_type o) → o ≡ lexicographic f xs ys
     differs at d a h k o e t =
         sym
-        (a.rest ∙ step_by xs ys at d h k ∙ ap (λ (p : Order). in_turn p (lexicographic f (drop (suc at) xs) (drop (suc at) ys))) (sym e)
+        (a.rest ∙ step_by xs ys at d h k ∙ ap (λ (p : Ordering). in_turn p (lexicographic f (drop (suc at) xs) (drop (suc at) ys))) (sym e)
         ∙ decided o (lexicographic f (drop (suc at) xs) (drop (suc at) ys)) t)
 
     pub ended : (at : ℕ) → AlikeTo f xs ys at → (length xs ≤ at) ⊎ (length ys ≤ at) → order_numbers (length xs) (length ys) ≡ lexicographic f xs ys

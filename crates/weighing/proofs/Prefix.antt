@@ -14,8 +14,8 @@ use Rattle.formula.specs.Row.{Row}
 use Rattle.formula.specs.Weighing.{final_weight_of, second_final_weight_of, weights_of, weights}
 use Rattle.formula.proofs.Lists.{same_list, is_prefix, is_prefix_of_lists, prefix_append, begins_append, prefix_rest, prefix_transitive, same_list_equal, same_list_refl}
 use Rattle.weighing.specs.Order.{order_numbers, in_turn, order_values}
-use Rattle.weighing.specs.declared.order.Order.{Order}
-use Rattle.weighing.specs.declared.order.Order.TheVariants.{Less, Equal, Greater}
+use Rattle.std.specs.declared.cmp.Ordering.{Ordering}
+use Rattle.std.specs.declared.cmp.Ordering.TheVariants.{Less, Equal, Greater}
 use Rattle.weighing.specs.Keys.{key_of}
 use Rattle.weighing.specs.Prefix.{begins_with}
 use Rattle.weighing.proofs.OrderOfNumbers.{Stand, below, level, above, stand}
@@ -30,7 +30,7 @@ key_prefix (syllable h m v f t ∷ query) (syllable i n w g u ∷ row) =
     let second = weights_of (syllable i n w g u) in
     prefix_append eqb first second (key_of query) (key_of row) refl ∙ ap (λ (b : Bool). same_list first second && b) (key_prefix query row)
 
-abbrev pub is_equal : Order → Bool
+abbrev pub is_equal : Ordering → Bool
 is_equal Less = false
 is_equal Equal = true
 is_equal Greater = false
@@ -42,13 +42,13 @@ prefix_compared [] ys = refl
 prefix_compared (x ∷ xs) [] = refl
 prefix_compared (x ∷ xs) (y ∷ ys) = go (order_values (take (length xs) ys) xs) (stand y x) (prefix_compared xs ys)
   where
-    go : (later : Order) → Stand y x → is_equal later ≡ is_prefix xs ys → is_equal (in_turn (order_numbers y x) later) ≡ eqb x y && is_prefix xs ys
+    go : (later : Ordering) → Stand y x → is_equal later ≡ is_prefix xs ys → is_equal (in_turn (order_numbers y x) later) ≡ eqb x y && is_prefix xs ys
     go later (below h o) e =
-        ap (λ (p : Order). is_equal (in_turn p later)) o ∙ sym (ap (λ (b : Bool). b && is_prefix xs ys) (ne_eqb x y (λ s. omega arith)))
+        ap (λ (p : Ordering). is_equal (in_turn p later)) o ∙ sym (ap (λ (b : Bool). b && is_prefix xs ys) (ne_eqb x y (λ s. omega arith)))
     go later (level h o) e =
-        ap (λ (p : Order). is_equal (in_turn p later)) o ∙ e ∙ sym (ap (λ (b : Bool). b && is_prefix xs ys) (eq-eqb x y (sym h)))
+        ap (λ (p : Ordering). is_equal (in_turn p later)) o ∙ e ∙ sym (ap (λ (b : Bool). b && is_prefix xs ys) (eq-eqb x y (sym h)))
     go later (above h o) e =
-        ap (λ (p : Order). is_equal (in_turn p later)) o ∙ sym (ap (λ (b : Bool). b && is_prefix xs ys) (ne_eqb x y (λ s. omega arith)))
+        ap (λ (p : Ordering). is_equal (in_turn p later)) o ∙ sym (ap (λ (b : Bool). b && is_prefix xs ys) (ne_eqb x y (λ s. omega arith)))
 
 -- and not with a longer one
 pub prefix_short : (xs ys : List ℕ) → length ys < length xs → is_prefix xs ys ≡ false

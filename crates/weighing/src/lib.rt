@@ -1,4 +1,2 @@
-// The order of lists of numbers.
+// The order of lists of numbers, which the standard library's `cmp` tells. There is no code: specs/ and proofs/ hold what the floors above cite.
 #![tactic(auto)]
-
-pub mod order; // order.rt: lists of numbers in order

@@ -5,7 +5,8 @@ use mathlib.Core.List.{List}
 use Prim.Native.Nat.{ℕ}
 use native.Mathlib.Omega.{arith}
 use Rattle.refusals.specs.Outcome.{Outcome, refuses, outcome_of, reply_outcome}
-use Rattle.refusals.specs.declared.Counted.{Counted}
+use Rattle.std.specs.declared.result.Result.{Result}
+use Rattle.refusals.specs.declared.Refusal.{Refusal}
 use Rattle.refusals.specs.declared.Reply.{Reply}
 use Rattle.refusals.proofs.Laws.{counted_once, reply_once}
 use Rattle.refusals.proofs.Determined.{Same}
@@ -34,17 +35,17 @@ module _ (word : List ℕ) where
   call_alike answer first second (word_stored t) (word_stored u) = refl
 
 module _ (book : List ℕ) where
-  pub check_determined : (a b : Counted) → outcome_of a ≡ check_of (entries book) → outcome_of b ≡ check_of (entries book) → a ≡ b
+  pub check_determined : (a b : Result ℕ Refusal) → outcome_of a ≡ check_of (entries book) → outcome_of b ≡ check_of (entries book) → a ≡ b
   check_determined a b e f = counted_once a b (e ∙ sym f)
 
-  pub rank_determined : (number : ℕ) (a b : Reply) → reply_outcome a ≡ rank_of (entries book) number → reply_outcome b ≡ rank_of (entries book) number → a ≡ b
+  pub rank_determined : (number : ℕ) (a b : Result Reply Refusal) → reply_outcome a ≡ rank_of (entries book) number → reply_outcome b ≡ rank_of (entries book) number → a ≡ b
   rank_determined number a b e f = reply_once a b (e ∙ sym f)
 
-  pub find_determined : (word : List ℕ) (a b : Reply) → CallAnswers word (find_of (entries book) (stored_form word)) (reply_outcome a)
+  pub find_determined : (word : List ℕ) (a b : Result Reply Refusal) → CallAnswers word (find_of (entries book) (stored_form word)) (reply_outcome a)
       → CallAnswers word (find_of (entries book) (stored_form word)) (reply_outcome b) → a ≡ b
   find_determined word a b c d = reply_once a b (call_alike word (find_of (entries book) (stored_form word)) (reply_outcome a) (reply_outcome b) c d)
 
-pub tidy_determined : (before after final : List ℕ) (first second : Counted) → TidyRight before after (outcome_of first) → TidyRight before final (outcome_of second)
+pub tidy_determined : (before after final : List ℕ) (first second : Result ℕ Refusal) → TidyRight before after (outcome_of first) → TidyRight before final (outcome_of second)
     → (first ≡ second) × (after ≡ final)
 tidy_determined before after final first second p q = (counted_once first second (p.answer ∙ sym q.answer), p.bytes ∙ sym q.bytes)
 

@@ -7,7 +7,9 @@ use Prim.Native.Nat.{ℕ, ◌<◌}
 use lib.Dec.{eqb}
 use lib.ListN.{length}
 use Rattle.refusals.specs.Outcome.{Outcome, accepts_both, refuses, reply_outcome}
+use Rattle.std.specs.declared.result.Result.{Result}
 use Rattle.refusals.specs.declared.Reply.{Reply}
+use Rattle.refusals.specs.declared.Refusal.{Refusal}
 use Rattle.refusals.proofs.Laws.{reply_once}
 use Rattle.storage.specs.Stored.{stored_form}
 use Rattle.entries.specs.Entries.{Entry, Entries, book, entries}
@@ -43,7 +45,7 @@ module _ (word : List ℕ) (stock : ℕ) (bytes shown : List ℕ) (preview : Pre
   )
 
   -- "The preview gives the answer that add gives on a copy of the book, refusal and place included", and start and tidying are those of that add
-  pub preview_equals_add : (copy after : List ℕ) (reply : Reply) → copy ≡ bytes → AddPromise word stock copy after (reply_outcome reply)
+  pub preview_equals_add : (copy after : List ℕ) (reply : Result Reply Refusal) → copy ≡ bytes → AddPromise word stock copy after (reply_outcome reply)
       → (preview.answer ≡ reply) × (preview.start ≡ start_of (reply_outcome reply)) × (preview.tidies ≡ tidies_of (reply_outcome reply)) × (shown ≡ bytes)
   preview_equals_add copy after reply same q =
       let answer : reply_outcome preview.answer ≡ reply_outcome reply =
@@ -86,7 +88,7 @@ module _ (word : List ℕ) (stock : ℕ) (bytes shown : List ℕ) (preview : Pre
           (stored_answer word _ (accepts_both start tidies) stored accepted ∙ ap (λ (x : Entries). add_of x (length bytes) (stored_form word)) is)
 
       -- after the add, find gives the start that was shown
-      pub found_where_previewed : (after : List ℕ) (reply : Reply) → AddPromise word stock bytes after (reply_outcome reply) → (answer : Outcome)
+      pub found_where_previewed : (after : List ℕ) (reply : Result Reply Refusal) → AddPromise word stock bytes after (reply_outcome reply) → (answer : Outcome)
           → CallAnswers word (find_of (entries after) (stored_form word)) answer → answer ≡ finds preview.start stock
       found_where_previewed after reply q answer c =
           let same = call_alike word _ _ _ q.answers accepted in

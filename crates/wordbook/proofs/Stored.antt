@@ -12,8 +12,8 @@ use Rattle.formula.specs.Limits.{limit}
 use Rattle.refusals.specs.Refusal.{number_of, place_of}
 use Rattle.refusals.specs.Outcome.{Outcome, outcome_of}
 use Rattle.refusals.specs.declared.Refusal.{Refusal}
-use Rattle.refusals.specs.declared.Counted.{Counted}
-use Rattle.refusals.specs.declared.Counted.TheVariants.{Count, Refused}
+use Rattle.std.specs.declared.result.Result.{Result}
+use Rattle.std.specs.declared.result.Result.TheVariants.{Ok, Err}
 use Rattle.refusals.specs.Output.{refused as not_stored, put, too_short}
 use Rattle.storage.specs.Stored.{sort_runs, makes_long_vowel, makes_letter, compose, stored_form}
 use Rattle.storage.proofs.Runs.{sort_length}
@@ -63,12 +63,12 @@ module _ {word before after : List ℕ} {count : ℕ} (f : FormAt word before af
   form_front = ap (take count) f.values ∙ take_at (stored_form word) (drop count before) count (sym f.long)
 
 -- what entering a word tells by its answer: its stored form went on to the book, or the word is refused
-module _ (word before after : List ℕ) (answer : Counted) (right : EnteredFor word before after (outcome_of answer)) where
-  answered : (other : Counted) → answer ≡ other → EnteredFor word before after (outcome_of other)
-  answered other e = subst (λ (a : Counted). EnteredFor word before after (outcome_of a)) e right
+module _ (word before after : List ℕ) (answer : Result ℕ Refusal) (right : EnteredFor word before after (outcome_of answer)) where
+  answered : (other : Result ℕ Refusal) → answer ≡ other → EnteredFor word before after (outcome_of other)
+  answered other e = subst (λ (a : Result ℕ Refusal). EnteredFor word before after (outcome_of a)) e right
 
-  pub entered_form : (count : ℕ) → answer ≡ Count count → FormAt word before after count
-  entered_form count e = answered (Count count) e
+  pub entered_form : (count : ℕ) → answer ≡ Ok count → FormAt word before after count
+  entered_form count e = answered (Ok count) e
 
-  pub entered_refused : (refusal : Refusal) → answer ≡ Refused refusal → WordRefused word (number_of refusal) (place_of refusal)
-  entered_refused refusal e = (answered (Refused refusal) e).refused
+  pub entered_refused : (refusal : Refusal) → answer ≡ Err refusal → WordRefused word (number_of refusal) (place_of refusal)
+  entered_refused refusal e = (answered (Err refusal) e).refused

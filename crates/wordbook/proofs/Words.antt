@@ -16,7 +16,9 @@ use Rattle.letters.proofs.Tests.{is_true, pick_true, pick_false}
 use Rattle.formula.specs.Limits.{limit}
 use Rattle.formula.proofs.Lists.{same_list}
 use Rattle.refusals.specs.Outcome.{Outcome, accepts, accepts_both, reply_outcome}
+use Rattle.std.specs.declared.result.Result.{Result}
 use Rattle.refusals.specs.declared.Reply.{Reply}
+use Rattle.refusals.specs.declared.Refusal.{Refusal}
 use Rattle.refusals.proofs.Laws.{reply_once}
 use Rattle.storage.specs.Stored.{stored_form}
 use Rattle.entries.specs.Entries.{Entry, Entries, book, wrong, entries}
@@ -34,7 +36,7 @@ use Rattle.wordbook.specs.Calls.{CallAnswers, word_refused, word_stored, RemoveP
 use Rattle.wordbook.proofs.Laws.{remove_makes_book}
 
 -- one answer only, with one output
-pub word_determined : (bytes : List ℕ) (start : ℕ) (before after final : List ℕ) (first second : Reply)
+pub word_determined : (bytes : List ℕ) (start : ℕ) (before after final : List ℕ) (first second : Result Reply Refusal)
     → WordRight bytes start before after (reply_outcome first) → WordRight bytes start before final (reply_outcome second)
     → (first ≡ second) × (after ≡ final)
 word_determined bytes start before after final first second p q = (reply_once first second (p.answer ∙ sym q.answer), p.output ∙ sym q.output)

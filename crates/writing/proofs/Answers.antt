@@ -19,8 +19,8 @@ use Rattle.writing.specs.Write.{Recorded, no_such_row, WriteRight}
 use Rattle.writing.specs.Records.{row_of, are_records}
 use Rattle.writing.specs.Size.{size_of}
 use Rattle.writing.specs.Put.{RowFits, RowPut}
-use Rattle.writing.specs.declared.row.Size.{Size}
-use Rattle.writing.specs.declared.row.Size.TheVariants.{Values, NoSuchRow}
+use Rattle.std.specs.declared.option.Option.{Option}
+use Rattle.std.specs.declared.option.Option.TheVariants.{None, Some}
 use Rattle.writing.proofs.Rows.{row_read, row_written}
 
 -- a row's records pass the tests, and are read as the row
@@ -36,12 +36,12 @@ pub record Sized (bytes : List ℕ) (count : ℕ) : Type 0 where
   pub recorded : Recorded bytes (row_of bytes)
 
 -- what a size says
-abbrev Says : List ℕ → Size → Type 0
-Says bytes (Values n) = Sized bytes n
-Says bytes NoSuchRow = (row : Row) → Recorded bytes row → ⊥
+abbrev Says : List ℕ → Option ℕ → Type 0
+Says bytes (Some n) = Sized bytes n
+Says bytes None = (row : Row) → Recorded bytes row → ⊥
 
 says : (bytes : List ℕ) (test : Bool) → (are_records 0 bytes && leb (length (join (row_of bytes))) limit) ≡ test
-    → Says bytes (pick test (Values (length (join (row_of bytes)))) NoSuchRow)
+    → Says bytes (pick test (Some (length (join (row_of bytes)))) None)
 unfolding pick
 says bytes true e =
     let all : T (are_records 0 bytes && leb (length (join (row_of bytes))) limit) = rw e tt in
@@ -65,14 +65,14 @@ said : (bytes : List ℕ) → Says bytes (size_of bytes)
 unfolding size_of
 said bytes = says bytes (are_records 0 bytes && leb (length (join (row_of bytes))) limit) refl
 
-pub size_values : (bytes : List ℕ) (size : Size) (count : ℕ) → size ≡ size_of bytes → size ≡ Values count → Sized bytes count
+pub size_values : (bytes : List ℕ) (size : Option ℕ) (count : ℕ) → size ≡ size_of bytes → size ≡ Some count → Sized bytes count
 size_values bytes size count e f = rw (sym e ∙ f) at (said bytes)
 
-size_none : (bytes : List ℕ) (size : Size) → size ≡ size_of bytes → size ≡ NoSuchRow → (row : Row) → Recorded bytes row → ⊥
+size_none : (bytes : List ℕ) (size : Option ℕ) → size ≡ size_of bytes → size ≡ None → (row : Row) → Recorded bytes row → ⊥
 size_none bytes size e f = rw (sym e ∙ f) at (said bytes)
 
 -- the promise of writing, with no row, with an output that is too short, and with the word written
-pub write_none : (bytes before : List ℕ) (size : Size) → size ≡ size_of bytes → size ≡ NoSuchRow → WriteRight bytes before before (refuses 6 0)
+pub write_none : (bytes before : List ℕ) (size : Option ℕ) → size ≡ size_of bytes → size ≡ None → WriteRight bytes before before (refuses 6 0)
 write_none bytes before size e f = refused (no_such_row (size_none bytes size e f)) refl
 
 module _ (bytes before : List ℕ) (count : ℕ) (s : Sized bytes count) where

@@ -19,7 +19,7 @@ use Rattle.syllable_record.specs.Record.{may_follow}
 use Rattle.syllable_text.specs.Part.{PartSize}
 use Rattle.writing.specs.Records.{row_of, are_records}
 use Rattle.writing.specs.Size.{size_of}
-use Rattle.writing.specs.declared.row.Size.TheVariants.{Values, NoSuchRow}
+use Rattle.std.specs.declared.option.Option.TheVariants.{None, Some}
 use Rattle.writing.proofs.Cutting.{row_next, records_next, records_short, row_none, records_none}
 
 -- the values of a row, of which there are as many whatever stands before it
@@ -48,32 +48,32 @@ measured_none bytes =
     record { within = omega arith; decided = refl; counted = sym (zero-add (size (row_of bytes))); short = omega arith }
 
 module _ (bytes : List ℕ) (link count at : ℕ) (p : Measured bytes link count at) where
-  refused : are_records link (drop at bytes) ≡ false → NoSuchRow ≡ size_of bytes
+  refused : are_records link (drop at bytes) ≡ false → None ≡ size_of bytes
   unfolding size_of
   refused e = pick_no _ _ _ _ (and_no_left (are_records 0 bytes) _ (p.decided ∙ e)) refl
 
   -- no whole record is left
-  pub measured_short : at < length bytes → length bytes - at < record_size → NoSuchRow ≡ size_of bytes
+  pub measured_short : at < length bytes → length bytes - at < record_size → None ≡ size_of bytes
   measured_short more few = refused (records_short link (drop at bytes) (omega (arith, length-drop at bytes)) (omega (arith, length-drop at bytes)))
 
   -- all bytes are passed
-  pub measured_open : length bytes ≤ at → 1 < link → NoSuchRow ≡ size_of bytes
+  pub measured_open : length bytes ≤ at → 1 < link → None ≡ size_of bytes
   measured_open done waits = refused (ap (are_records link) (drop_of_length-le bytes done) ∙ records_none link ∙ lt-leb link 1 waits)
 
-  pub measured_all : length bytes ≤ at → link ≤ 1 → Values count ≡ size_of bytes
+  pub measured_all : length bytes ≤ at → link ≤ 1 → Some count ≡ size_of bytes
   unfolding size_of size
   measured_all done closed =
       let left : drop at bytes ≡ [] = drop_of_length-le bytes done in
       let counted : length (join (row_of bytes)) ≡ count = omega (arith, p.counted, ap size (ap row_of left ∙ row_none)) in
       let passed : are_records 0 bytes ≡ true = p.decided ∙ ap (are_records link) left ∙ records_none link ∙ le-leb link 1 closed in
-      pick_yes _ _ _ _ (and_yes (are_records 0 bytes) _ passed (le-leb (length (join (row_of bytes))) limit (omega (arith, p.short)))) (ap Values (sym counted))
+      pick_yes _ _ _ _ (and_yes (are_records 0 bytes) _ passed (le-leb (length (join (row_of bytes))) limit (omega (arith, p.short)))) (ap Some (sym counted))
 
   module _ (next : List ℕ) (whole : at + record_size ≤ length bytes) (is_next : next ≡ take record_size (drop at bytes)) where
     here : are_records link (drop at bytes) ≡ (may_follow link next && are_records (get_or next link_place 0) (drop (at + record_size) bytes))
     here = rw (is_next, ← drop-drop record_size at bytes) (records_next link (drop at bytes) (omega (arith, length-drop at bytes)))
 
     -- the record does not pass the tests
-    pub measured_wrong : may_follow link next ≡ false → NoSuchRow ≡ size_of bytes
+    pub measured_wrong : may_follow link next ≡ false → None ≡ size_of bytes
     measured_wrong e = refused (here ∙ and_no_left (may_follow link next) _ e)
 
     counted_more : (n : ℕ) → PartSize next n → size (row_of bytes) ≡ (count + n) + size (row_of (drop (at + record_size) bytes))
@@ -84,7 +84,7 @@ module _ (bytes : List ℕ) (link count at : ℕ) (p : Measured bytes link count
         omega (arith, p.counted, s.counted)
 
     -- it has too many values
-    pub measured_long : (n : ℕ) → PartSize next n → limit < count + n → NoSuchRow ≡ size_of bytes
+    pub measured_long : (n : ℕ) → PartSize next n → limit < count + n → None ≡ size_of bytes
     unfolding size_of size
     measured_long n s long = pick_no _ _ _ _ (and_no_right (are_records 0 bytes) _ (lt-leb (length (join (row_of bytes))) limit (omega (arith, counted_more n s)))) refl
 

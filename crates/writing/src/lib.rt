@@ -4,19 +4,19 @@
 ghost use Rattle.refusals.specs.Outcome.{outcome_of};
 ghost use Rattle.writing.specs.Write.{WriteRight};
 
-use refusals::{Counted, Refusal};
+use refusals::Refusal;
 
 mod row; // row.rt: the passes over the records
 
 // Writes the word of the records to the front of the output, and tells how many values that is; with refusal 6 or 5 nothing is written.
-pub fn write(records: &[u8], output: &mut [u16]) -> Counted
+pub fn write(records: &[u8], output: &mut [u16]) -> Result<usize, Refusal>
     ensures { WriteRight records.now output.old output.new (outcome_of result) }
 {
-    let row::Size::Values(count) = row::measure(records) else {
-        return Counted::Refused(Refusal::NoSuchRow);
+    let Some(count) = row::measure(records) else {
+        return Err(Refusal::NoSuchRow);
     };
     if output.len() < count {
-        return Counted::Refused(Refusal::OutputTooShort(count));
+        return Err(Refusal::OutputTooShort(count));
     }
-    Counted::Count(row::put_row(records, output))
+    Ok(row::put_row(records, output))
 }

@@ -14,7 +14,7 @@ pub enum Size {
     NoSuchRow,
 }
 
-pub(crate) fn measure(records: &[u8]) -> Size
+pub(crate) fn measure(records: &[u8]) -> Option<usize>
     ensures { result ≡ size_of records.now }
 {
     let mut link = 0;
@@ -22,23 +22,23 @@ pub(crate) fn measure(records: &[u8]) -> Size
     let mut at = 0;
     while at < records.len() {
         if records.len() - at < Word::RECORD {
-            return Size::NoSuchRow;
+            return None;
         }
         let next = record_at(records, at);
         if !may_follow(link, next) {
-            return Size::NoSuchRow;
+            return None;
         }
         count += part::part_size(next);
         if Word::LIMIT < count {
-            return Size::NoSuchRow;
+            return None;
         }
         link = next[Word::LINK];
         at += Word::RECORD;
     }
     if 1 < link {
-        return Size::NoSuchRow;
+        return None;
     }
-    Size::Values(count)
+    Some(count)
 }
 
 // Writes the word of records that were measured to the front of an output that is long enough, and gives its length.

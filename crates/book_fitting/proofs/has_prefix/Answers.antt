@@ -6,7 +6,7 @@ use native.Mathlib.Omega.{arith}
 use lib.ListN.{length, take, drop}
 use Rattle.formula.specs.Limits.{weight_count}
 use Rattle.weighing.specs.Order.{order_values}
-use Rattle.weighing.specs.declared.order.Order.{Order}
+use Rattle.std.specs.declared.cmp.Ordering.{Ordering}
 use Rattle.weighing.proofs.Prefix.{is_equal}
 use Rattle.book_keys.specs.Filing.{key_room}
 use Rattle.book_fitting.specs.Fitting.{has_prefix}
@@ -58,7 +58,7 @@ slice_bounds-order_bytes-end c =
 
 pub returns-in-Less : goal.returns-in-Less
 returns-in-Less c =
-    let told : (o : Order) → c.order_bytes.result ≡ o
+    let told : (o : Ordering) → c.order_bytes.result ≡ o
     → is_equal o ≡ has_prefix c.args.keys.now c.args.prefix.now c.args.start =
     λ o e. let keys = c.args.keys.now in
     let prefix = c.args.prefix.now in
@@ -71,7 +71,7 @@ returns-in-Less c =
 
 pub returns-in-Equal : goal.returns-in-Equal
 returns-in-Equal c =
-    let told : (o : Order) → c.order_bytes.result ≡ o
+    let told : (o : Ordering) → c.order_bytes.result ≡ o
     → is_equal o ≡ has_prefix c.args.keys.now c.args.prefix.now c.args.start =
     λ o e. let keys = c.args.keys.now in
     let prefix = c.args.prefix.now in
@@ -84,7 +84,7 @@ returns-in-Equal c =
 
 pub returns-in-Greater : goal.returns-in-Greater
 returns-in-Greater c =
-    let told : (o : Order) → c.order_bytes.result ≡ o
+    let told : (o : Ordering) → c.order_bytes.result ≡ o
     → is_equal o ≡ has_prefix c.args.keys.now c.args.prefix.now c.args.start =
     λ o e. let keys = c.args.keys.now in
     let prefix = c.args.prefix.now in

@@ -71,20 +71,20 @@ put_key-requires c =
     c.values_of-values.ensures.0 ∙ ap (λ (n : ℕ). map value_of (take n (drop (c.args.at + head_size) c.args.book.now))) c.wide-count.ensures.0 in
     subst (λ (l : List ℕ). FillRight l c.fill-answer.result c.fill-answer.new.bytes) e c.fill-answer.ensures in
     let k = (key_within c.args.book.now c.args.at c.requires.0 frame c.requires.3).1 in (
-      filled_few (word_at c.args.book.now c.args.at) c.requires.3 c.fill-answer.result _ filled c.in-Count.number c.in-Count.is,
-      filled_room (word_at c.args.book.now c.args.at) c.requires.3 c.fill-answer.result _ filled c.in-Count.number c.in-Count.is,
-      omega (arith, c.requires.1, filed_key_length (row_of (word_at c.args.book.now c.args.at)), filled_count (word_at c.args.book.now c.args.at) c.requires.3 c.fill-answer.result _ filled c.in-Count.number c.in-Count.is),
+      filled_few (word_at c.args.book.now c.args.at) c.requires.3 c.fill-answer.result _ filled c.in-Ok.number c.in-Ok.is,
+      filled_room (word_at c.args.book.now c.args.at) c.requires.3 c.fill-answer.result _ filled c.in-Ok.number c.in-Ok.is,
+      omega (arith, c.requires.1, filed_key_length (row_of (word_at c.args.book.now c.args.at)), filled_count (word_at c.args.book.now c.args.at) c.requires.3 c.fill-answer.result _ filled c.in-Ok.number c.in-Ok.is),
       c.requires.1,
     )
 
-pub returns-in-Count : goal.returns-in-Count
-returns-in-Count c =
+pub returns-in-Ok : goal.returns-in-Ok
+returns-in-Ok c =
     let filled : FillRight (word_at c.args.book.now c.args.at) c.fill-answer.result c.fill-answer.new.bytes =
     let e : take c.wide-count.result c.values_of-values.result ≡ (word_at c.args.book.now c.args.at) =
     c.values_of-values.ensures.0 ∙ ap (λ (n : ℕ). map value_of (take n (drop (c.args.at + head_size) c.args.book.now))) c.wide-count.ensures.0 in
     subst (λ (l : List ℕ). FillRight l c.fill-answer.result c.fill-answer.new.bytes) e c.fill-answer.ensures in
     c.put_key.ensures
-    ∙ ap (sets c.args.keys.now (weight_count * c.args.at)) (filled_key (word_at c.args.book.now c.args.at) c.requires.3 c.fill-answer.result _ filled c.in-Count.number c.in-Count.is)
+    ∙ ap (sets c.args.keys.now (weight_count * c.args.at)) (filled_key (word_at c.args.book.now c.args.at) c.requires.3 c.fill-answer.result _ filled c.in-Ok.number c.in-Ok.is)
 
 pub returns-in_default : goal.returns-in_default
 returns-in_default c =

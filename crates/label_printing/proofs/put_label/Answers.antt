@@ -5,11 +5,11 @@ use Rattle.lines.proofs.Told.{told_refusal, told_word, told_fits, told_count}
 use Rattle.label_printing.specs.Output.{of_word, line_refused}
 use Rattle.label_printing.proofs.put_label.Goals as goal
 
-pub returns-in-Refused : goal.returns-in-Refused
-returns-in-Refused c =
+pub returns-in-Err : goal.returns-in-Err
+returns-in-Err c =
     record {
       text = _;
-      right = line_refused (told_refusal _ c.decode-decoded.result c.decode-decoded.ensures _ c.in-Refused.is) refl;
+      right = line_refused (told_refusal _ c.decode-decoded.result c.decode-decoded.ensures _ c.in-Err.is) refl;
       put = c.put_refused.ensures;
     }
 

@@ -8,8 +8,8 @@ use Rattle.labelling.specs.Putting.{breaks, meets}
 use Rattle.labelling.proofs.Stored.{accepted_count, form_short, written_puts, short_puts}
 use Rattle.labelling.proofs.put_skeleton.Goals as goal
 
-pub returns-in-Refused : goal.returns-in-Refused
-returns-in-Refused c = breaks (sym c.answer_by_rules-answer.ensures ∙ ap outcome_of c.in-Refused.is) refl
+pub returns-in-Err : goal.returns-in-Err
+returns-in-Err c = breaks (sym c.answer_by_rules-answer.ensures ∙ ap outcome_of c.in-Err.is) refl
 
 pub has_room-requires : goal.has_room-requires
 has_room-requires c =

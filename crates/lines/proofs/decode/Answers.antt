@@ -29,14 +29,14 @@ loop-at-init c = passed_none c.args.line.now
 pub bounds-values-count : goal.bounds-values-count
 bounds-values-count c = omega arith
 
-pub returns-in-Faulty : goal.returns-in-Faulty
-returns-in-Faulty c =
+pub returns-in-None : goal.returns-in-None
+returns-in-None c =
     let turned : Turn c.args.line.now c.loop-at.at c.three_at.result =
     rw c.three_at.ensures (turn _ _ c.loop-at-test.true) in
-    is_right _ c.refused-in-Faulty.result
-    (c.refused-in-Faulty.ensures
+    is_right _ c.refused-in-None.result
+    (c.refused-in-None.ensures
     ∙ sym
-    (passed_faulty _ _ _ _ c.loop-at.invariant c.if-line-gt-LINE_LIMIT.false (rw c.in-Faulty.is at turned)))
+    (passed_faulty _ _ _ _ c.loop-at.invariant c.if-line-gt-LINE_LIMIT.false (rw c.in-None.is at turned)))
 
 pub overflow_add-count : goal.overflow_add-count
 overflow_add-count c = omega arith
@@ -52,7 +52,7 @@ loop-at-preserved c =
     let turned : Turn c.args.line.now c.loop-at.at c.three_at.result =
     rw c.three_at.ensures (turn _ _ c.loop-at-test.true) in
     passed_more _ _ _ _ _ c.loop-at.invariant c.loop-at-test.true c.if-line-gt-LINE_LIMIT.false
-    (rw c.in-Value.is at turned)
+    (rw c.in-Some.is at turned)
 
 pub returns : goal.returns
 returns c = is_right _ _ (passed_all _ _ _ _ c.loop-at.invariant c.if-line-gt-LINE_LIMIT.false c.loop-at-test.false)

@@ -5,7 +5,8 @@ use mathlib.Core.List.{List}
 use Prim.Native.Nat.{ℕ}
 use Rattle.formula.proofs.Held.{held_front, held_fits, held_length}
 use Rattle.refusals.specs.Outcome.{outcome_of}
-use Rattle.refusals.specs.declared.Counted.{Counted}
+use Rattle.std.specs.declared.result.Result.{Result}
+use Rattle.refusals.specs.declared.Refusal.{Refusal}
 use Rattle.recogniser.specs.Answer.{Answers}
 use Rattle.storage.specs.Stored.{stored_form}
 use Rattle.normaliser.specs.Admission.{too_long}
@@ -24,15 +25,15 @@ slice_bounds-values-end c = held_fits c.stored-form.result (stored_form c.args.w
 pub slice_bounds-answer_of-end : goal.slice_bounds-answer_of-end
 slice_bounds-answer_of-end c = held_length c.stored-form.result (stored_form c.args.word.now) c.stored-form.ensures
 
-pub returns-in-Refused : goal.returns-in-Refused
-returns-in-Refused c =
+pub returns-in-Err : goal.returns-in-Err
+returns-in-Err c =
     let word = c.args.word.now in
     let r = subst (λ (l : List ℕ). Answers l (outcome_of c.answer_of-answer.result)) (held_front c.stored-form.result (stored_form word) c.stored-form.ensures) c.answer_of-answer.ensures in
-    subst (NormalRight word) (sym c.refused-in-Refused.ensures)
+    subst (NormalRight word) (sym c.refused-in-Err.ensures)
     (record {
       answers =
-          refused_right word c.if-word-gt-LIMIT.false c.in-Refused.refusal c.as_handed_in.result
-          (subst (λ (w : Counted). Answers (stored_form word) (outcome_of w)) c.in-Refused.is r) c.as_handed_in.ensures;
+          refused_right word c.if-word-gt-LIMIT.false c.in-Err.refusal c.as_handed_in.result
+          (subst (λ (w : Result ℕ Refusal). Answers (stored_form word) (outcome_of w)) c.in-Err.is r) c.as_handed_in.ensures;
       held = refl;
     })
 
@@ -41,10 +42,10 @@ returns c =
     let word = c.args.word.now in
     let r = subst (λ (l : List ℕ). Answers l (outcome_of c.answer_of-answer.result)) (held_front c.stored-form.result (stored_form word) c.stored-form.ensures) c.answer_of-answer.ensures in
     let e = c.in_default.is in
-    let q = subst (λ (w : Counted). Answers (stored_form word) (outcome_of w)) e r in
+    let q = subst (λ (w : Result ℕ Refusal). Answers (stored_form word) (outcome_of w)) e r in
     record {
       answers =
-          subst (λ (w : Counted). StoreAnswers word (outcome_of w)) (sym e)
+          subst (λ (w : Result ℕ Refusal). StoreAnswers word (outcome_of w)) (sym e)
           (record { admissible = word_admissible word c.if-word-gt-LIMIT.false q.admissible; reads = q });
-      held = subst (λ (w : Counted). WordFor word (outcome_of w) c.stored-form.result) (sym e) c.stored-form.ensures;
+      held = subst (λ (w : Result ℕ Refusal). WordFor word (outcome_of w) c.stored-form.result) (sym e) c.stored-form.ensures;
     }

@@ -5,7 +5,8 @@ use lib.ListN.{length}
 use lib.Seq.{length-take-le}
 use Rattle.refusals.specs.Outcome.{outcome_of}
 use Rattle.refusals.specs.Output.{refused}
-use Rattle.refusals.specs.declared.Counted.{Counted}
+use Rattle.std.specs.declared.result.Result.{Result}
+use Rattle.refusals.specs.declared.Refusal.{Refusal}
 use Rattle.refusals.proofs.Putting.{puts_writes}
 use Rattle.recogniser.specs.Answer.{Readable, RowTest}
 use Rattle.storage.specs.Stored.{stored_form}
@@ -21,10 +22,10 @@ returns-then-is_row c =
     puts_writes (StoreRefusedWith word) (Stores word) (λ n. stored_form word) c.args.output.now _ (length readable.row)
     (readable_stores word readable) word (sym (gives_stored readable.row word readable.gives)) (outcome_of c.put_out.result) c.put_out.ensures
 
-pub returns-in-Refused : goal.returns-in-Refused
-returns-in-Refused c =
+pub returns-in-Err : goal.returns-in-Err
+returns-in-Err c =
     let word = c.args.word.now in
-    refused (subst (λ (w : Counted). StoreAnswers word (outcome_of w)) c.in-Refused.is c.normal_form-normal.ensures.answers) refl
+    refused (subst (λ (w : Result ℕ Refusal). StoreAnswers word (outcome_of w)) c.in-Err.is c.normal_form-normal.ensures.answers) refl
 
 pub slice_bounds-values-end : goal.slice_bounds-values-end
 slice_bounds-values-end c =

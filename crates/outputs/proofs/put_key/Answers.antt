@@ -12,8 +12,8 @@ returns-then-output-lt-KEY c =
       answer = c.weigh-answer.result;
       bytes = _;
       right = c.weigh-answer.ensures;
-      count = c.in-Count.count;
-      told = c.in-Count.is;
+      count = c.in-Ok.count;
+      told = c.in-Ok.is;
     }) _ _ c.if-output-lt-KEY.true refl
 
 pub slice_bounds-put_bytes-end : goal.slice_bounds-put_bytes-end
@@ -27,8 +27,8 @@ put_bytes-requires c =
       c.weigh-answer.ensures.room,
     )
 
-pub returns-in-Refused : goal.returns-in-Refused
-returns-in-Refused c = refused_right c.args.word.now c.weigh-answer.result _ c.weigh-answer.ensures _ c.in-Refused.is _ _ refl
+pub returns-in-Err : goal.returns-in-Err
+returns-in-Err c = refused_right c.args.word.now c.weigh-answer.result _ c.weigh-answer.ensures _ c.in-Err.is _ _ refl
 
 pub returns-else-output-lt-KEY : goal.returns-else-output-lt-KEY
 returns-else-output-lt-KEY c =
@@ -37,6 +37,6 @@ returns-else-output-lt-KEY c =
       answer = c.weigh-answer.result;
       bytes = _;
       right = c.weigh-answer.ensures;
-      count = c.in-Count.count;
-      told = c.in-Count.is;
+      count = c.in-Ok.count;
+      told = c.in-Ok.is;
     }) _ _ c.if-output-lt-KEY.false c.put_bytes.ensures

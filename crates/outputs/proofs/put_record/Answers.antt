@@ -19,9 +19,9 @@ put_bytes-requires c =
     let l = found_long c.args.word.now c.args.number c.record_at-given.result c.record_at-given.ensures found in
     omega (arith, l, c.if-output-lt-RECORD.false)
 
-pub returns-in-Refused : goal.returns-in-Refused
-returns-in-Refused c =
-    refused_right c.args.word.now c.args.number c.record_at-given.result c.record_at-given.ensures _ _ _ c.in-Refused.is refl
+pub returns-in-Err : goal.returns-in-Err
+returns-in-Err c =
+    refused_right c.args.word.now c.args.number c.record_at-given.result c.record_at-given.ensures _ _ _ c.in-Err.is refl
 
 pub returns-in-NoSyllable : goal.returns-in-NoSyllable
 returns-in-NoSyllable c =

@@ -6,8 +6,8 @@ use Rattle.lines.proofs.Told.{told_fits, told_count}
 use Rattle.outputs.proofs.Decoding.{refused_right, written_right}
 use Rattle.outputs.proofs.put_values.Goals as goal
 
-pub returns-in-Refused : goal.returns-in-Refused
-returns-in-Refused c = refused_right _ c.decode-decoded.result c.decode-decoded.ensures _ c.in-Refused.is _ _ refl
+pub returns-in-Err : goal.returns-in-Err
+returns-in-Err c = refused_right _ c.decode-decoded.result c.decode-decoded.ensures _ c.in-Err.is _ _ refl
 
 pub slice_bounds-values-end : goal.slice_bounds-values-end
 slice_bounds-values-end c = told_fits _ c.decode-decoded.result c.decode-decoded.ensures _ c.in_default.is

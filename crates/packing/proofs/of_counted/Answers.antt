@@ -2,8 +2,8 @@
 -- Assumes nothing.
 use Rattle.packing.proofs.of_counted.Goals as goal
 
-pub returns-in-Count : goal.returns-in-Count
-returns-in-Count c = rw c.in-Count.is c.packed.ensures
+pub returns-in-Ok : goal.returns-in-Ok
+returns-in-Ok c = rw c.in-Ok.is c.packed.ensures
 
-pub returns-in-Refused : goal.returns-in-Refused
-returns-in-Refused c = rw c.in-Refused.is c.refused.ensures
+pub returns-in-Err : goal.returns-in-Err
+returns-in-Err c = rw c.in-Err.is c.refused.ensures

@@ -2,11 +2,11 @@
 -- Assumes nothing.
 use Rattle.packing.proofs.of_pair.Goals as goal
 
-pub returns-in-Told : goal.returns-in-Told
-returns-in-Told c = rw c.in-Told.is c.packed.ensures
+pub returns-in-Ok : goal.returns-in-Ok
+returns-in-Ok c = rw c.in-Ok.is c.packed.ensures
 
-pub returns-in-FirstRefused : goal.returns-in-FirstRefused
-returns-in-FirstRefused c = rw c.in-FirstRefused.is c.refused.ensures
+pub returns-in-Err-First : goal.returns-in-Err-First
+returns-in-Err-First c = rw c.in-Err-First.is c.refused.ensures
 
-pub returns-in-SecondRefused : goal.returns-in-SecondRefused
-returns-in-SecondRefused c = rw c.in-SecondRefused.is c.refused-in-SecondRefused.ensures
+pub returns-in-Err-Second : goal.returns-in-Err-Second
+returns-in-Err-Second c = rw c.in-Err-Second.is c.refused-in-Err-Second.ensures

@@ -4,8 +4,8 @@ use Rattle.lines.proofs.Told.{told_word, told_fits, told_count}
 use Rattle.printing.proofs.Answers.{refused_right, values_right}
 use Rattle.printing.proofs.answer_line.Goals as goal
 
-pub returns-in-Refused : goal.returns-in-Refused
-returns-in-Refused c = refused_right _ c.decode-decoded.result c.decode-decoded.ensures _ c.in-Refused.is
+pub returns-in-Err : goal.returns-in-Err
+returns-in-Err c = refused_right _ c.decode-decoded.result c.decode-decoded.ensures _ c.in-Err.is
 
 pub slice_bounds-values-end : goal.slice_bounds-values-end
 slice_bounds-values-end c = told_fits _ c.decode-decoded.result c.decode-decoded.ensures _ c.in_default.is

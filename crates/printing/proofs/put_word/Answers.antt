@@ -9,7 +9,7 @@ pub returns-in_default : goal.returns-in_default
 returns-in_default c = word_put c.answer_line-key.ensures (rw (c.refusal_in.ensures, c.in_default.is) refl) c.put_refused.ensures
 
 pub put_accepted-requires : goal.put_accepted-requires
-put_accepted-requires c = (omega arith, rw c.in-Count.is at c.answer_line-key.ensures.printable)
+put_accepted-requires c = (omega arith, rw c.in-Ok.is at c.answer_line-key.ensures.printable)
 
 pub returns : goal.returns
-returns c = word_put c.answer_line-key.ensures (rw c.in-Count.is refl) c.put_accepted.ensures
+returns c = word_put c.answer_line-key.ensures (rw c.in-Ok.is refl) c.put_accepted.ensures

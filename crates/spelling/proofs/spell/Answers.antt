@@ -16,8 +16,8 @@ returns-then-starts-count c = search (rules, spell_starts_short) depth 14
 pub put-requires : goal.put-requires
 put-requires c = search (rules, spell_room) depth 14
 
-pub returns-in-Refused : goal.returns-in-Refused
-returns-in-Refused c = search (rules, spell_refused) depth 14
+pub returns-in-Err : goal.returns-in-Err
+returns-in-Err c = search (rules, spell_refused) depth 14
 
 pub returns-else-starts-count : goal.returns-else-starts-count
 returns-else-starts-count c = search (rules, spell_done) depth 14

@@ -13,23 +13,23 @@ use Rattle.wordbook.proofs.find.Goals as goal
 
 pub slice_bounds-values-end : goal.slice_bounds-values-end
 slice_bounds-values-end c =
-    let form : FormAt c.args.word.now (zeros limit) c.enter.new.values c.in-Count.count =
-    entered_form _ (zeros limit) _ _ c.enter.ensures _ c.in-Count.is in
+    let form : FormAt c.args.word.now (zeros limit) c.enter.new.values c.in-Ok.count =
+    entered_form _ (zeros limit) _ _ c.enter.ensures _ c.in-Ok.is in
     form_fits form
 
 pub slice_bounds-find-end : goal.slice_bounds-find-end
 slice_bounds-find-end c =
-    let form : FormAt c.args.word.now (zeros limit) c.enter.new.values c.in-Count.count =
-    entered_form _ (zeros limit) _ _ c.enter.ensures _ c.in-Count.is in
+    let form : FormAt c.args.word.now (zeros limit) c.enter.new.values c.in-Ok.count =
+    entered_form _ (zeros limit) _ _ c.enter.ensures _ c.in-Ok.is in
     sym (length-take-le _ _ (form_fits form))
 
-pub returns-in-Refused : goal.returns-in-Refused
-returns-in-Refused c = word_refused (entered_refused _ (zeros limit) _ _ c.enter.ensures _ c.in-Refused.is)
+pub returns-in-Err : goal.returns-in-Err
+returns-in-Err c = word_refused (entered_refused _ (zeros limit) _ _ c.enter.ensures _ c.in-Err.is)
 
-pub returns-in-Count : goal.returns-in-Count
-returns-in-Count c =
-    let form : FormAt c.args.word.now (zeros limit) c.enter.new.values c.in-Count.count =
-    entered_form _ (zeros limit) _ _ c.enter.ensures _ c.in-Count.is in
+pub returns-in-Ok : goal.returns-in-Ok
+returns-in-Ok c =
+    let form : FormAt c.args.word.now (zeros limit) c.enter.new.values c.in-Ok.count =
+    entered_form _ (zeros limit) _ _ c.enter.ensures _ c.in-Ok.is in
     let s = c.args in
     let h = form in
     subst (CallAnswers s.word.now (find_of (entries s.book.now) (stored_form s.word.now)))

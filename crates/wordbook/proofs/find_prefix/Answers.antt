@@ -19,32 +19,32 @@ use Rattle.wordbook.proofs.find_prefix.Goals as goal
 
 pub slice_bounds-values-end : goal.slice_bounds-values-end
 slice_bounds-values-end c =
-    let form : FormAt c.args.query.now (zeros limit) c.enter.new.values c.in-Count.count =
-    entered_form _ (zeros limit) _ _ c.enter.ensures _ c.in-Count.is in
+    let form : FormAt c.args.query.now (zeros limit) c.enter.new.values c.in-Ok.count =
+    entered_form _ (zeros limit) _ _ c.enter.ensures _ c.in-Ok.is in
     form_fits form
 
 pub slice_bounds-find_prefix-end : goal.slice_bounds-find_prefix-end
 slice_bounds-find_prefix-end c =
-    let form : FormAt c.args.query.now (zeros limit) c.enter.new.values c.in-Count.count =
-    entered_form _ (zeros limit) _ _ c.enter.ensures _ c.in-Count.is in
+    let form : FormAt c.args.query.now (zeros limit) c.enter.new.values c.in-Ok.count =
+    entered_form _ (zeros limit) _ _ c.enter.ensures _ c.in-Ok.is in
     sym (length-take-le _ _ (form_fits form))
 
 pub find_prefix-requires : goal.find_prefix-requires
 find_prefix-requires c =
-    let form : FormAt c.args.query.now (zeros limit) c.enter.new.values c.in-Count.count =
-    entered_form _ (zeros limit) _ _ c.enter.ensures _ c.in-Count.is in
+    let form : FormAt c.args.query.now (zeros limit) c.enter.new.values c.in-Ok.count =
+    entered_form _ (zeros limit) _ _ c.enter.ensures _ c.in-Ok.is in
     let h = form in
     subst Readable (sym (form_front h)) (stored_storable _ h.stored).readable
 
-pub returns-in-Refused : goal.returns-in-Refused
-returns-in-Refused c =
+pub returns-in-Err : goal.returns-in-Err
+returns-in-Err c =
     refused
-    (query_refused (entered_refused _ (zeros limit) _ _ c.enter.ensures _ c.in-Refused.is)) refl
+    (query_refused (entered_refused _ (zeros limit) _ _ c.enter.ensures _ c.in-Err.is)) refl
 
-pub returns-in-Count : goal.returns-in-Count
-returns-in-Count c =
-    let form : FormAt c.args.query.now (zeros limit) c.enter.new.values c.in-Count.count =
-    entered_form _ (zeros limit) _ _ c.enter.ensures _ c.in-Count.is in
+pub returns-in-Ok : goal.returns-in-Ok
+returns-in-Ok c =
+    let form : FormAt c.args.query.now (zeros limit) c.enter.new.values c.in-Ok.count =
+    entered_form _ (zeros limit) _ _ c.enter.ensures _ c.in-Ok.is in
     let s = c.args in
     let h = form in
     let outcome = outcome_of c.find_prefix.result in

@@ -25,34 +25,34 @@ promised word stock bytes told answer e a =
 
 pub slice_bounds-values-end : goal.slice_bounds-values-end
 slice_bounds-values-end c =
-    let form : FormAt c.args.word.now (zeros limit) c.enter.new.values c.in-Count.count =
-    entered_form _ (zeros limit) _ _ c.enter.ensures _ c.in-Count.is in
+    let form : FormAt c.args.word.now (zeros limit) c.enter.new.values c.in-Ok.count =
+    entered_form _ (zeros limit) _ _ c.enter.ensures _ c.in-Ok.is in
     form_fits form
 
 pub slice_bounds-plan_add-end : goal.slice_bounds-plan_add-end
 slice_bounds-plan_add-end c =
-    let form : FormAt c.args.word.now (zeros limit) c.enter.new.values c.in-Count.count =
-    entered_form _ (zeros limit) _ _ c.enter.ensures _ c.in-Count.is in
+    let form : FormAt c.args.word.now (zeros limit) c.enter.new.values c.in-Ok.count =
+    entered_form _ (zeros limit) _ _ c.enter.ensures _ c.in-Ok.is in
     sym (length-take-le _ _ (form_fits form))
 
 pub plan_add-requires : goal.plan_add-requires
 plan_add-requires c =
-    let form : FormAt c.args.word.now (zeros limit) c.enter.new.values c.in-Count.count =
-    entered_form _ (zeros limit) _ _ c.enter.ensures _ c.in-Count.is in
+    let form : FormAt c.args.word.now (zeros limit) c.enter.new.values c.in-Ok.count =
+    entered_form _ (zeros limit) _ _ c.enter.ensures _ c.in-Ok.is in
     let h = form in
     subst Storable (sym (form_front h)) (stored_storable _ h.stored)
 
-pub returns-in-Refused : goal.returns-in-Refused
-returns-in-Refused c =
+pub returns-in-Err : goal.returns-in-Err
+returns-in-Err c =
     promised _ _ _ _ _ c.preview.ensures
-    (word_refused (entered_refused _ (zeros limit) _ _ c.enter.ensures _ c.in-Refused.is))
+    (word_refused (entered_refused _ (zeros limit) _ _ c.enter.ensures _ c.in-Err.is))
 
-pub returns-in-Count : goal.returns-in-Count
-returns-in-Count c =
-    let form : FormAt c.args.word.now (zeros limit) c.enter.new.values c.in-Count.count =
-    entered_form _ (zeros limit) _ _ c.enter.ensures _ c.in-Count.is in
+pub returns-in-Ok : goal.returns-in-Ok
+returns-in-Ok c =
+    let form : FormAt c.args.word.now (zeros limit) c.enter.new.values c.in-Ok.count =
+    entered_form _ (zeros limit) _ _ c.enter.ensures _ c.in-Ok.is in
     let s = c.args in
     let h = form in
     let b = s.book.now in
-    promised _ _ b _ _ c.preview-in-Count.ensures
+    promised _ _ b _ _ c.preview-in-Ok.ensures
     (subst (AddAnswers s.word.now s.stock b) (sym (c.plan_add.ensures.answer ∙ ap (add_of (entries b) (length b)) (form_front h))) (word_stored h.stored))

@@ -17,24 +17,24 @@ use Rattle.wordbook.proofs.remove.Goals as goal
 
 pub slice_bounds-values-end : goal.slice_bounds-values-end
 slice_bounds-values-end c =
-    let form : FormAt c.args.word.now (zeros limit) c.enter.new.values c.in-Count.count =
-    entered_form _ (zeros limit) _ _ c.enter.ensures _ c.in-Count.is in
+    let form : FormAt c.args.word.now (zeros limit) c.enter.new.values c.in-Ok.count =
+    entered_form _ (zeros limit) _ _ c.enter.ensures _ c.in-Ok.is in
     form_fits form
 
 pub slice_bounds-remove-end : goal.slice_bounds-remove-end
 slice_bounds-remove-end c =
-    let form : FormAt c.args.word.now (zeros limit) c.enter.new.values c.in-Count.count =
-    entered_form _ (zeros limit) _ _ c.enter.ensures _ c.in-Count.is in
+    let form : FormAt c.args.word.now (zeros limit) c.enter.new.values c.in-Ok.count =
+    entered_form _ (zeros limit) _ _ c.enter.ensures _ c.in-Ok.is in
     sym (length-take-le _ _ (form_fits form))
 
-pub returns-in-Refused : goal.returns-in-Refused
-returns-in-Refused c =
-    record { answers = word_refused (entered_refused _ (zeros limit) _ _ c.enter.ensures _ c.in-Refused.is); bytes = refl }
+pub returns-in-Err : goal.returns-in-Err
+returns-in-Err c =
+    record { answers = word_refused (entered_refused _ (zeros limit) _ _ c.enter.ensures _ c.in-Err.is); bytes = refl }
 
-pub returns-in-Count : goal.returns-in-Count
-returns-in-Count c =
-    let form : FormAt c.args.word.now (zeros limit) c.enter.new.values c.in-Count.count =
-    entered_form _ (zeros limit) _ _ c.enter.ensures _ c.in-Count.is in
+pub returns-in-Ok : goal.returns-in-Ok
+returns-in-Ok c =
+    let form : FormAt c.args.word.now (zeros limit) c.enter.new.values c.in-Ok.count =
+    entered_form _ (zeros limit) _ _ c.enter.ensures _ c.in-Ok.is in
     let s = c.args in
     let h = form in
     let outcome = outcome_of c.remove.result in

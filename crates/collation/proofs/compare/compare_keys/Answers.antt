@@ -8,26 +8,26 @@ use Rattle.collation.proofs.Weighing.{weighed_refused, weighed_stores, weighed_l
 use Rattle.collation.proofs.Comparing.{keys_decide, forms_decide}
 use Rattle.collation.proofs.compare.compare_keys.Goals as goal
 
-pub returns-in-Refused : goal.returns-in-Refused
-returns-in-Refused c =
-    weighed_refused c.args.first.now c.weigh-one_answer.result _ c.weigh-one_answer.ensures c.in-Refused.refusal
-    c.in-Refused.is
+pub returns-in-Err : goal.returns-in-Err
+returns-in-Err c =
+    weighed_refused c.args.first.now c.weigh-one_answer.result _ c.weigh-one_answer.ensures c.in-Err.refusal
+    c.in-Err.is
 
-pub returns-in-Refused-other_answer : goal.returns-in-Refused-other_answer
-returns-in-Refused-other_answer c =
+pub returns-in-Err-other_answer : goal.returns-in-Err-other_answer
+returns-in-Err-other_answer c =
     record {
-      first_count = c.in-Count.count;
+      first_count = c.in-Ok.count;
       first_passes = weighed_stores (record {
         word = c.args.first.now;
         answer = c.weigh-one_answer.result;
         bytes = _;
         right = c.weigh-one_answer.ensures;
-        count = c.in-Count.count;
-        told = c.in-Count.is;
+        count = c.in-Ok.count;
+        told = c.in-Ok.is;
       });
       second_refused =
           weighed_refused c.args.second.now c.weigh-other_answer.result _ c.weigh-other_answer.ensures
-          c.in-Refused-other_answer.refusal c.in-Refused-other_answer.is;
+          c.in-Err-other_answer.refusal c.in-Err-other_answer.is;
     }
 
 pub overflow_mul-one_end : goal.overflow_mul-one_end
@@ -37,8 +37,8 @@ overflow_mul-one_end c =
       answer = c.weigh-one_answer.result;
       bytes = _;
       right = c.weigh-one_answer.ensures;
-      count = c.in-Count.count;
-      told = c.in-Count.is;
+      count = c.in-Ok.count;
+      told = c.in-Ok.is;
     }) in omega arith
 
 pub overflow_mul-other_end : goal.overflow_mul-other_end
@@ -48,8 +48,8 @@ overflow_mul-other_end c =
       answer = c.weigh-other_answer.result;
       bytes = _;
       right = c.weigh-other_answer.ensures;
-      count = c.in-Count-other_answer.count;
-      told = c.in-Count-other_answer.is;
+      count = c.in-Ok-other_answer.count;
+      told = c.in-Ok-other_answer.is;
     }) in omega arith
 
 pub slice_bounds-one-end : goal.slice_bounds-one-end
@@ -61,8 +61,8 @@ slice_bounds-one-end c =
         answer = c.weigh-one_answer.result;
         bytes = _;
         right = c.weigh-one_answer.ensures;
-        count = c.in-Count.count;
-        told = c.in-Count.is;
+        count = c.in-Ok.count;
+        told = c.in-Ok.is;
       }),
     )
 
@@ -75,8 +75,8 @@ slice_bounds-order_bytes-end c =
         answer = c.weigh-one_answer.result;
         bytes = _;
         right = c.weigh-one_answer.ensures;
-        count = c.in-Count.count;
-        told = c.in-Count.is;
+        count = c.in-Ok.count;
+        told = c.in-Ok.is;
       }),
     )))
 
@@ -89,8 +89,8 @@ slice_bounds-other-end c =
         answer = c.weigh-other_answer.result;
         bytes = _;
         right = c.weigh-other_answer.ensures;
-        count = c.in-Count-other_answer.count;
-        told = c.in-Count-other_answer.is;
+        count = c.in-Ok-other_answer.count;
+        told = c.in-Ok-other_answer.is;
       }),
     )
 
@@ -103,8 +103,8 @@ slice_bounds-order_bytes-end-2 c =
         answer = c.weigh-other_answer.result;
         bytes = _;
         right = c.weigh-other_answer.ensures;
-        count = c.in-Count-other_answer.count;
-        told = c.in-Count-other_answer.is;
+        count = c.in-Ok-other_answer.count;
+        told = c.in-Ok-other_answer.is;
       }),
     )))
 
@@ -115,15 +115,15 @@ returns-in_default c =
       answer = c.weigh-one_answer.result;
       bytes = _;
       right = c.weigh-one_answer.ensures;
-      count = c.in-Count.count;
-      told = c.in-Count.is;
+      count = c.in-Ok.count;
+      told = c.in-Ok.is;
     }) (record {
       word = c.args.second.now;
       answer = c.weigh-other_answer.result;
       bytes = _;
       right = c.weigh-other_answer.ensures;
-      count = c.in-Count-other_answer.count;
-      told = c.in-Count-other_answer.is;
+      count = c.in-Ok-other_answer.count;
+      told = c.in-Ok-other_answer.is;
     })) c.order_bytes-order.result c.order_bytes-order.ensures
     (search opened) c.answer_of.result c.answer_of.ensures
 
@@ -134,16 +134,16 @@ order_forms-requires c = (
     answer = c.weigh-one_answer.result;
     bytes = _;
     right = c.weigh-one_answer.ensures;
-    count = c.in-Count.count;
-    told = c.in-Count.is;
+    count = c.in-Ok.count;
+    told = c.in-Ok.is;
   })).admissible.short,
   (weighed_stores (record {
     word = c.args.second.now;
     answer = c.weigh-other_answer.result;
     bytes = _;
     right = c.weigh-other_answer.ensures;
-    count = c.in-Count-other_answer.count;
-    told = c.in-Count-other_answer.is;
+    count = c.in-Ok-other_answer.count;
+    told = c.in-Ok-other_answer.is;
   })).admissible.short,
 )
 
@@ -154,14 +154,14 @@ returns c =
       answer = c.weigh-one_answer.result;
       bytes = _;
       right = c.weigh-one_answer.ensures;
-      count = c.in-Count.count;
-      told = c.in-Count.is;
+      count = c.in-Ok.count;
+      told = c.in-Ok.is;
     }) (record {
       word = c.args.second.now;
       answer = c.weigh-other_answer.result;
       bytes = _;
       right = c.weigh-other_answer.ensures;
-      count = c.in-Count-other_answer.count;
-      told = c.in-Count-other_answer.is;
+      count = c.in-Ok-other_answer.count;
+      told = c.in-Ok-other_answer.is;
     })) c.order_bytes-order.result c.order_bytes-order.ensures
     c.in-Equal.is c.order_forms.result c.order_forms.ensures c.answer_of-2.result c.answer_of-2.ensures

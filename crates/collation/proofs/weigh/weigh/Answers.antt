@@ -3,8 +3,8 @@
 use Rattle.collation.proofs.Weighing.{row_weighed, refused_zeros}
 use Rattle.collation.proofs.weigh.weigh.Goals as goal
 
-pub returns-in-Count : goal.returns-in-Count
-returns-in-Count c = row_weighed c.args.word.now c.fill-answer.result _ c.fill-answer.ensures c.in-Count.field-0 c.in-Count.is
+pub returns-in-Ok : goal.returns-in-Ok
+returns-in-Ok c = row_weighed c.args.word.now c.fill-answer.result _ c.fill-answer.ensures c.in-Ok.field-0 c.in-Ok.is
 
 pub weigh_stored-requires : goal.weigh_stored-requires
 weigh_stored-requires c =

@@ -19,11 +19,11 @@ slice_bounds-values-end c = held_fits c.stored-form.result (stored_form c.args.w
 pub slice_bounds-fill-end : goal.slice_bounds-fill-end
 slice_bounds-fill-end c = held_length c.stored-form.result (stored_form c.args.word.now) c.stored-form.ensures
 
-pub returns-in-Refused : goal.returns-in-Refused
-returns-in-Refused c =
+pub returns-in-Err : goal.returns-in-Err
+returns-in-Err c =
     let word = c.args.word.now in
     form_refused word _ c.if-word-gt-LIMIT.false (held_front c.stored-form.result (stored_form word) c.stored-form.ensures) c.fill-answer.result _ c.fill-answer.ensures
-    c.in-Refused.refusal c.as_handed_in.result c.in-Refused.is c.as_handed_in.ensures
+    c.in-Err.refusal c.as_handed_in.result c.in-Err.is c.as_handed_in.ensures
 
 pub returns : goal.returns
 returns c =

@@ -6,7 +6,8 @@ use lib.ListN.{length, get_or}
 use Rattle.formula.specs.Packed.{unread}
 use Rattle.formula.specs.declared.Window.{Window}
 use Rattle.refusals.specs.Outcome.{outcome_of}
-use Rattle.refusals.specs.declared.Counted.{Counted}
+use Rattle.std.specs.declared.result.Result.{Result}
+use Rattle.refusals.specs.declared.Refusal.{Refusal}
 use Rattle.transitions.specs.Tables.{entry_of, gain_of, next_by, gain_by}
 use Rattle.transitions.proofs.Entered.{next_entry, next_gain}
 use Rattle.recogniser.specs.Answer.{too_long}
@@ -104,13 +105,13 @@ put_last-requires c =
     let b = within c.loop-at.invariant.1 in
     let i = c.loop-at.invariant.0 in (omega (arith, c.if-word-gt-LIMIT.false), c.medial_weights-medials.ensures)
 
-pub returns-in-Count : goal.returns-in-Count
-returns-in-Count c =
+pub returns-in-Ok : goal.returns-in-Ok
+returns-in-Ok c =
     let word = c.args.word.now in
     record {
       answers = c.answer_at-answer.ensures;
       key =
-          subst (λ (k : Counted). KeyIfRead word (outcome_of k) c.put_last.new.bytes) (sym c.in-Count.is)
+          subst (λ (k : Result ℕ Refusal). KeyIfRead word (outcome_of k) c.put_last.new.bytes) (sym c.in-Ok.is)
           (λ row g. c.put_last.ensures
           ∙ key_whole c.loop-at.invariant.1 c.if-word-gt-LIMIT.false c.loop-at.invariant.0 c.loop-at-test.false row g);
       size =
@@ -122,6 +123,6 @@ returns c =
     let word = c.args.word.now in
     record {
       answers = c.answer_at-answer.ensures;
-      key = subst (λ (k : Counted). KeyIfRead word (outcome_of k) (zeros key_limit)) (sym c.in_default.is) refl;
+      key = subst (λ (k : Result ℕ Refusal). KeyIfRead word (outcome_of k) (zeros key_limit)) (sym c.in_default.is) refl;
       size = refl;
     }

@@ -7,10 +7,11 @@ use Prim.Native.Nat.{ℕ}
 use lib.Dec.{T, eqb, eqb→eq}
 use lib.ListN.{get_or}
 use borrow.Author.Rules.{rules}
+use Rattle.std.specs.Bool.{then_some}
 use Rattle.letters.specs.Choice.{pick}
 use Rattle.letters.specs.Weights.{medial_set_weight}
-use Rattle.letters.specs.declared.weight.Weighed.{Weighed}
-use Rattle.letters.specs.declared.weight.Weighed.TheVariants.{Weight, Nothing}
+use Rattle.std.specs.declared.option.Option.{Option}
+use Rattle.std.specs.declared.option.Option.TheVariants.{None, Some}
 use Rattle.letters.proofs.Picks.{pick_no, from_eqb}
 use Rattle.letters.proofs.Table.{at}
 use Rattle.letters.proofs.weight.medial_weight.Goals as goal
@@ -19,21 +20,21 @@ table : List ℕ
 table = 0 ∷ 1 ∷ 2 ∷ 255 ∷ 3 ∷ 5 ∷ 6 ∷ 255 ∷ 4 ∷ 7 ∷ 8 ∷ 255 ∷ 9 ∷ 10 ∷ 11 ∷ 255 ∷ []
 
 -- what an entry says
-entry : ℕ → Weighed
-entry x = pick (not (eqb x 255)) (Weight x) Nothing
+entry : ℕ → Option ℕ
+entry x = then_some (not (eqb x 255)) x
 
-same : Weighed → Weighed → Bool
-same (Weight a) (Weight b) = eqb a b
-same (Weight a) Nothing = false
-same Nothing (Weight b) = false
-same Nothing Nothing = true
+same : Option ℕ → Option ℕ → Bool
+same (Some a) (Some b) = eqb a b
+same (Some a) None = false
+same None (Some b) = false
+same None None = true
 
-same_equal : (v w : Weighed) → T (same v w) → v ≡ w
+same_equal : (v w : Option ℕ) → T (same v w) → v ≡ w
 unfolding same
-same_equal (Weight a) (Weight b) t = ap Weight (eqb→eq a b t)
-same_equal (Weight a) Nothing t = absurd t
-same_equal Nothing (Weight b) t = absurd t
-same_equal Nothing Nothing t = refl
+same_equal (Some a) (Some b) t = ap Some (eqb→eq a b t)
+same_equal (Some a) None t = absurd t
+same_equal None (Some b) t = absurd t
+same_equal None None t = refl
 
 right : ℕ → ℕ → Bool
 right k x = same (entry x) (medial_set_weight k)
@@ -45,4 +46,4 @@ pub returns : goal.returns
 unfolding table entry same right pick
 returns c =
     let set = c.args.set in
-    c.weight_if.ensures ∙ same_equal (entry (get_or table set 0)) (medial_set_weight set) (at right table tt set (search rules))
+    c.then_some.ensures ∙ same_equal (entry (get_or table set 0)) (medial_set_weight set) (at right table tt set (search rules))

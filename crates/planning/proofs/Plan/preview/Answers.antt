@@ -11,8 +11,8 @@ previewed : (self plan : Plan) (answer : Outcome) → answer ≡ plan_outcome se
     → ◌≡◌ {A = PreviewOutcome} (record { answer = answer; start = start_of (plan_outcome plan); tidies = tidies_of (plan_outcome plan) }) (preview_of (plan_outcome self))
 previewed self plan answer e k = λ i. record { answer = e i; start = start_of (plan_outcome (sym k i)); tidies = tidies_of (plan_outcome (sym k i)) }
 
-pub returns-in-Refused : goal.returns-in-Refused
-returns-in-Refused c = previewed _ _ _ c.reply-answer.ensures c.in-Refused.is
+pub returns-in-Err : goal.returns-in-Err
+returns-in-Err c = previewed _ _ _ c.reply-answer.ensures c.in-Err.is
 
 pub returns-in-Behind : goal.returns-in-Behind
 returns-in-Behind c = previewed _ _ _ c.reply-answer.ensures c.in-Behind.is

@@ -4,8 +4,8 @@ use mathlib.Core.Path.{sym, ap}
 use Rattle.planning.specs.Plan.{plan_outcome}
 use Rattle.planning.proofs.Plan.reply.Goals as goal
 
-pub returns-in-Refused : goal.returns-in-Refused
-returns-in-Refused c = sym (ap plan_outcome c.in-Refused.is)
+pub returns-in-Err : goal.returns-in-Err
+returns-in-Err c = sym (ap plan_outcome c.in-Err.is)
 
 pub returns-in-Behind : goal.returns-in-Behind
 returns-in-Behind c = sym (ap plan_outcome c.in-Behind.is)

@@ -2,7 +2,8 @@
 -- Assumes nothing.
 use mathlib.Core.Path.{refl, sym, subst}
 use Rattle.refusals.specs.Outcome.{outcome_of}
-use Rattle.refusals.specs.declared.Counted.{Counted}
+use Rattle.std.specs.declared.result.Result.{Result}
+use Rattle.refusals.specs.declared.Refusal.{Refusal}
 use Rattle.recogniser.specs.Answer.{too_long, Answers}
 use Rattle.reading.specs.Reading.{SyllablesFor, ReadRight}
 use Rattle.scanning.proofs.Stopped.{syllables_right}
@@ -16,12 +17,12 @@ returns-then-word-gt-LIMIT c =
 pub answer_at-answer-requires : goal.answer_at-answer-requires
 answer_at-answer-requires c = c.scan_word-scan.ensures.stopped
 
-pub returns-in-Refused : goal.returns-in-Refused
-returns-in-Refused c =
+pub returns-in-Err : goal.returns-in-Err
+returns-in-Err c =
     let word = c.args.word.now in
-    subst (ReadRight word) (sym c.refused-in-Refused.ensures)
+    subst (ReadRight word) (sym c.refused-in-Err.ensures)
     (record {
-      answers = subst (λ (a : Counted). Answers word (outcome_of a)) c.in-Refused.is c.answer_at-answer.ensures;
+      answers = subst (λ (a : Result ℕ Refusal). Answers word (outcome_of a)) c.in-Err.is c.answer_at-answer.ensures;
       syllables = refl;
     })
 
@@ -33,7 +34,7 @@ returns c =
     record {
       answers = c.answer_at-answer.ensures;
       syllables =
-          subst (λ (r : Counted). SyllablesFor word (outcome_of r) scan.syllables) (sym e)
+          subst (λ (r : Result ℕ Refusal). SyllablesFor word (outcome_of r) scan.syllables) (sym e)
           (syllables_right word scan.at scan.state scan.count c.scan_word-scan.ensures.stopped c.in_default.field-0
-          (subst (λ (r : Counted). Answers word (outcome_of r)) e c.answer_at-answer.ensures) scan.syllables c.scan_word-scan.ensures.whole);
+          (subst (λ (r : Result ℕ Refusal). Answers word (outcome_of r)) e c.answer_at-answer.ensures) scan.syllables c.scan_word-scan.ensures.whole);
     }

@@ -2,10 +2,10 @@
 -- Assumes nothing.
 use mathlib.Core.Path.{ap, ◌∙◌}
 use Rattle.letters.specs.Weights.{weight_or}
-use Rattle.letters.specs.declared.weight.Weighed.{Weighed}
+use Rattle.std.specs.declared.option.Option.{Option}
 use Rattle.reading.specs.Records.{medial_weight_by}
 use Rattle.reading.proofs.records.medial_weight.Goals as goal
 
 pub returns : goal.returns
 unfolding medial_weight_by
-returns c = c.weight_or.ensures ∙ ap (λ (w : Weighed). weight_or w 0) c.medial_weight.ensures
+returns c = c.weight_or.ensures ∙ ap (λ (w : Option ℕ). weight_or w 0) c.medial_weight.ensures

@@ -3,7 +3,8 @@
 use mathlib.Core.Path.{refl, sym, subst}
 use native.Mathlib.Omega.{arith}
 use Rattle.refusals.specs.Outcome.{outcome_of}
-use Rattle.refusals.specs.declared.Counted.{Counted}
+use Rattle.std.specs.declared.result.Result.{Result}
+use Rattle.refusals.specs.declared.Refusal.{Refusal}
 use Rattle.recogniser.specs.Answer.{Reads, Answers}
 use Rattle.recogniser.proofs.Counted.{count_limit}
 use Rattle.reading.specs.Records.{RecordRight}
@@ -12,8 +13,8 @@ use Rattle.reading.proofs.records.record_at.Goals as goal
 
 pub returns-then-count-number : goal.returns-then-count-number
 returns-then-count-number c =
-    let row_read : Reads c.args.word.now c.in-Count.count =
-    reads c.args.word.now c.read-reading.result c.read-reading.ensures c.in-Count.count c.in-Count.is in
+    let row_read : Reads c.args.word.now c.in-Ok.count =
+    reads c.args.word.now c.read-reading.result c.read-reading.ensures c.in-Ok.count c.in-Ok.is in
     let s = c.args in
     let r = row_read in
     subst (RecordRight s.word.now s.number) (sym c.without_record-then-count-number.ensures)
@@ -21,26 +22,26 @@ returns-then-count-number c =
 
 pub offset_bounds-syllables-number : goal.offset_bounds-syllables-number
 offset_bounds-syllables-number c =
-    let row_read : Reads c.args.word.now c.in-Count.count =
-    reads c.args.word.now c.read-reading.result c.read-reading.ensures c.in-Count.count c.in-Count.is in
+    let row_read : Reads c.args.word.now c.in-Ok.count =
+    reads c.args.word.now c.read-reading.result c.read-reading.ensures c.in-Ok.count c.in-Ok.is in
     let h = c.if-count-number.false in omega (arith, count_limit _ _ row_read)
 
 pub bounds-syllables-number : goal.bounds-syllables-number
 bounds-syllables-number c =
-    let row_read : Reads c.args.word.now c.in-Count.count =
-    reads c.args.word.now c.read-reading.result c.read-reading.ensures c.in-Count.count c.in-Count.is in
+    let row_read : Reads c.args.word.now c.in-Ok.count =
+    reads c.args.word.now c.read-reading.result c.read-reading.ensures c.in-Ok.count c.in-Ok.is in
     let h = c.if-count-number.false in omega (arith, count_limit _ _ row_read)
 
-pub returns-in-Refused : goal.returns-in-Refused
-returns-in-Refused c =
+pub returns-in-Err : goal.returns-in-Err
+returns-in-Err c =
     let s = c.args in
     subst (RecordRight s.word.now s.number) (sym c.without_record.ensures)
-    (record { refused = subst (λ (r : Counted). Answers s.word.now (outcome_of r)) c.in-Refused.is c.read-reading.ensures.answers; is = refl })
+    (record { refused = subst (λ (r : Result ℕ Refusal). Answers s.word.now (outcome_of r)) c.in-Err.is c.read-reading.ensures.answers; is = refl })
 
 pub returns-else-count-number : goal.returns-else-count-number
 returns-else-count-number c =
     let s = c.args in (
       refl,
-      has_record s.word.now c.read-reading.result c.read-reading.ensures c.in-Count.count c.in-Count.is s.number c.if-count-number.false
+      has_record s.word.now c.read-reading.result c.read-reading.ensures c.in-Ok.count c.in-Ok.is s.number c.if-count-number.false
           _ c.bytes_of-bytes.result c.bytes_of-bytes.ensures,
     )

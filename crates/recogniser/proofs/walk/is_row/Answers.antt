@@ -2,7 +2,8 @@
 -- Assumes nothing.
 use mathlib.Core.Path.{subst}
 use Rattle.refusals.specs.Outcome.{outcome_of}
-use Rattle.refusals.specs.declared.Counted.{Counted}
+use Rattle.std.specs.declared.result.Result.{Result}
+use Rattle.refusals.specs.declared.Refusal.{Refusal}
 use Rattle.recogniser.specs.Answer.{Answers}
 use Rattle.recogniser.proofs.Answered.{reads_readable, refused_unreadable}
 use Rattle.recogniser.proofs.walk.is_row.Goals as goal
@@ -10,9 +11,9 @@ use Rattle.recogniser.proofs.walk.is_row.Goals as goal
 pub returns-in_default : goal.returns-in_default
 returns-in_default c =
     let word = c.args.word.now in
-    refused_unreadable word _ _ (subst (λ (w : Counted). Answers word (outcome_of w)) c.in_default.is c.answer_of-answer.ensures)
+    refused_unreadable word _ _ (subst (λ (w : Result ℕ Refusal). Answers word (outcome_of w)) c.in_default.is c.answer_of-answer.ensures)
 
 pub returns : goal.returns
 returns c =
     let word = c.args.word.now in
-    reads_readable word _ (subst (λ (w : Counted). Answers word (outcome_of w)) c.in-Count.is c.answer_of-answer.ensures)
+    reads_readable word _ (subst (λ (w : Result ℕ Refusal). Answers word (outcome_of w)) c.in-Ok.is c.answer_of-answer.ensures)
