@@ -7,7 +7,6 @@ ghost use Rattle.book_fitting.specs.Fitting.{has_prefix, KeyWithin, AllWithin, K
 use std::cmp::Ordering;
 use formula::Word;
 use memory::casts::{place_of, wide};
-use weighing::order::order_bytes;
 
 // Whether the weights of the record at a start begin with these.
 fn has_prefix(keys: &[u8], start: usize, prefix: &[u8]) -> bool
@@ -20,7 +19,7 @@ fn has_prefix(keys: &[u8], start: usize, prefix: &[u8]) -> bool
     }
     let first = from + 1;
     let end = first + prefix.len();
-    match order_bytes(&keys[first..end], prefix) {
+    match keys[first..end].cmp(prefix) {
         Ordering::Less => false,
         Ordering::Equal => true,
         Ordering::Greater => false,

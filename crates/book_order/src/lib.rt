@@ -13,7 +13,6 @@ use book_frame::HEAD;
 use book_keys::KEY_ROOM;
 use formula::Word;
 use memory::casts::wide;
-use weighing::order::{order_bytes, order_numbers};
 
 fn is_less(order: Ordering) -> bool
     ensures { result ≡ is_less order }
@@ -38,7 +37,7 @@ fn order_parts(
 {
     let first_end = first + first_size;
     let second_end = second + second_size;
-    order_bytes(&bytes[first..first_end], &bytes[second..second_end])
+    bytes[first..first_end].cmp(&bytes[second..second_end])
 }
 
 // The two bytes from a place on as one number, the first highest.
@@ -75,7 +74,7 @@ fn order_fronts(
     if first_size < 8 || second_size < 8 {
         return Ordering::Equal;
     }
-    order_numbers(front(bytes, first), front(bytes, second))
+    front(bytes, first).cmp(&front(bytes, second))
 }
 
 // The order of two parts, by their first eight bytes at once where these decide.

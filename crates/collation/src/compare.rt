@@ -10,7 +10,6 @@ use crate::heads::order_heads;
 use crate::weigh::weigh;
 use formula::Word;
 use refusals::PairRefusal;
-use weighing::order::{order_bytes, order_values};
 
 // What is told of two words that are in this order.
 fn answer_of(order: Ordering) -> Result<usize, PairRefusal>
@@ -34,7 +33,7 @@ fn order_forms(first: &[u16], second: &[u16]) -> Ordering
     let one_count = one.count;
     let other_values = other.values;
     let other_count = other.count;
-    order_values(&one_values[..one_count], &other_values[..other_count])
+    one_values[..one_count].cmp(&other_values[..other_count])
 }
 
 // Compares two words by their weights, whatever their first heads are.
@@ -55,7 +54,7 @@ fn compare_keys(first: &[u16], second: &[u16]) -> Result<usize, PairRefusal>
     };
     let one_end = Word::WEIGHTS * one_count;
     let other_end = Word::WEIGHTS * other_count;
-    let order = order_bytes(&one[..one_end], &other[..other_end]);
+    let order = one[..one_end].cmp(&other[..other_end]);
     let Ordering::Equal = order else {
         return answer_of(order);
     };

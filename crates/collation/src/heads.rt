@@ -5,7 +5,6 @@ ghost use Rattle.collation.specs.Comparison.{first_head, HeadsTell};
 use std::cmp::Ordering;
 use letters::weight::head_weight;
 use recogniser::walk::is_row;
-use weighing::order::order_numbers;
 
 // The weight of a word's first value as a head; 0 where it is none, and for no values.
 fn first_head(word: &[u16]) -> usize
@@ -21,7 +20,7 @@ fn first_head(word: &[u16]) -> usize
 pub(crate) fn order_heads(first: &[u16], second: &[u16]) -> Ordering
     ensures { HeadsTell first.now second.now result }
 {
-    let order = order_numbers(first_head(first), first_head(second));
+    let order = first_head(first).cmp(&first_head(second));
     if let Ordering::Equal = order {
         return order;
     }

@@ -9,7 +9,6 @@ use std::cmp::Ordering;
 use labelling::skeleton;
 use refusals::PairRefusal;
 use skeletons::LIMIT;
-use weighing::order::order_values;
 
 // What is told of two skeletons whose order by code values is this: 1 where they are the same.
 fn likeness(order: Ordering) -> Result<usize, PairRefusal>
@@ -38,5 +37,5 @@ pub fn look_alike(first: &[u16], second: &[u16]) -> Result<usize, PairRefusal>
         Err(refusal) => return Err(PairRefusal::Second(refusal)),
         Ok(count) => count,
     };
-    likeness(order_values(&one[..one_count], &other[..other_count]))
+    likeness(one[..one_count].cmp(&other[..other_count]))
 }

@@ -4,7 +4,6 @@ ghost use Rattle.reading.specs.Records.{medial_weight_by, bytes_by, without_reco
 
 use crate::read::read;
 use formula::Word;
-use letters::weight::weight_or;
 use refusals::Refusal;
 use syllables::parts;
 
@@ -26,7 +25,7 @@ pub struct SyllableRecord {
 fn medial_weight(set: u8) -> u8
     ensures { result ≡ medial_weight_by set }
 {
-    weight_or(letters::weight::medial_weight(set), 0)
+    letters::weight::medial_weight(set).unwrap_or(0)
 }
 
 // The record of a packed syllable.

@@ -1,7 +1,7 @@
--- Number and place determine the refusal: both give it back, the number as the index of its variant. So an outcome determines a counted answer, a reply and
--- an answer on two words.
+-- Number and place determine the refusal: both give it back, the number as the index of its variant. So an outcome determines an answer and an answer on two
+-- words.
 -- Assumes nothing.
-use mathlib.Core.Path.{◌≡◌, refl}
+use mathlib.Core.Path.{◌≡◌, refl, sym, ap}
 use mathlib.Core.List.{[], ◌∷◌}
 use Prim.Native.Nat.{ℕ}
 use lib.ListN.{get_or}
@@ -9,13 +9,13 @@ use Rattle.refusals.specs.declared.Refusal.{Refusal}
 use Rattle.refusals.specs.declared.Refusal.TheVariants.{TooLong, Foreign, NoContinuation, Unfinished, OutputTooShort, NoSuchRow, FaultyLine, EmptyWord, NotABook, AlreadyLive, NotLive, BookFull, RankTooHigh, StopOrSign, ConfusableDigit, TooManySyllables}
 use Rattle.std.specs.declared.result.Result.{Result}
 use Rattle.std.specs.declared.result.Result.TheVariants.{Ok, Err}
-use Rattle.refusals.specs.declared.Reply.{Reply}
-use Rattle.refusals.specs.declared.Reply.TheVariants.{One, Two, Nothing}
+use Rattle.std.specs.declared.option.Option.{Option}
+use Rattle.std.specs.declared.option.Option.TheVariants.{Some, None}
 use Rattle.refusals.specs.Refusal.{number_of, place_of}
 use Rattle.refusals.specs.declared.PairRefusal.{PairRefusal}
 use Rattle.refusals.specs.declared.PairRefusal.TheVariants.{First, Second}
-use Rattle.refusals.specs.Outcome.{outcome_of, reply_outcome}
-use Rattle.refusals.specs.Pair.{pair_outcome_of}
+use Rattle.refusals.specs.Outcome.{Outcome, absent, refuses, outcome_by, outcome_of, tells_if_there}
+use Rattle.refusals.specs.Pair.{PairOutcome, tells, pair_outcome_by}
 
 -- the refusal of a number and a place; `NotLive` stands where there is no refusal, at 0, 9, 10 and 16 to 20
 refusal_of : ℕ → ℕ → Refusal
@@ -56,33 +56,35 @@ counted_once (Ok n) (Err s) e = cc
 counted_once (Err r) (Ok m) e = cc
 counted_once (Err r) (Err s) e = cc (number_place_injective r s (cc) (cc))
 
--- replies with equal outcomes are equal
-pub reply_once : (a b : Result Reply Refusal) → reply_outcome a ≡ reply_outcome b → a ≡ b
-reply_once (Ok (One n)) (Ok (One m)) e = cc
-reply_once (Ok (One n)) (Ok (Two f s)) e = cc
-reply_once (Ok (One n)) (Ok Nothing) e = cc
-reply_once (Ok (One n)) (Err r) e = cc
-reply_once (Ok (Two f s)) (Ok (One m)) e = cc
-reply_once (Ok (Two f s)) (Ok (Two g t)) e = cc
-reply_once (Ok (Two f s)) (Ok Nothing) e = cc
-reply_once (Ok (Two f s)) (Err r) e = cc
-reply_once (Ok Nothing) (Ok (One m)) e = cc
-reply_once (Ok Nothing) (Ok (Two g t)) e = cc
-reply_once (Ok Nothing) (Ok Nothing) e = refl
-reply_once (Ok Nothing) (Err r) e = cc
-reply_once (Err r) (Ok (One m)) e = cc
-reply_once (Err r) (Ok (Two g t)) e = cc
-reply_once (Err r) (Ok Nothing) e = cc
-reply_once (Err r) (Err s) e = cc (number_place_injective r s (cc) (cc))
+-- answers with equal outcomes are equal, where what they tell is told of one thing alone, and is no refusal
+module _ {A : Type 0} (tells : A → Outcome) (once : (a b : A) → tells a ≡ tells b → a ≡ b)
+    (no_refusal : (a : A) (number place : ℕ) → tells a ≡ refuses number place → ⊥) where
+  pub answer_once : (a b : Result A Refusal) → outcome_by tells a ≡ outcome_by tells b → a ≡ b
+  answer_once (Ok a) (Ok b) e = ap Ok (once a b e)
+  answer_once (Ok a) (Err s) e = absurd (no_refusal a (number_of s) (place_of s) e)
+  answer_once (Err r) (Ok b) e = absurd (no_refusal b (number_of r) (place_of r) (sym e))
+  answer_once (Err r) (Err s) e = cc (number_place_injective r s (cc) (cc))
 
--- answers on two words with equal outcomes are equal
-pub paired_once : (a b : Result ℕ PairRefusal) → pair_outcome_of a ≡ pair_outcome_of b → a ≡ b
-paired_once (Ok n) (Ok m) e = cc
-paired_once (Ok n) (Err (First s)) e = cc
-paired_once (Ok n) (Err (Second s)) e = cc
-paired_once (Err (First r)) (Ok m) e = cc
-paired_once (Err (First r)) (Err (First s)) e = cc (number_place_injective r s (cc) (cc))
-paired_once (Err (First r)) (Err (Second s)) e = cc
-paired_once (Err (Second r)) (Ok m) e = cc
-paired_once (Err (Second r)) (Err (First s)) e = cc
-paired_once (Err (Second r)) (Err (Second s)) e = cc (number_place_injective r s (cc) (cc))
+-- what there may be nothing of is told once, where what is there is
+module _ {A : Type 0} (tells : A → Outcome) (once : (a b : A) → tells a ≡ tells b → a ≡ b) (there : (a : A) → tells a ≡ absent → ⊥) where
+  pub tells_once : (a b : Option A) → tells_if_there tells a ≡ tells_if_there tells b → a ≡ b
+  tells_once (Some a) (Some b) e = ap Some (once a b e)
+  tells_once (Some a) None e = absurd (there a e)
+  tells_once None (Some b) e = absurd (there b (sym e))
+  tells_once None None e = refl
+
+-- answers on two words with equal outcomes are equal, where a number stands for one thing alone
+module _ {A : Type 0} (number : A → ℕ) (one : (a b : A) → number a ≡ number b → a ≡ b) where
+  told_once : (a b : A) → tells (number a) ≡ tells (number b) → a ≡ b
+  told_once a b e = one a b (cc)
+
+  pub paired_once : (a b : Result A PairRefusal) → pair_outcome_by number a ≡ pair_outcome_by number b → a ≡ b
+  paired_once (Ok a) (Ok b) e = ap Ok (told_once a b e)
+  paired_once (Ok a) (Err (First s)) e = cc
+  paired_once (Ok a) (Err (Second s)) e = cc
+  paired_once (Err (First r)) (Ok b) e = cc
+  paired_once (Err (First r)) (Err (First s)) e = cc (number_place_injective r s (cc) (cc))
+  paired_once (Err (First r)) (Err (Second s)) e = cc
+  paired_once (Err (Second r)) (Ok b) e = cc
+  paired_once (Err (Second r)) (Err (First s)) e = cc
+  paired_once (Err (Second r)) (Err (Second s)) e = cc (number_place_injective r s (cc) (cc))

@@ -13,11 +13,11 @@ pub data PairOutcome : Type 0 where
   first_refuses : ℕ → ℕ → PairOutcome
   second_refuses : ℕ → ℕ → PairOutcome
 
--- what an answer on two words comes to
-abbrev pub pair_outcome_of : Result ℕ PairRefusal → PairOutcome
-pair_outcome_of (Ok n) = tells n
-pair_outcome_of (Err (First refusal)) = first_refuses (number_of refusal) (place_of refusal)
-pair_outcome_of (Err (Second refusal)) = second_refuses (number_of refusal) (place_of refusal)
+-- what an answer on two words comes to, by the number that stands for what is told of both
+abbrev pub pair_outcome_by : {A : Type 0} → (A → ℕ) → Result A PairRefusal → PairOutcome
+pair_outcome_by number (Ok told) = tells (number told)
+pair_outcome_by number (Err (First refusal)) = first_refuses (number_of refusal) (place_of refusal)
+pair_outcome_by number (Err (Second refusal)) = second_refuses (number_of refusal) (place_of refusal)
 
 -- by the tests that a word passes with so many syllables, or is refused by, and by what is told of two words that pass them
 module _ (Passes : List ℕ → ℕ → Type 0) (Refuses : List ℕ → ℕ → ℕ → Type 0) (Tells : List ℕ → List ℕ → ℕ → Type 0) where

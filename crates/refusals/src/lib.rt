@@ -77,14 +77,6 @@ impl Refusal {
     }
 }
 
-// What a call replies that is not refused: one number, two numbers, or that there is nothing of the number asked for.
-#[derive(Clone, Copy)]
-pub enum Reply {
-    One(usize),
-    Two(usize, usize),
-    Nothing,
-}
-
 // Which of two words is refused, and why.
 #[derive(Clone, Copy)]
 pub enum PairRefusal {

@@ -11,6 +11,7 @@ use Rattle.weighing.proofs.Prefix.{is_equal}
 use Rattle.book_keys.specs.Filing.{key_room}
 use Rattle.book_fitting.specs.Fitting.{has_prefix}
 use Rattle.book_fitting.proofs.Fits.{prefix_longer, prefix_told}
+use Rattle.weighing.proofs.Library.{lists_compared}
 use Rattle.book_fitting.proofs.has_prefix.Goals as goal
 
 pub overflow_mul-from : goal.overflow_mul-from
@@ -38,27 +39,27 @@ overflow_add-end c =
     omega (arith, c.requires.within, c.requires.room, c.wide.ensures.0, c.if-wide-prefix.false) in
     let w = within in omega arith
 
-pub slice_bounds-order_bytes-count : goal.slice_bounds-order_bytes-count
-slice_bounds-order_bytes-count c =
+pub slice_bounds-cmp-count : goal.slice_bounds-cmp-count
+slice_bounds-cmp-count c =
     let within : weight_count * c.args.start + 1 + length c.args.prefix.now ≤ key_room =
     omega (arith, c.requires.within, c.requires.room, c.wide.ensures.0, c.if-wide-prefix.false) in
     let w = within in omega arith
 
-pub slice_bounds-order_bytes-start : goal.slice_bounds-order_bytes-start
-slice_bounds-order_bytes-start c =
+pub slice_bounds-cmp-start : goal.slice_bounds-cmp-start
+slice_bounds-cmp-start c =
     let within : weight_count * c.args.start + 1 + length c.args.prefix.now ≤ key_room =
     omega (arith, c.requires.within, c.requires.room, c.wide.ensures.0, c.if-wide-prefix.false) in
     let w = within in omega arith
 
-pub slice_bounds-order_bytes-end : goal.slice_bounds-order_bytes-end
-slice_bounds-order_bytes-end c =
+pub slice_bounds-cmp-end : goal.slice_bounds-cmp-end
+slice_bounds-cmp-end c =
     let within : weight_count * c.args.start + 1 + length c.args.prefix.now ≤ key_room =
     omega (arith, c.requires.within, c.requires.room, c.wide.ensures.0, c.if-wide-prefix.false) in
     let w = within in omega (arith, c.requires.room)
 
 pub returns-in-Less : goal.returns-in-Less
 returns-in-Less c =
-    let told : (o : Ordering) → c.order_bytes.result ≡ o
+    let told : (o : Ordering) → c.cmp.result ≡ o
     → is_equal o ≡ has_prefix c.args.keys.now c.args.prefix.now c.args.start =
     λ o e. let keys = c.args.keys.now in
     let prefix = c.args.prefix.now in
@@ -66,12 +67,12 @@ returns-in-Less c =
     let n : from + length prefix - from ≡ length prefix = omega arith in
     sym
     (prefix_told keys prefix c.args.start c.requires c.wide.result c.wide.ensures.0 c.if-wide-prefix.false o
-    (sym e ∙ c.order_bytes.ensures ∙ ap (λ (k : ℕ). order_values (take k (drop from keys)) prefix) n)) in
+    (sym e ∙ (c.cmp.ensures ∙ lists_compared _ _) ∙ ap (λ (k : ℕ). order_values (take k (drop from keys)) prefix) n)) in
     told _ c.in-Less.is
 
 pub returns-in-Equal : goal.returns-in-Equal
 returns-in-Equal c =
-    let told : (o : Ordering) → c.order_bytes.result ≡ o
+    let told : (o : Ordering) → c.cmp.result ≡ o
     → is_equal o ≡ has_prefix c.args.keys.now c.args.prefix.now c.args.start =
     λ o e. let keys = c.args.keys.now in
     let prefix = c.args.prefix.now in
@@ -79,12 +80,12 @@ returns-in-Equal c =
     let n : from + length prefix - from ≡ length prefix = omega arith in
     sym
     (prefix_told keys prefix c.args.start c.requires c.wide.result c.wide.ensures.0 c.if-wide-prefix.false o
-    (sym e ∙ c.order_bytes.ensures ∙ ap (λ (k : ℕ). order_values (take k (drop from keys)) prefix) n)) in
+    (sym e ∙ (c.cmp.ensures ∙ lists_compared _ _) ∙ ap (λ (k : ℕ). order_values (take k (drop from keys)) prefix) n)) in
     told _ c.in-Equal.is
 
 pub returns-in-Greater : goal.returns-in-Greater
 returns-in-Greater c =
-    let told : (o : Ordering) → c.order_bytes.result ≡ o
+    let told : (o : Ordering) → c.cmp.result ≡ o
     → is_equal o ≡ has_prefix c.args.keys.now c.args.prefix.now c.args.start =
     λ o e. let keys = c.args.keys.now in
     let prefix = c.args.prefix.now in
@@ -92,5 +93,5 @@ returns-in-Greater c =
     let n : from + length prefix - from ≡ length prefix = omega arith in
     sym
     (prefix_told keys prefix c.args.start c.requires c.wide.result c.wide.ensures.0 c.if-wide-prefix.false o
-    (sym e ∙ c.order_bytes.ensures ∙ ap (λ (k : ℕ). order_values (take k (drop from keys)) prefix) n)) in
+    (sym e ∙ (c.cmp.ensures ∙ lists_compared _ _) ∙ ap (λ (k : ℕ). order_values (take k (drop from keys)) prefix) n)) in
     told _ c.in-Greater.is

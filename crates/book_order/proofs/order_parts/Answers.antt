@@ -5,6 +5,7 @@ use Prim.Native.Nat.{◌+◌, ◌-◌}
 use native.Mathlib.Omega.{arith}
 use lib.ListN.{take, drop}
 use Rattle.weighing.specs.Order.{order_values}
+use Rattle.weighing.proofs.Library.{lists_compared}
 use Rattle.book_order.proofs.order_parts.Goals as goal
 
 pub returns : goal.returns
@@ -12,5 +13,5 @@ returns c =
     let s = c.args in
     let n : s.first + s.first_size - s.first ≡ s.first_size = omega arith in
     let m : s.second + s.second_size - s.second ≡ s.second_size = omega arith in
-    c.order_bytes.ensures
+    (c.cmp.ensures ∙ lists_compared _ _)
     ∙ (λ i. order_values (take (n i) (drop s.first s.bytes.now)) (take (m i) (drop s.second s.bytes.now)))

@@ -1,5 +1,6 @@
 -- `labelling::count_syllables` meets its contract: a row is read, and never refused.
 -- Assumes nothing.
+use Prim.Native.Nat.{ℕ}
 use mathlib.Core.Path.{subst}
 use Rattle.refusals.specs.Outcome.{outcome_of}
 use Rattle.std.specs.declared.result.Result.{Result}

@@ -1,5 +1,6 @@
 -- `labelling::skeleton` meets its contract: a row is tested and replaced as it is handed in, and any other word is normalised first.
 -- Assumes nothing.
+use Prim.Native.Nat.{ℕ}
 use mathlib.Core.Path.{refl, sym, subst}
 use native.Mathlib.Omega.{arith}
 use lib.Seq.{length-take-le}

@@ -5,6 +5,7 @@ use native.Mathlib.Omega.{arith}
 use lib.Seq.{length-take-le}
 use Rattle.labelling.proofs.Given.{unwritten, Given, told_given, told_refused}
 use Rattle.likeness.proofs.Alike.{likeness_right}
+use Rattle.weighing.proofs.Library.{lists_compared}
 use Rattle.likeness.proofs.look_alike.Goals as goal
 
 pub returns-in-Err : goal.returns-in-Err
@@ -29,8 +30,8 @@ slice_bounds-one-end c =
     told_given c.skeleton-one_answer.result c.skeleton-one_answer.ensures c.in-Ok.count c.in-Ok.is in
     one.fits
 
-pub slice_bounds-order_values-end : goal.slice_bounds-order_values-end
-slice_bounds-order_values-end c =
+pub slice_bounds-cmp-end : goal.slice_bounds-cmp-end
+slice_bounds-cmp-end c =
     let one : Given c.args.first.now unwritten c.skeleton-one_answer.new.output c.in-Ok.count =
     told_given c.skeleton-one_answer.result c.skeleton-one_answer.ensures c.in-Ok.count c.in-Ok.is in
     sym (length-take-le _ _ one.fits)
@@ -41,8 +42,8 @@ slice_bounds-other-end c =
     told_given c.skeleton-other_answer.result c.skeleton-other_answer.ensures c.in-Ok-other_answer.count c.in-Ok-other_answer.is in
     other.fits
 
-pub slice_bounds-order_values-end-2 : goal.slice_bounds-order_values-end-2
-slice_bounds-order_values-end-2 c =
+pub slice_bounds-cmp-end-2 : goal.slice_bounds-cmp-end-2
+slice_bounds-cmp-end-2 c =
     let other : Given c.args.second.now unwritten c.skeleton-other_answer.new.output c.in-Ok-other_answer.count =
     told_given c.skeleton-other_answer.result c.skeleton-other_answer.ensures c.in-Ok-other_answer.count c.in-Ok-other_answer.is in
     sym (length-take-le _ _ other.fits)
@@ -53,4 +54,4 @@ returns c =
     told_given c.skeleton-one_answer.result c.skeleton-one_answer.ensures c.in-Ok.count c.in-Ok.is in
     let other : Given c.args.second.now unwritten c.skeleton-other_answer.new.output c.in-Ok-other_answer.count =
     told_given c.skeleton-other_answer.result c.skeleton-other_answer.ensures c.in-Ok-other_answer.count c.in-Ok-other_answer.is in
-    likeness_right one other c.order_values.result c.order_values.ensures c.likeness.result c.likeness.ensures
+    likeness_right one other c.cmp.result (c.cmp.ensures ∙ lists_compared _ _) c.likeness.result c.likeness.ensures

@@ -1,5 +1,6 @@
 -- `normaliser::normalise` meets its contract: a row of syllables is its own stored form, and any other word is stored first.
 -- Assumes nothing.
+use Prim.Native.Nat.{ℕ}
 use mathlib.Core.Path.{refl, sym, subst}
 use lib.ListN.{length}
 use lib.Seq.{length-take-le}

@@ -1,5 +1,6 @@
 -- `book_change::change::remove` meets its contract: the plan is the answer, and where it has a place, the second byte there is stored.
 -- Assumes nothing.
+use Prim.Native.Nat.{ℕ}
 use mathlib.Core.Path.{refl, subst}
 use native.Mathlib.Omega.{arith}
 use Rattle.refusals.specs.Outcome.{accepts, outcome_of}

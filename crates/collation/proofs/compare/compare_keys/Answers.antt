@@ -6,6 +6,7 @@ use lib.Seq.{length-take-le}
 use borrow.Enum.Refused.{opened}
 use Rattle.collation.proofs.Weighing.{weighed_refused, weighed_stores, weighed_limit, weighed_used, weighed_order}
 use Rattle.collation.proofs.Comparing.{keys_decide, forms_decide}
+use Rattle.weighing.proofs.Library.{lists_compared}
 use Rattle.collation.proofs.compare.compare_keys.Goals as goal
 
 pub returns-in-Err : goal.returns-in-Err
@@ -66,8 +67,8 @@ slice_bounds-one-end c =
       }),
     )
 
-pub slice_bounds-order_bytes-end : goal.slice_bounds-order_bytes-end
-slice_bounds-order_bytes-end c =
+pub slice_bounds-cmp-end : goal.slice_bounds-cmp-end
+slice_bounds-cmp-end c =
     sym (length-take-le _ _ (omega (
       arith,
       weighed_used (record {
@@ -94,8 +95,8 @@ slice_bounds-other-end c =
       }),
     )
 
-pub slice_bounds-order_bytes-end-2 : goal.slice_bounds-order_bytes-end-2
-slice_bounds-order_bytes-end-2 c =
+pub slice_bounds-cmp-end-2 : goal.slice_bounds-cmp-end-2
+slice_bounds-cmp-end-2 c =
     sym (length-take-le _ _ (omega (
       arith,
       weighed_used (record {
@@ -124,7 +125,7 @@ returns-in_default c =
       right = c.weigh-other_answer.ensures;
       count = c.in-Ok-other_answer.count;
       told = c.in-Ok-other_answer.is;
-    })) c.order_bytes-order.result c.order_bytes-order.ensures
+    })) c.cmp-order.result (c.cmp-order.ensures ∙ lists_compared _ _)
     (search opened) c.answer_of.result c.answer_of.ensures
 
 pub order_forms-requires : goal.order_forms-requires
@@ -163,5 +164,5 @@ returns c =
       right = c.weigh-other_answer.ensures;
       count = c.in-Ok-other_answer.count;
       told = c.in-Ok-other_answer.is;
-    })) c.order_bytes-order.result c.order_bytes-order.ensures
+    })) c.cmp-order.result (c.cmp-order.ensures ∙ lists_compared _ _)
     c.in-Equal.is c.order_forms.result c.order_forms.ensures c.answer_of-2.result c.answer_of-2.ensures

@@ -1,5 +1,6 @@
 -- `keying::fill::fill` meets its contract: before each turn the window and the bytes are those of what the machine has kept of the values
 -- read. The measure is what is left of the word. Assumes nothing.
+use Prim.Native.Nat.{ℕ}
 use mathlib.Core.Path.{◌≡◌, refl, ap, sym, subst, ◌∙◌}
 use native.Mathlib.Omega.{arith}
 use lib.ListN.{length, get_or}

@@ -1,5 +1,6 @@
 -- `normaliser::form::stored_form` meets its contract: a word that passes the tests is stored, and what is held is put out.
 -- Assumes nothing.
+use Prim.Native.Nat.{ℕ}
 use mathlib.Core.Path.{refl, subst}
 use Rattle.formula.proofs.Held.{held_front, held_fits, held_length}
 use Rattle.refusals.specs.Outcome.{outcome_of}

@@ -1,5 +1,6 @@
 -- `normaliser::typed::typed_place` meets its contract: every typed place is one of the word, so the word's length stands for none.
 -- Assumes nothing.
+use Prim.Native.Nat.{ℕ}
 use mathlib.Core.Path.{subst, sym, ap, ◌∙◌}
 use mathlib.Core.Option.{some}
 use native.Mathlib.Omega.{arith}

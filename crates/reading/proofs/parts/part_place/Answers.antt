@@ -1,5 +1,6 @@
 -- `reading::parts::part_place` meets its contract: the part lies between the places where its syllable and the next one begin.
 -- Assumes nothing.
+use Prim.Native.Nat.{ℕ}
 use mathlib.Core.Path.{subst}
 use native.Mathlib.Omega.{arith}
 use Rattle.refusals.specs.Outcome.{outcome_of}

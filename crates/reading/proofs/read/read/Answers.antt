@@ -1,5 +1,6 @@
 -- `reading::read::read` meets its contract: the answer is that of the pass, and its array holds the row's syllables where it is read.
 -- Assumes nothing.
+use Prim.Native.Nat.{ℕ}
 use mathlib.Core.Path.{refl, sym, subst}
 use Rattle.refusals.specs.Outcome.{outcome_of}
 use Rattle.std.specs.declared.result.Result.{Result}

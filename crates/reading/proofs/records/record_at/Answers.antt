@@ -1,5 +1,6 @@
 -- `reading::records::record_at` meets its contract: the record is that of the row whose syllables the reading holds.
 -- Assumes nothing.
+use Prim.Native.Nat.{ℕ}
 use mathlib.Core.Path.{refl, sym, subst}
 use native.Mathlib.Omega.{arith}
 use Rattle.refusals.specs.Outcome.{outcome_of}

@@ -1,5 +1,6 @@
 -- `recogniser::walk::is_row` meets its contract: a word is answered with its syllables exactly where some row gives it.
 -- Assumes nothing.
+use Prim.Native.Nat.{ℕ}
 use mathlib.Core.Path.{subst}
 use Rattle.refusals.specs.Outcome.{outcome_of}
 use Rattle.std.specs.declared.result.Result.{Result}
