@@ -15,7 +15,7 @@ use book_frame::{HEAD, has_mark, values_of};
 use formula::Word;
 use keying::fill::fill;
 use memory::casts::{count_byte, wide};
-use memory::copies::put_bytes;
+use memory::copies::put_all;
 use refusals::Refusal;
 
 // The bytes for the keys of a book: those of the record at a start stand from 6 times the start on.
@@ -39,7 +39,7 @@ fn put_key(keys: &mut [u8], from: usize, key: &[u8], count: usize)
 {
     keys[from] = count_byte(count);
     let used = Word::WEIGHTS * count;
-    put_bytes(&key[..used], keys, from + 1);
+    put_all(&key[..used], keys, from + 1);
 }
 
 // Files the key of the record at a place, whose word is readable.

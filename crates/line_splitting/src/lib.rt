@@ -8,7 +8,7 @@ ghost use Rattle.line_splitting.specs.Following.{Passes};
 
 use formula::Word;
 use line_printing::{PRINTED_LIMIT, Task, put_line};
-use memory::copies::put_bytes;
+use memory::copies::put_all;
 
 // The most bytes of a line that are held: one more than the most of a line that is not refused for its length.
 pub const HELD_LIMIT: usize = Word::LINE_LIMIT + 1;
@@ -45,7 +45,7 @@ fn hold(pending: &mut [u8], held: usize, part: &[u8]) -> usize
 {
     let room = HELD_LIMIT - held;
     let count = if part.len() < room { part.len() } else { room };
-    put_bytes(&part[..count], pending, held);
+    put_all(&part[..count], pending, held);
     held + count
 }
 

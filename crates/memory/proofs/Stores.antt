@@ -6,8 +6,10 @@ use Prim.Native.Nat.{ℕ, suc, ◌+◌, ◌≤◌, ◌<◌}
 use native.Mathlib.Nat.{add-zero, zero-add}
 use native.Mathlib.Numerals.{add-one}
 use native.Mathlib.Omega.{arith}
+use borrow.Rule.Slice.PartMut.{put_mid}
 use lib.ListN.{length, take, drop, get_or, set, length-append}
-use lib.Seq.{sets, sets-eq, paste, take-set-le, take-suc, length-take-le, take_at, drop_at, drop-length}
+use lib.Seq.{sets, sets-eq, paste, take-set-le, take-suc, length-take-le, take_all, take_at, drop_at, drop-length}
+use Rattle.std.proofs.lemmas.Slice.{put_mid-paste}
 
 module _ {A : Type 0} where
   -- what is stored behind what was stored
@@ -50,6 +52,12 @@ module _ {A : Type 0} where
   sets_paste vs l i n h fits =
       let long : length (take n vs) ≡ n = length-take-le n vs h in
       sets-eq (take n vs) l i (omega arith) ∙ ap (λ (k : ℕ). take i l ++ take n vs ++ drop (i + k) l) long
+
+  -- a part of a slice that holds a list: the list is stored where the part begins
+  pub sets_part : (ys vs l : List A) (i k : ℕ) → ys ≡ vs → k ≡ length vs → i + k ≤ length l → put_mid i k l ys ≡ sets l i vs
+  sets_part ys vs l i k same long fits =
+      put_mid-paste i k l ys vs (length vs) same (sym long) refl
+      ∙ sym (sets_paste vs l i (length vs) (omega arith) (omega arith)) ∙ ap (sets l i) (take_all (length vs) vs (omega arith))
 
   -- stored at the front
   pub sets_front : (vs l : List A) → length vs ≤ length l → sets l 0 vs ≡ vs ++ drop (length vs) l

@@ -7,7 +7,7 @@ ghost use Rattle.refusals.specs.Output.{Puts};
 ghost use Rattle.normaliser.specs.Normal.{refused_word, HandedIn, NormalRight, NormaliseRight};
 
 use formula::Word;
-use memory::copies::put_values;
+use memory::copies::put_all;
 use refusals::Refusal;
 
 mod admission; // admission.rt: the tests 1 and 2
@@ -64,7 +64,7 @@ pub fn put_out(values: &[u16], output: &mut [u16]) -> Result<usize, Refusal>
     if output.len() < values.len() {
         return Err(Refusal::OutputTooShort(values.len()));
     }
-    put_values(values, output, 0);
+    put_all(values, output, 0);
     Ok(values.len())
 }
 

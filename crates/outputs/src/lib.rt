@@ -7,7 +7,7 @@ ghost use Rattle.outputs.specs.Outputs.{RecordWritten, KeyWritten, DecodeWritten
 use collation::weigh::weigh;
 use formula::Word;
 use lines::decode;
-use memory::copies::put_bytes;
+use memory::copies::put_all;
 use normaliser::put_out;
 use reading::records::{RecordAnswer, record_at};
 use refusals::{Refusal, Reply};
@@ -26,7 +26,7 @@ pub fn put_record(word: &[u16], number: usize, output: &mut [u8]) -> Result<Repl
                 return Err(Refusal::OutputTooShort(Word::RECORD));
             }
             let bytes = given.bytes;
-            put_bytes(&bytes, output, 0);
+            put_all(&bytes, output, 0);
             Ok(Reply::One(Word::RECORD))
         }
     }
@@ -44,7 +44,7 @@ pub fn put_key(word: &[u16], output: &mut [u8]) -> Result<usize, Refusal>
             if output.len() < Word::KEY {
                 return Err(Refusal::OutputTooShort(Word::KEY));
             }
-            put_bytes(&bytes, output, 0);
+            put_all(&bytes, output, 0);
             Ok(count)
         }
     }

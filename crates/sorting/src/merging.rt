@@ -6,7 +6,7 @@ ghost use Rattle.sorting.specs.Sorting.{Sortable, Mergeable, MergeReady};
 use book_keys::KEY_ROOM;
 use book_order::is_before;
 use memory::casts::place_of;
-use memory::copies::put_values;
+use memory::copies::put_all;
 
 // Whether the next start to take is the one at `second`: where the first part is at its end, or the record at `second` goes before.
 fn is_second_next(
@@ -57,7 +57,7 @@ fn copy_back(starts: &mut [u16], room: &[u16])
     ensures { starts.new ≡ take (length starts.old) room.now }
 {
     let count = starts.len();
-    put_values(&room[..count], starts, 0);
+    put_all(&room[..count], starts, 0);
 }
 
 // Merges the parts before and from `middle`; `room` is written over.

@@ -7,7 +7,7 @@ ghost use Rattle.sorting.specs.Passing.{PutsPassing};
 use crate::merging::sort_front;
 use book_fitting::keep_fitting;
 use book_keys::{KEY_ROOM, MOST_LIVE, file_records};
-use memory::copies::put_values;
+use memory::copies::put_all;
 use refusals::Refusal;
 
 // Puts the starts of the live records whose weights begin with these, in word order, at the front of `starts`, where there is room for them.
@@ -22,7 +22,7 @@ pub fn sort_records(book: &[u8], free: usize, prefix: &[u8], starts: &mut [u16])
     if starts.len() < count {
         return Err(Refusal::OutputTooShort(count));
     }
-    put_values(&found[..count], starts, 0);
+    put_all(&found[..count], starts, 0);
     sort_front(book, &keys, starts, count, &mut found);
     Ok(count)
 }

@@ -9,7 +9,7 @@ ghost use Rattle.storage.specs.Stored.{rank, insert, makes_letter, stored_form};
 ghost use Rattle.storage.specs.Putting.{rank_table, Room, FrontRoom, FrontPut, MarkRoom, PartRoom};
 
 use formula::Word;
-use memory::copies::put_values;
+use memory::copies::put_all;
 
 // The independent vowel that a mark or a stacker behind it can change.
 pub const VOWEL_U: u16 = 0x1025;
@@ -67,7 +67,7 @@ fn part(values: &[u16], front: usize, end: usize) -> Word
     ensures { result ≡ word_of (take (end - front) (drop front values.now)) }
 {
     let mut held = [0; Word::LIMIT];
-    put_values(&values[front..end], &mut held, 0);
+    put_all(&values[front..end], &mut held, 0);
     Word {
         values: held,
         count: end - front,

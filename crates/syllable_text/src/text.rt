@@ -6,7 +6,7 @@ ghost use Rattle.syllable_record.specs.Decode.{medial_of_weight, vowel_of_weight
 ghost use Rattle.syllable_text.specs.Text.{text_of, Room, PutRight};
 ghost use Rattle.syllable_text.specs.Part.{head_after};
 
-use memory::copies::put_values;
+use memory::copies::put_all;
 
 const YA: u16 = 0x103B;
 
@@ -207,6 +207,6 @@ pub(crate) fn put(output: &mut [u16], at: usize, text: Text) -> usize
 {
     let values = text.values;
     let count = text.count;
-    put_values(&values[..count], output, at);
+    put_all(&values[..count], output, at);
     at + count
 }

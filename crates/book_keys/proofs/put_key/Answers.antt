@@ -9,14 +9,14 @@ use lib.Seq.{sets, length-take-le}
 use Rattle.formula.specs.Limits.{weight_count}
 use Rattle.book_keys.proofs.put_key.Goals as goal
 
-pub slice_bounds-put_bytes-end : goal.slice_bounds-put_bytes-end
-slice_bounds-put_bytes-end c =
+pub slice_bounds-put_all-end : goal.slice_bounds-put_all-end
+slice_bounds-put_all-end c =
     let used : length (take (weight_count * c.args.count) c.args.key.now) ≡ weight_count * c.args.count =
     length-take-le _ _ c.requires.1 in
     sym used
 
-pub put_bytes-requires : goal.put_bytes-requires
-put_bytes-requires c =
+pub put_all-requires : goal.put_all-requires
+put_all-requires c =
     let used : length (take (weight_count * c.args.count) c.args.key.now) ≡ weight_count * c.args.count =
     length-take-le _ _ c.requires.1 in
     omega (arith, c.requires.2, used, length-set c.args.keys.now c.args.from c.count_byte.result)
@@ -24,5 +24,5 @@ put_bytes-requires c =
 pub returns : goal.returns
 returns c =
     let s = c.args in
-    c.put_bytes.ensures
+    c.put_all.ensures
     ∙ (λ i. sets (set s.keys.now s.from (c.count_byte.ensures i)) (add-one s.from i) (take (weight_count * s.count) s.key.now))

@@ -12,4 +12,4 @@ returns c =
       | then-part-room w ↦ rw w.count-is (fills_all _ _ c.requires.0 w.if-part-room.true)
       | else-part-room w ↦ rw w.count-is (fills_room _ _ c.requires.0 (omega arith))
     ] in
-    held_more _ _ _ _ _ c.requires.1 filled c.put_bytes.ensures
+    held_more _ _ _ _ _ c.requires.1 filled c.put_all.ensures

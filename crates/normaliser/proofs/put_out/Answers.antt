@@ -12,4 +12,4 @@ pub returns : goal.returns
 returns c =
     let s = c.args in
     let fits = c.if-output-values.false in
-    whole fits (c.put_values.ensures ∙ sets_front s.values.now s.output.now fits)
+    whole fits (c.put_all.ensures ∙ sets_front s.values.now s.output.now fits)

@@ -16,12 +16,12 @@ returns-then-output-lt-KEY c =
       told = c.in-Ok.is;
     }) _ _ c.if-output-lt-KEY.true refl
 
-pub slice_bounds-put_bytes-end : goal.slice_bounds-put_bytes-end
-slice_bounds-put_bytes-end c =
+pub slice_bounds-put_all-end : goal.slice_bounds-put_all-end
+slice_bounds-put_all-end c =
     sym c.weigh-answer.ensures.room
 
-pub put_bytes-requires : goal.put_bytes-requires
-put_bytes-requires c =
+pub put_all-requires : goal.put_all-requires
+put_all-requires c =
     omega (
       arith,
       c.weigh-answer.ensures.room,
@@ -39,4 +39,4 @@ returns-else-output-lt-KEY c =
       right = c.weigh-answer.ensures;
       count = c.in-Ok.count;
       told = c.in-Ok.is;
-    }) _ _ c.if-output-lt-KEY.false c.put_bytes.ensures
+    }) _ _ c.if-output-lt-KEY.false c.put_all.ensures

@@ -12,8 +12,8 @@ returns-then-output-lt-RECORD c =
     c.in-Found.is in
     short_right c.args.word.now c.args.number c.record_at-given.result c.record_at-given.ensures _ _ found c.if-output-lt-RECORD.true refl
 
-pub put_bytes-requires : goal.put_bytes-requires
-put_bytes-requires c =
+pub put_all-requires : goal.put_all-requires
+put_all-requires c =
     let found : c.record_at-given.result.answer ≡ Found =
     c.in-Found.is in
     let l = found_long c.args.word.now c.args.number c.record_at-given.result c.record_at-given.ensures found in
@@ -32,4 +32,4 @@ returns-else-output-lt-RECORD c =
     let found : c.record_at-given.result.answer ≡ Found =
     c.in-Found.is in
     written_right c.args.word.now c.args.number c.record_at-given.result c.record_at-given.ensures _ _ found c.if-output-lt-RECORD.false
-    c.put_bytes.ensures
+    c.put_all.ensures

@@ -1,31 +1,17 @@
--- `memory::copies::clear` meets its contract. The invariant is `Copied`, of a list of zeros. The measure is what is left.
+-- `memory::copies::clear` meets its contract: the part that is filled is a list of as many zeros.
 -- Assumes nothing.
-use mathlib.Core.Path.{subst}
-use mathlib.Core.List.{List}
-use Prim.Native.Nat.{ℕ, ◌+◌}
-use native.Mathlib.Omega.{arith}
-use lib.ListN.{set, replicate, length-replicate, get_or-replicate}
-use Rattle.memory.proofs.Copied.{Copied, copied_long, copied_none, copied_more, copied_all}
+use Rattle.std.proofs.Common.{arith, ◌+◌, ◌-◌, ◌≡◌, length, take, drop, replicate, ℕ, ap, ◌∙◌, length-drop}
+use lib.ListN.{length-replicate}
+use lib.Seq.{length-take-le}
+use Rattle.memory.proofs.Stores.{sets_part}
 use Rattle.memory.proofs.copies.clear.Goals as goal
-
-pub loop-done-init : goal.loop-done-init
-loop-done-init c = copied_none _ _ _
-
-pub bounds-bytes-from : goal.bounds-bytes-from
-bounds-bytes-from c = omega (arith, copied_long _ _ _ _ _ c.loop-done.invariant)
-
-pub loop-done-preserved : goal.loop-done-preserved
-loop-done-preserved c =
-    let a = c.args in
-    let l = c.loop-done in
-    let zeros : List ℕ = replicate a.count 0 in
-    subst (λ (byte : ℕ). Copied zeros a.bytes.now a.from (set l.bytes (a.from + l.done) byte) (l.done + 1))
-    (get_or-replicate a.count l.done 0 0 c.loop-done-test.true)
-    (copied_more zeros a.bytes.now a.from l.bytes l.done 0 l.invariant (omega (arith, length-replicate {A = ℕ} a.count 0)))
-
-pub shape_of-bytes : goal.shape_of-bytes
-shape_of-bytes c = copied_long _ _ _ _ _ c.loop-done.invariant
 
 pub returns : goal.returns
 returns c =
-    copied_all _ _ _ _ _ c.loop-done.invariant (omega (arith, length-replicate {A = ℕ} c.args.count 0, c.loop-done-test.false))
+    let a = c.args in
+    let b = a.bytes.now in
+    let part : a.from + a.count - a.from ≡ a.count = omega arith in
+    let long : length (take (a.from + a.count - a.from) (drop a.from b)) ≡ a.count =
+    length-take-le _ (drop a.from b) (omega (arith, length-drop a.from b)) ∙ part in
+    sets_part _ (replicate a.count 0) b a.from _ (c.fill.ensures.after (λ _ e. e) ∙ ap (λ (n : ℕ). replicate n 0) long)
+    (omega (arith, length-replicate {A = ℕ} a.count 0)) (omega arith)

@@ -7,14 +7,14 @@ use lib.Seq.{length-take-le}
 use Rattle.memory.proofs.Stores.{sets_whole}
 use Rattle.sorting.proofs.merging.copy_back.Goals as goal
 
-pub slice_bounds-put_values-end : goal.slice_bounds-put_values-end
-slice_bounds-put_values-end c =
+pub slice_bounds-put_all-end : goal.slice_bounds-put_all-end
+slice_bounds-put_all-end c =
     let as_long : length (take (length c.args.starts.now) c.args.room.now) ≡ length c.args.starts.now =
     length-take-le _ _ c.requires in
     sym as_long
 
-pub put_values-requires : goal.put_values-requires
-put_values-requires c =
+pub put_all-requires : goal.put_all-requires
+put_all-requires c =
     let as_long : length (take (length c.args.starts.now) c.args.room.now) ≡ length c.args.starts.now =
     length-take-le _ _ c.requires in
     omega (arith, as_long)
@@ -23,4 +23,4 @@ pub returns : goal.returns
 returns c =
     let as_long : length (take (length c.args.starts.now) c.args.room.now) ≡ length c.args.starts.now =
     length-take-le _ _ c.requires in
-    c.put_values.ensures ∙ sets_whole _ _ as_long
+    c.put_all.ensures ∙ sets_whole _ _ as_long

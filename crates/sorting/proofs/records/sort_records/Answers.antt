@@ -38,8 +38,8 @@ slice_bounds-found-end-2 c =
     let f = c.file_records-live.ensures in omega (arith, few f c.keep_fitting-count.ensures, f.few, long) in
     fits
 
-pub slice_bounds-put_values-end : goal.slice_bounds-put_values-end
-slice_bounds-put_values-end c =
+pub slice_bounds-put_all-end : goal.slice_bounds-put_all-end
+slice_bounds-put_all-end c =
     let long : length (c.keep_fitting-count.new.starts ++ drop c.file_records-live.result c.file_records-live.new.starts) ≡ 2048 =
     let f = c.file_records-live.ensures in
     kept_long f c.keep_fitting-count.ensures (omega (arith, f.few, length-replicate {A = ℕ} most_live 0)) ∙ length-replicate {A = ℕ} most_live 0 in
@@ -47,8 +47,8 @@ slice_bounds-put_values-end c =
     let f = c.file_records-live.ensures in omega (arith, few f c.keep_fitting-count.ensures, f.few, long) in
     sym (length-take-le _ _ fits)
 
-pub put_values-requires : goal.put_values-requires
-put_values-requires c =
+pub put_all-requires : goal.put_all-requires
+put_all-requires c =
     let long : length (c.keep_fitting-count.new.starts ++ drop c.file_records-live.result c.file_records-live.new.starts) ≡ 2048 =
     let f = c.file_records-live.ensures in
     kept_long f c.keep_fitting-count.ensures (omega (arith, f.few, length-replicate {A = ℕ} most_live 0)) ∙ length-replicate {A = ℕ} most_live 0 in
@@ -74,13 +74,13 @@ sort_front-requires c =
     let kept = c.keep_fitting-count.ensures in
     let starts = c.args.starts.now in
     let front = kept_front f kept (drop c.file_records-live.result c.file_records-live.new.starts) in
-    let copied = c.put_values.new.output in (
+    let copied = c.put_all.new.output in (
       record {
         short = c.requires.is_book.short;
         room = f.key_room_lem;
-        keyed = subst (AllKeyed _ _) (sym (copied_front f kept _ starts copied copied c.if-starts-count.false front c.put_values.ensures)) (chosen_keyed f kept);
+        keyed = subst (AllKeyed _ _) (sym (copied_front f kept _ starts copied copied c.if-starts-count.false front c.put_all.ensures)) (chosen_keyed f kept);
       },
-      omega (arith, c.if-starts-count.false, copied_long f kept _ starts copied copied c.if-starts-count.false front c.put_values.ensures),
+      omega (arith, c.if-starts-count.false, copied_long f kept _ starts copied copied c.if-starts-count.false front c.put_all.ensures),
       fits,
     )
 
@@ -89,4 +89,4 @@ returns c =
     let f = c.file_records-live.ensures in
     let kept = c.keep_fitting-count.ensures in
     let front = kept_front f kept (drop c.file_records-live.result c.file_records-live.new.starts) in
-    put_passing f kept _ c.args.starts.now c.put_values.new.output _ c.if-starts-count.false front c.put_values.ensures c.sort_front.ensures
+    put_passing f kept _ c.args.starts.now c.put_all.new.output _ c.if-starts-count.false front c.put_all.ensures c.sort_front.ensures
