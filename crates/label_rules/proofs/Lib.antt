@@ -1,5 +1,3 @@
-mod Ranges
-mod Neighbours
 pub mod Sought
 pub mod Laws
 pub mod Meaning

@@ -1,38 +1,13 @@
--- A place that is sought from the front: what is found from where the search has come to is what is found from the first place on.
+-- A place that is sought from the front: at what is found the test passes, and before it nowhere; and a place of which that is so is what is found.
 -- Assumes nothing.
-use mathlib.Core.Path.{◌≡◌, refl, sym, ap, ◌∙◌}
-use mathlib.Core.Bool.{Bool, true, false}
-use Prim.Native.Nat.{ℕ, zero, suc, ◌+◌, ◌-◌, ◌≤◌, ◌<◌}
-use native.Mathlib.Decide.{ℕ_discrete}
-use native.Mathlib.Numerals.{add-one}
-use native.Mathlib.Omega.{arith}
+use Rattle.std.specs.Prelude.{◌≡◌, ℕ, zero, suc, ◌+◌, ◌≤◌, ◌<◌, Bool, true, false, Option, Some, None, MatchOption, List, length, get_or}
+use Rattle.std.specs.List.{AllWithin, HoldsAt}
+use Rattle.std.proofs.Common.{refl, sym, ap, ◌∙◌, arith}
+use native.Mathlib.Decide.{ℕ_discrete, dec_lt}
 use Rattle.letters.specs.Choice.{pick}
-use Rattle.letters.proofs.Tests.{pick_true, pick_false}
-use Rattle.label_rules.specs.Rules.{first_from}
+use Rattle.label_rules.specs.Rules.{first_from, IsFirst}
 
 module _ (test : ℕ → Bool) where
-  -- the search has come to a place and found none before it
-  pub record Sought (size at : ℕ) : Type 0 where
-    pub within : at ≤ size
-    pub same : first_from test at (size - at) ≡ first_from test 0 size
-
-  pub sought_none : (size : ℕ) → Sought size 0
-  sought_none size = record { within = omega arith; same = ap (first_from test 0) (let e : size - 0 ≡ size = omega arith in e) }
-
-  module _ (size at : ℕ) (s : Sought size at) where
-    -- at a place before the end
-    here : at < size → first_from test 0 size ≡ pick (test at) at (first_from test (suc at) (size - suc at))
-    here h = sym s.same ∙ ap (first_from test at) (let e : size - at ≡ suc (size - suc at) = omega arith in e)
-
-    pub sought_found : at < size → test at ≡ true → at ≡ first_from test 0 size
-    sought_found h t = sym (here h ∙ pick_true (test at) _ _ t)
-
-    pub sought_on : at < size → test at ≡ false → Sought size (at + 1)
-    sought_on h t = rw add-one (record { within = omega arith; same = sym (here h ∙ pick_false (test at) _ _ t) })
-
-    pub sought_end : size ≤ at → at ≡ first_from test 0 size
-    sought_end h = let w = s.within in sym (sym s.same ∙ ap (first_from test at) (let e : size - at ≡ 0 = omega arith in e))
-
   -- what is found is the first: at it the test passes, and before it nowhere
   pub first_within : (place count : ℕ) → first_from test place count ≤ place + count
   unfolding pick
@@ -63,3 +38,36 @@ module _ (test : ℕ → Bool) where
       go true e later d m = let z : ⊥ = omega arith in absurd z
       go false e later (yes same) m = ap test (sym same) ∙ sym e
       go false e later (no other) m = later (omega arith) m
+
+  -- a place at which it passes, and before it nowhere, is what is found
+  first_at : (size place : ℕ) → place < size → test place ≡ true → ((k : ℕ) → k < place → test k ≡ false) → place ≡ first_from test 0 size
+  first_at size place h t n = go (dec_lt (first_from test 0 size) place) (dec_lt place (first_from test 0 size))
+    where
+      go : Dec (first_from test 0 size < place) → Dec (place < first_from test 0 size) → place ≡ first_from test 0 size
+      go (yes below) d = let passes = first_passes 0 size (omega arith) in let fails = n _ below in cc
+      go (no below) (yes above) = let fails = first_before 0 size place (omega arith) above in cc
+      go (no below) (no above) = omega arith
+
+  first_nowhere : (size : ℕ) → ((k : ℕ) → k < size → test k ≡ false) → size ≤ first_from test 0 size
+  first_nowhere size n = go (dec_lt (first_from test 0 size) size)
+    where
+      go : Dec (first_from test 0 size < size) → size ≤ first_from test 0 size
+      go (yes h) = let passes = first_passes 0 size (omega arith) in let fails = n _ h in let z : ⊥ = cc in absurd z
+      go (no h) = omega arith
+
+  -- what a search of the places answers
+  pub first_place : (size : ℕ) (found : Option ℕ)
+      → MatchOption found ((k : ℕ) → 0 ≤ k → k < size → test k ≡ false)
+      (λ place. (0 ≤ place) × (place < size) × (test place ≡ true) × ((k : ℕ) → 0 ≤ k → k < place → test k ≡ false))
+      → IsFirst test size found
+  first_place size None n = first_nowhere size (λ k h. n k (omega arith) h)
+  first_place size (Some place) h = (h.1, first_at size place h.1 h.2 (λ k below. h.3 k (omega arith) below))
+
+-- and what one of the values of a list answers
+pub first_value : (test : ℕ → Bool) (xs : List ℕ) (found : Option ℕ)
+    → MatchOption found (AllWithin (λ x. test x ≡ false) xs 0 (length xs))
+    (λ place. (place < length xs) × HoldsAt (λ x. test x ≡ true) xs place × AllWithin (λ x. test x ≡ false) xs 0 place)
+    → IsFirst (λ place. test (get_or xs place 0)) (length xs) found
+first_value test xs None n = first_place _ (length xs) None (λ k h below. n k 0 h below)
+first_value test xs (Some place) h =
+    first_place _ (length xs) (Some place) (omega arith, h.0, h.1 0, λ k low below. h.2 k 0 low below)

@@ -1,11 +1,10 @@
 // The three rules that a label meets, tested over the stored form of a word.
 #![tactic(auto)]
 
-ghost use Rattle.std.specs.Prelude.{◌≡◌, ◌<◌, length, ◌||◌};
-ghost use Rattle.std.proofs.Math.ListN.{get_elem?};
+ghost use Rattle.std.specs.Prelude.{◌≡◌, ◌<◌, length, ◌||◌, slice_get};
 ghost use Rattle.letters.specs.Letters.{is_stop, is_sign};
 ghost use Rattle.refusals.specs.Outcome.{outcome_of};
-ghost use Rattle.label_rules.specs.Rules.{looks_like_letter, is_other, value_before, is_confusable, first_stop_or_sign, first_confusable, label_of};
+ghost use Rattle.label_rules.specs.Rules.{looks_like_letter, is_other, value_before, is_stop_or_sign, is_confusable, IsFirst, label_of};
 
 use formula::Word;
 use refusals::Refusal;
@@ -25,85 +24,65 @@ const LAST_SIGN: u16 = 0x104F;
 fn is_stop_or_sign(x: u16) -> bool
     ensures { result ≡ (is_stop x || is_sign x) }
 {
-    (FIRST_STOP <= x) & (x <= LAST_SIGN)
+    matches!(x, FIRST_STOP..=LAST_SIGN)
 }
 
-// The place of the first stop or sign, or the word's length.
-fn first_stop_or_sign(word: &[u16]) -> usize
-    ensures { result ≡ first_stop_or_sign word.now }
+// The place of the first stop or sign.
+fn first_stop_or_sign(word: &[u16]) -> Option<usize>
+    ensures { IsFirst (is_stop_or_sign word.now) (length word.now) result }
 {
-    let mut at = 0;
-    while at < word.len() {
-        if is_stop_or_sign(word[at]) {
-            return at;
-        }
-        at += 1;
-    }
-    at
+    word.iter().position(|x| is_stop_or_sign(*x))
 }
 
+#[tactic(auto, unfolding(crate::specs::Rules::looks_like_letter))]
 fn looks_like_letter(x: u16) -> bool
     ensures { result ≡ looks_like_letter x }
 {
-    (x == ZERO) | (x == SEVEN)
+    matches!(x, ZERO | SEVEN)
 }
 
 // Whether a value that is no digit stands at a place.
+#[tactic(auto, unfolding(crate::specs::Rules::is_other))]
 fn is_other(word: &[u16], at: usize) -> bool
-    ensures { result ≡ is_other (get_elem? word.now at) }
+    ensures { result ≡ is_other (slice_get word.now at) }
 {
-    if at < word.len() {
-        let x = word[at];
-        return (x < ZERO) | (LAST_DIGIT < x);
-    }
-    false
+    word.get(at)
+        .is_some_and(|x| !matches!(*x, ZERO..=LAST_DIGIT))
 }
 
 // Whether one stands before a place.
+#[tactic(auto, unfolding(crate::specs::Rules::is_other))]
 fn is_other_before(word: &[u16], at: usize) -> bool
     ensures { result ≡ is_other (value_before word.now at) }
 {
-    if at == 0 {
-        return false;
-    }
-    is_other(word, at - 1)
+    at.checked_sub(1)
+        .is_some_and(|before| is_other(word, before))
 }
 
 // Whether a digit that looks like a letter stands at a place, next to a value that is no digit.
+#[tactic(auto, unfolding(crate::specs::Rules::is_confusable))]
 fn is_confusable(word: &[u16], at: usize) -> bool
     requires { at < length word.now }
     ensures { result ≡ is_confusable word.now at }
 {
-    if looks_like_letter(word[at]) {
-        return is_other_before(word, at) | is_other(word, at + 1);
-    }
-    false
+    looks_like_letter(word[at]) && (is_other_before(word, at) || is_other(word, at + 1))
 }
 
-// The place of the first such digit, or the word's length.
-fn first_confusable(word: &[u16]) -> usize
-    ensures { result ≡ first_confusable word.now }
+// The place of the first such digit.
+fn first_confusable(word: &[u16]) -> Option<usize>
+    ensures { IsFirst (is_confusable word.now) (length word.now) result }
 {
-    let mut at = 0;
-    while at < word.len() {
-        if is_confusable(word, at) {
-            return at;
-        }
-        at += 1;
-    }
-    at
+    (0..word.len()).find(|at| is_confusable(word, *at))
 }
 
 // What is answered to the stored form of a word with so many syllables: their number, or the first rule that it breaks.
 pub fn answer_by_rules(word: &[u16], syllables: usize) -> Result<usize, Refusal>
     ensures { outcome_of result ≡ label_of word.now syllables }
 {
-    let sign = first_stop_or_sign(word);
-    if sign < word.len() {
+    if let Some(sign) = first_stop_or_sign(word) {
         return Err(Refusal::StopOrSign(sign));
     }
-    let digit = first_confusable(word);
-    if digit < word.len() {
+    if let Some(digit) = first_confusable(word) {
         return Err(Refusal::ConfusableDigit(digit));
     }
     if Word::LABEL_LIMIT < syllables {
