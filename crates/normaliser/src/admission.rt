@@ -13,8 +13,7 @@ pub(crate) fn admit(word: &[u16]) -> Result<usize, Refusal>
     if Word::LIMIT < word.len() {
         return Err(Refusal::TooLong);
     }
-    let foreign = recogniser::foreign::first_foreign(word);
-    if foreign < word.len() {
+    if let Some(foreign) = recogniser::foreign::first_foreign(word) {
         return Err(Refusal::Foreign(foreign));
     }
     Ok(word.len())

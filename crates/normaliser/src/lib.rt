@@ -35,7 +35,8 @@ pub fn as_handed_in(word: &[u16], refusal: Refusal) -> Refusal
     ensures { HandedIn word.now refusal result }
 {
     if let Refusal::Foreign(_) = refusal {
-        return Refusal::Foreign(recogniser::foreign::first_foreign(word));
+        let foreign = recogniser::foreign::first_foreign(word);
+        return Refusal::Foreign(foreign.unwrap_or(word.len()));
     }
     refusal
 }

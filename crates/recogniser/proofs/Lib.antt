@@ -7,3 +7,4 @@ pub mod Words
 pub mod Decided
 pub mod Earlier
 pub mod Beginnings
+pub mod Found

@@ -7,16 +7,20 @@ use crate::foreign::foreign_from;
 use refusals::Refusal;
 
 // The answer where a pass over the word has stopped with so many syllables, the last of which waits for a letter or not.
-pub(crate) fn answer_where(word: &[u16], at: usize, waits: bool, count: usize) -> Result<usize, Refusal>
+pub(crate) fn answer_where(
+    word: &[u16],
+    at: usize,
+    waits: bool,
+    count: usize,
+) -> Result<usize, Refusal>
     requires { Halted word.now at waits count }
     ensures { Answers word.now (outcome_of result) }
 {
     if at < word.len() {
-        let place = foreign_from(word, at);
-        if place < word.len() {
-            return Err(Refusal::Foreign(place));
-        }
-        return Err(Refusal::NoContinuation(at));
+        return Err(match foreign_from(word, at) {
+            Some(place) => Refusal::Foreign(place),
+            None => Refusal::NoContinuation(at),
+        });
     }
     if waits {
         return Err(Refusal::Unfinished(at));

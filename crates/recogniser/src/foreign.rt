@@ -1,37 +1,26 @@
 // Foreign values: those that document 01, "The letters", does not admit.
 ghost use Rattle.std.specs.Prelude.{◌≡◌, ◌≤◌, length};
-ghost use Rattle.recogniser.specs.Concluded.{is_foreign, AdmittedTo};
+ghost use Rattle.recogniser.specs.Concluded.{is_foreign, FindsForeign};
 
-use letters::kind::Kind;
+use letters::kind::{Kind, kind_of};
 
 fn is_foreign(x: u16) -> bool
     ensures { result ≡ is_foreign x }
 {
-    let kind = letters::kind::kind_of(x);
-    if let Kind::Foreign = kind {
-        return true;
-    }
-    false
+    matches!(kind_of(x), Kind::Foreign)
 }
 
-// The place of the first foreign value from `from` on, or the word's length.
-pub(crate) fn foreign_from(word: &[u16], from: usize) -> usize
+// The place of the first foreign value from `from` on.
+pub(crate) fn foreign_from(word: &[u16], from: usize) -> Option<usize>
     requires { from ≤ length word.now }
-    ensures { AdmittedTo word.now from result }
+    ensures { FindsForeign word.now from result }
 {
-    let mut at = from;
-    while at < word.len() {
-        if is_foreign(word[at]) {
-            return at;
-        }
-        at += 1;
-    }
-    at
+    (from..word.len()).find(|at| is_foreign(word[*at]))
 }
 
-// The place of the first foreign value, or the word's length.
-pub fn first_foreign(word: &[u16]) -> usize
-    ensures { AdmittedTo word.now 0 result }
+// The place of the first foreign value.
+pub fn first_foreign(word: &[u16]) -> Option<usize>
+    ensures { FindsForeign word.now 0 result }
 {
     foreign_from(word, 0)
 }

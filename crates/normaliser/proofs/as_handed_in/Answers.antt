@@ -12,6 +12,7 @@ use Rattle.refusals.specs.Refusal.{number_of, place_of}
 use Rattle.refusals.specs.declared.Refusal.{Refusal}
 use Rattle.refusals.specs.declared.Refusal.TheVariants.{Foreign}
 use Rattle.refusals.proofs.Laws.{number_place_injective}
+use Rattle.recogniser.proofs.Found.{found_place}
 use Rattle.normaliser.proofs.as_handed_in.Goals as goal
 
 -- number 2 is a foreign value's
@@ -21,7 +22,8 @@ is_foreign_lem r e = number_place_injective r (Foreign (place_of r)) e refl
 pub returns-in-Foreign : goal.returns-in-Foreign
 returns-in-Foreign c =
     let e = c.in-Foreign.is in
-    record { same = λ n. absurd (n (ap number_of e)); first = λ _. (refl, c.first_foreign.ensures) }
+    let there = found_place c.args.word.now 0 c.first_foreign-foreign.result c.first_foreign-foreign.ensures in
+    record { same = λ n. absurd (n (ap number_of e)); first = λ _. (refl, rw c.unwrap_or.ensures there) }
 
 pub returns : goal.returns
 returns c =

@@ -1,68 +1,51 @@
--- `recogniser::foreign::foreign_from` meets its contract: the values passed are admitted. The measure is what is left of the length.
+-- `recogniser::foreign::foreign_from` meets its contract: what `find` answers of the places is the first whose value is foreign.
 -- Assumes nothing.
-use mathlib.Core.Path.{◌≡◌, sym, subst, ◌∙◌}
-use mathlib.Core.Bool.{Bool, true, false, not}
-use Prim.Native.Nat.{ℕ}
-use native.Mathlib.Omega.{arith}
-use borrow.Author.Count.{below_more}
-use lib.Dec.{T}
+use Rattle.std.proofs.Common.{◌≡◌, ℕ, ◌≤◌, ◌<◌, Bool, true, false, T, not, List, length, get_or, Option, Some, None, MatchOption, arith, rules, tests, sym, subst}
+use Rattle.std.proofs.lemmas.Iterator.{first_from_Range}
 use Rattle.letters.specs.Letters.{is_admitted}
-use Rattle.recogniser.specs.Concluded.{is_foreign}
+use Rattle.recogniser.specs.Concluded.{is_foreign, FindsForeign}
 use Rattle.recogniser.proofs.foreign.foreign_from.Goals as goal
 
 -- the answers of `is_foreign`
-admitted : (x : ℕ) (r : Bool) → r ≡ is_foreign x → r ≡ false → T (is_admitted x)
+admitted : (x : ℕ) → is_foreign x ≡ false → T (is_admitted x)
 unfolding is_foreign
-admitted x r e f = go (is_admitted x) (sym e ∙ f)
+admitted x = go (is_admitted x)
   where
     go : (b : Bool) → not b ≡ false → T b
-    go true d = tt
-    go false d = subst T d tt
+    go true e = tt
+    go false e = subst T e tt
 
-unadmitted : (x : ℕ) (r : Bool) → r ≡ is_foreign x → r ≡ true → T (is_admitted x) → ⊥
+unadmitted : (x : ℕ) → is_foreign x ≡ true → T (is_admitted x) → ⊥
 unfolding is_foreign
-unadmitted x r e f = go (is_admitted x) (sym e ∙ f)
+unadmitted x = go (is_admitted x)
   where
     go : (b : Bool) → not b ≡ true → T b → ⊥
-    go true d t = subst T (sym d) tt
-    go false d t = t
+    go true e t = subst T (sym e) tt
+    go false e t = t
 
-pub loop-at-init : goal.loop-at-init
-loop-at-init c = (omega arith, c.requires, λ k l h. let z : ⊥ = omega arith in absurd z)
+abbrev foreign_at : List ℕ → ℕ → Bool
+foreign_at word k = is_foreign (get_or word k 0)
 
-pub offset_bounds-word-at : goal.offset_bounds-word-at
-offset_bounds-word-at c = omega arith
-
-pub bounds-word-at : goal.bounds-word-at
-bounds-word-at c = omega arith
-
-pub returns-then-is_foreign : goal.returns-then-is_foreign
-returns-then-is_foreign c =
+module _ (word : List ℕ) (from : ℕ) (fits : from ≤ length word) where
+  -- what was found, by what is known of the values
+  finds : (found : Option ℕ)
+      → MatchOption found ((k : ℕ) → from ≤ k → k < length word → foreign_at word k ≡ false)
+      (λ place. (from ≤ place) × (place < length word) × (foreign_at word place ≡ true) × ((k : ℕ) → from ≤ k → k < place → foreign_at word k ≡ false))
+      → FindsForeign word from found
+  finds None n = record { after = fits; within = omega arith; before = λ k h below. admitted _ (n k h below); foreign = λ h. absurd (omega arith) }
+  finds (Some place) h = (
+    h.1,
     record {
-      after = c.loop-at.invariant.0;
-      within = c.loop-at.invariant.1;
-      before = λ k h i. c.loop-at.invariant.2 k i h;
-      foreign = λ i. unadmitted _ c.is_foreign.result c.is_foreign.ensures c.if-is_foreign.true;
-    }
-
-pub overflow_add-at : goal.overflow_add-at
-overflow_add-at c = omega arith
-
-pub loop-at-smaller : goal.loop-at-smaller
-loop-at-smaller c = omega arith
-
-pub loop-at-preserved : goal.loop-at-preserved
-loop-at-preserved c = (
-  omega arith,
-  omega arith,
-  below_more _ _ c.loop-at.invariant.2 (λ (h : _). admitted _ c.is_foreign.result c.is_foreign.ensures c.if-is_foreign.false),
-)
+      after = h.0;
+      within = omega arith;
+      before = λ k low below. admitted _ (h.3 k low below);
+      foreign = λ _. unadmitted _ h.2;
+    },
+  )
 
 pub returns : goal.returns
 returns c =
-    record {
-      after = c.loop-at.invariant.0;
-      within = c.loop-at.invariant.1;
-      before = λ k h i. c.loop-at.invariant.2 k i h;
-      foreign = λ i. let z : ⊥ = omega arith in absurd z;
-    }
+    let s = c.args in
+    finds s.word.now s.from c.requires c.find.result
+    (first_from_Range _ _ _ c.find.result (λ k. foreign_at s.word.now k ≡ true) (λ k. foreign_at s.word.now k ≡ false) c.find.ensures.ran
+    (λ x q k. search (rules, tests)) (λ x q k. search (rules, tests)))
