@@ -14,13 +14,14 @@ use Rattle.formula.specs.Limits.{record_size}
 use Rattle.formula.specs.Record.{link_place}
 use Rattle.syllable_record.specs.Decode.{syllable_of}
 use Rattle.syllable_record.specs.Record.{may_follow}
-use Rattle.writing.specs.Records.{first_records, records_of, row_of, are_records}
+use Rattle.std.specs.Simd.{first_chunks}
+use Rattle.writing.specs.Records.{records_of, row_of, are_records}
 
 records_of_next : (l : List ℕ) → record_size ≤ length l → records_of l ≡ take record_size l ∷ records_of (drop record_size l)
 unfolding records_of
 records_of_next l h =
     let one_more : length l / record_size ≡ suc (length (drop record_size l) / record_size) = omega (arith, length-drop record_size l) in
-    ap (λ (n : ℕ). first_records n l) one_more
+    ap (λ (n : ℕ). first_chunks record_size n l) one_more
 
 pub row_next : (l : List ℕ) → record_size ≤ length l → row_of l ≡ syllable_of (take record_size l) ∷ row_of (drop record_size l)
 unfolding row_of

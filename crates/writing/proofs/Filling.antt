@@ -1,18 +1,19 @@
 -- The pass that writes: the output begins with the parts of the records so far, and with the parts of what is left they are the whole word.
 -- Assumes nothing.
 use mathlib.Core.Path.{◌≡◌, refl, ap, sym, ◌∙◌}
-use mathlib.Core.Bool.{◌&&◌}
-use mathlib.Core.List.{List, [], ◌∷◌, ◌++◌, append_assoc, append-nil}
-use Prim.Native.Nat.{ℕ, ◌+◌, ◌≤◌, ◌<◌}
+use mathlib.Core.List.{List, [], ◌∷◌, ◌++◌, map, append_assoc, append-nil}
+use Prim.Native.Nat.{ℕ, zero, suc, ◌+◌, ◌*◌, ◌/◌, ◌%◌, ◌≤◌, ◌<◌}
 use native.Mathlib.Nat.{zero-add}
+use native.Mathlib.Numerals.{add-one}
 use native.Mathlib.Omega.{arith}
-use lib.Dec.{T}
+use lib.Dec.{T, eqb}
 use lib.ListN.{length, get_or, take, drop, length-append, length-drop, drop_of_length-le}
-use lib.Seq.{length-take-le, drop-drop}
+use lib.Seq.{length-take-le, drop-cons}
+use Rattle.std.specs.Simd.{first_chunks}
 use Rattle.letters.specs.Choice.{pick}
 use Rattle.formula.proofs.Lists.{both_left, both_right}
 use Rattle.formula.specs.Syllable.{Final, no_final, plain, plain_pair, stacked, kinzi, great_sa, Syllable, syllable, final_of, part}
-use Rattle.formula.specs.Row.{Row, join_after, join}
+use Rattle.formula.specs.Row.{join_after, join}
 use Rattle.formula.specs.Limits.{record_size}
 use Rattle.formula.specs.Record.{link_of, link_place}
 use Rattle.syllable_record.specs.Decode.{syllable_of}
@@ -20,9 +21,8 @@ use Rattle.syllable_record.specs.Record.{link_admits, is_record, may_follow}
 use Rattle.syllable_text.specs.Part.{head_after, part_after, PartPut}
 use Rattle.syllable_record.proofs.Decoded.{decoded}
 use Rattle.syllable_text.proofs.Putting.{put_length, put_behind}
-use Rattle.writing.specs.Records.{row_of, are_records}
+use Rattle.writing.specs.Records.{records_of, row_of, each_follows, are_records}
 use Rattle.writing.specs.Put.{RowFits, RowPut}
-use Rattle.writing.proofs.Cutting.{row_next, records_next, records_whole, row_none}
 
 -- the part behind a link is the part behind its final
 part_after_lem : (f : Final) (s : Syllable) → part_after (link_of f) s ≡ part f s
@@ -34,82 +34,95 @@ part_after_lem (stacked c) (syllable h m v g t) = refl
 part_after_lem kinzi (syllable h m v g t) = refl
 part_after_lem great_sa (syllable h m v g t) = refl
 
--- at a place of the bytes: the values so far, at the front of the output, and that the records go on from here
-pub record Filled (bytes before output : List ℕ) (link count at : ℕ) : Type 0 where
-  pub final : Final
-  pub linked : link_of final ≡ link
-  pub within : at ≤ length bytes
-  pub are_records_lem : T (are_records link (drop at bytes))
+-- the parts of records behind one with the link
+abbrev parts_behind : ℕ → List (List ℕ) → List ℕ
+parts_behind link [] = []
+parts_behind link (next ∷ records) = part_after link (syllable_of next) ++ parts_behind (get_or next link_place 0) records
+
+-- of records that pass the tests, they are the parts of their row
+parts_joined : (f : Final) (count : ℕ) (bytes : List ℕ) → count * record_size ≤ length bytes → T (each_follows (link_of f) (first_chunks record_size count bytes))
+    → parts_behind (link_of f) (first_chunks record_size count bytes) ≡ join_after f (map syllable_of (first_chunks record_size count bytes))
+unfolding may_follow
+parts_joined f zero bytes whole t = refl
+parts_joined f (suc count) bytes whole t =
+    let next = take record_size bytes in
+    let rest = first_chunks record_size count (drop record_size bytes) in
+    let left = each_follows (get_or next link_place 0) rest in
+    let is : T (is_record next) = both_right (link_admits (link_of f) (0x1000 + get_or next 0 0)) (is_record next) (both_left (may_follow (link_of f) next) left t) in
+    let linked : link_of (final_of (syllable_of next)) ≡ get_or next link_place 0 = (decoded next (length-take-le record_size bytes (omega arith)) is).linked in
+    let behind = parts_joined (final_of (syllable_of next)) count (drop record_size bytes) (omega (arith, length-drop record_size bytes)) (rw linked (both_right (may_follow (link_of f) next) left t)) in
+    (λ i. part_after_lem f (syllable_of next) i ++ (rw linked at behind) i)
+
+-- the word of the records is their parts
+row_joined : (bytes : List ℕ) → T (are_records 0 bytes) → parts_behind 0 (records_of bytes) ≡ join (row_of bytes)
+unfolding are_records records_of row_of
+row_joined bytes t =
+    parts_joined no_final (length bytes / record_size) bytes (omega arith) (both_right (eqb (length bytes % record_size) 0) (each_follows 0 (records_of bytes)) t)
+
+-- at a place of the records: the values so far, at the front of the output, and with the parts from here on they are all parts
+pub record Filled (records : List (List ℕ)) (before output : List ℕ) (link count at : ℕ) : Type 0 where
   pub done : List ℕ
   pub put : PartPut before output 0 done count
-  pub joined : done ++ join_after final (row_of (drop at bytes)) ≡ join (row_of bytes)
+  pub joined : done ++ parts_behind link (drop at records) ≡ parts_behind 0 records
 
-pub filled_none : (bytes before : List ℕ) → RowFits bytes (length before) → Filled bytes before before 0 0 0
-filled_none bytes before h = record {
-  final = no_final;
-  linked = refl;
-  within = omega arith;
-  are_records_lem = h.are_records_lem;
-  done = [];
-  put = record { put = refl; behind_it = refl };
-  joined = refl;
-}
+pub filled_none : (records : List (List ℕ)) (before : List ℕ) → Filled records before before 0 0 0
+filled_none records before = record { done = []; put = record { put = refl; behind_it = refl }; joined = refl }
 
-module _ (bytes before output : List ℕ) (link count at : ℕ) (p : Filled bytes before output link count at) (fits : length (join (row_of bytes)) ≤ length before) where
-  pub filled_fits : length p.done ≤ length before
-  filled_fits = omega (arith, length-append p.done (join_after p.final (row_of (drop at bytes))), ap length p.joined)
+module _ (bytes before output : List ℕ) (fits : RowFits bytes (length before)) (records : List (List ℕ)) (cut : records ≡ records_of bytes) (link count at : ℕ)
+    (p : Filled records before output link count at) where
+  all_parts : parts_behind 0 records ≡ join (row_of bytes)
+  all_parts = ap (parts_behind 0) cut ∙ row_joined bytes fits.are_records_lem
+
+  done_fits : length p.done ≤ length before
+  done_fits = omega (arith, fits.fits, length-append p.done (parts_behind link (drop at records)), ap length (p.joined ∙ all_parts))
 
   -- the output is as long as before
   pub filled_length : length output ≡ length before
-  filled_length = put_length before output 0 p.done count p.put (omega (arith, filled_fits))
-
-  -- a whole record is left
-  pub filled_whole : at < length bytes → at + record_size ≤ length bytes
-  filled_whole more = omega (arith, length-drop at bytes, records_whole link (drop at bytes) p.are_records_lem (omega (arith, length-drop at bytes)))
+  filled_length = put_length before output 0 p.done count p.put (omega (arith, done_fits))
 
   -- at the end the values so far are the word
-  pub filled_all : length bytes ≤ at → RowPut bytes before output count
+  pub filled_all : length records ≤ at → RowPut bytes before output count
   filled_all end =
       let all : p.done ≡ join (row_of bytes) =
-      sym (append-nil p.done) ∙ ap (λ (row : Row). p.done ++ join_after p.final row) (sym (ap row_of (drop_of_length-le bytes end) ∙ row_none)) ∙ p.joined in
+      sym (append-nil p.done) ∙ ap (λ (rest : List (List ℕ)). p.done ++ parts_behind link rest) (sym (drop_of_length-le records end)) ∙ p.joined ∙ all_parts in
       record {
         put = rw (← all) (p.put.put ∙ rw zero-add);
         counted = omega (arith, p.put.behind_it, ap length all);
       }
 
-  module _ (next : List ℕ) (enough : at + record_size ≤ length bytes) (is_next : next ≡ take record_size (drop at bytes)) where
-    joined_next : (p.done ++ part_after link (syllable_of next)) ++ join_after (final_of (syllable_of next)) (row_of (drop (at + record_size) bytes)) ≡ join (row_of bytes)
+  module _ (more : at < length records) where
+    next : List ℕ
+    next = get_or records at []
+
+    rest : List (List ℕ)
+    rest = drop (at + 1) records
+
+    joined_next : (p.done ++ part_after link (syllable_of next)) ++ parts_behind (get_or next link_place 0) rest ≡ parts_behind 0 records
+    unfolding next rest
     joined_next =
-        let here : row_of (drop at bytes) ≡ syllable_of next ∷ row_of (drop (at + record_size) bytes) =
-        rw (is_next, ← drop-drop record_size at bytes) (row_next (drop at bytes) (omega (arith, length-drop at bytes))) in
-        rw (← p.linked, part_after_lem p.final (syllable_of next), append_assoc) (ap (λ (r : Row). p.done ++ join_after p.final r) (sym here) ∙ p.joined)
+        let here : drop at records ≡ next ∷ rest = rw add-one (drop-cons records at [] more) in
+        rw append_assoc (ap (λ (left : List (List ℕ)). p.done ++ parts_behind link left) (sym here) ∙ p.joined)
 
     -- there is room for the part
-    pub filled_room : count + length (part_after link (syllable_of next)) ≤ length output
+    pub filled_room : count + length (part_after link (syllable_of (get_or records at []))) ≤ length output
+    unfolding next
     filled_room =
         omega (
           arith,
+          fits.fits,
           filled_length,
           p.put.behind_it,
-          ap length joined_next,
-          length-append (p.done ++ part_after link (syllable_of next)) (join_after (final_of (syllable_of next)) (row_of (drop (at + record_size) bytes))),
+          ap length (joined_next ∙ all_parts),
+          length-append (p.done ++ part_after link (syllable_of next)) (parts_behind (get_or next link_place 0) rest),
           length-append p.done (part_after link (syllable_of next)),
         )
 
     -- one record more
-    pub filled_more : (after : List ℕ) (behind : ℕ) → PartPut output after count (part_after link (syllable_of next)) behind
-        → Filled bytes before after (get_or next link_place 0) behind (at + record_size)
-    unfolding may_follow
+    pub filled_more : (after : List ℕ) (behind : ℕ) → PartPut output after count (part_after link (syllable_of (get_or records at []))) behind
+        → Filled records before after (get_or (get_or records at []) link_place 0) behind (at + 1)
+    unfolding next rest
     filled_more after behind q =
-        let passed : T (may_follow link next && are_records (get_or next link_place 0) (drop (at + record_size) bytes)) =
-        rw (is_next, ← drop-drop record_size at bytes) (rw (records_next link (drop at bytes) (omega (arith, length-drop at bytes))) at p.are_records_lem) in
-        let one : T (may_follow link next) = both_left (may_follow link next) (are_records (get_or next link_place 0) (drop (at + record_size) bytes)) passed in
-        let is : T (is_record next) = both_right (link_admits link (0x1000 + get_or next 0 0)) (is_record next) one in
         record {
-          final = final_of (syllable_of next);
-          linked = (decoded next (ap length is_next ∙ length-take-le record_size (drop at bytes) (omega (arith, length-drop at bytes))) is).linked;
-          within = enough;
-          are_records_lem = both_right (may_follow link next) (are_records (get_or next link_place 0) (drop (at + record_size) bytes)) passed;
           done = p.done ++ part_after link (syllable_of next);
           put = put_behind before output 0 p.done count p.put after (part_after link (syllable_of next)) behind (omega (arith, filled_room, filled_length, p.put.behind_it)) q;
           joined = joined_next;

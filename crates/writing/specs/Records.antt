@@ -1,20 +1,16 @@
 -- Document 01, "Syllable records", and document 02, E5: the tests that tell the records of a row from other bytes, and the row that they are read as.
 -- Assumes nothing.
-use Rattle.std.specs.Prelude.{Bool, ◌&&◌, List, [], ◌∷◌, map, ℕ, zero, suc, ◌/◌, ◌%◌, eqb, leb, length, get_or, take, drop}
+use Rattle.std.specs.Prelude.{Bool, ◌&&◌, List, [], ◌∷◌, map, ℕ, ◌/◌, ◌%◌, eqb, leb, length, get_or}
+use Rattle.std.specs.Simd.{first_chunks}
 use Rattle.formula.specs.Limits.{record_size}
 use Rattle.formula.specs.Row.{Row}
 use Rattle.formula.specs.Record.{link_place}
 use Rattle.syllable_record.specs.Decode.{syllable_of}
 use Rattle.syllable_record.specs.Record.{may_follow}
 
--- the first so many records of the bytes
-abbrev pub first_records : ℕ → List ℕ → List (List ℕ)
-first_records zero bytes = []
-first_records (suc count) bytes = take record_size bytes ∷ first_records count (drop record_size bytes)
-
 -- "a writer's row has eight bytes a syllable", in word order: the records
 unfoldable pub records_of : List ℕ → List (List ℕ)
-records_of bytes = first_records (length bytes / record_size) bytes
+records_of bytes = first_chunks record_size (length bytes / record_size) bytes
 
 -- the syllables of the records
 unfoldable pub row_of : List ℕ → Row

@@ -12,9 +12,7 @@ mod row; // row.rt: the passes over the records
 pub fn write(records: &[u8], output: &mut [u16]) -> Result<usize, Refusal>
     ensures { WriteRight records.now output.old output.new (outcome_of result) }
 {
-    let Some(count) = row::measure(records) else {
-        return Err(Refusal::NoSuchRow);
-    };
+    let count = row::measure(records).ok_or(Refusal::NoSuchRow)?;
     if output.len() < count {
         return Err(Refusal::OutputTooShort(count));
     }

@@ -4,36 +4,28 @@ ghost use Rattle.writing.specs.Size.{size_of};
 ghost use Rattle.writing.specs.Put.{RowFits, RowPut};
 
 use formula::Word;
-use syllable_record::{may_follow, record_at};
-use syllable_text::part;
+use syllable_record::may_follow;
+use syllable_text::part::{part_size, put_part};
 
 // How many values the records are written with, if they are those of a row and the values are few enough.
-#[derive(Clone, Copy)]
-pub enum Size {
-    Values(usize),
-    NoSuchRow,
-}
-
 pub(crate) fn measure(records: &[u8]) -> Option<usize>
     ensures { result ≡ size_of records.now }
 {
+    let (whole, rest) = records.as_chunks::<{ Word::RECORD }>();
+    if !rest.is_empty() {
+        return None;
+    }
     let mut link = 0;
     let mut count = 0;
-    let mut at = 0;
-    while at < records.len() {
-        if records.len() - at < Word::RECORD {
+    for next in whole {
+        if !may_follow(link, *next) {
             return None;
         }
-        let next = record_at(records, at);
-        if !may_follow(link, next) {
-            return None;
-        }
-        count += part::part_size(next);
+        count += part_size(*next);
         if Word::LIMIT < count {
             return None;
         }
         link = next[Word::LINK];
-        at += Word::RECORD;
     }
     if 1 < link {
         return None;
@@ -46,14 +38,12 @@ pub(crate) fn put_row(records: &[u8], output: &mut [u16]) -> usize
     requires { RowFits records.now (length output.old) }
     ensures { RowPut records.now output.old output.new result }
 {
+    let (whole, _) = records.as_chunks::<{ Word::RECORD }>();
     let mut link = 0;
     let mut count = 0;
-    let mut place = 0;
-    while place < records.len() {
-        let next = record_at(records, place);
-        count = part::put_part(output, count, link, next);
+    for next in whole {
+        count = put_part(output, count, link, *next);
         link = next[Word::LINK];
-        place += Word::RECORD;
     }
     count
 }
