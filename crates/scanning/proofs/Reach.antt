@@ -1,6 +1,7 @@
 -- One value more keeps the scan's state right: what the window and the arrays show follows the machine's row, by what the value makes of it.
 -- Assumes nothing.
-use mathlib.Core.Path.{◌≡◌, refl, ap, sym, ◌∙◌}
+use mathlib.Core.Path.{◌≡◌, refl, ap, sym, subst, ◌∙◌}
+use mathlib.Core.Bool.{Bool, true, false}
 use mathlib.Core.List.{List, [], ◌∷◌, ◌++◌, append_assoc}
 use mathlib.Core.Option.{some}
 use Prim.Native.Nat.{ℕ, suc, ◌+◌, ◌-◌, ◌/◌, ◌%◌, ◌≤◌, ◌<◌}
@@ -14,14 +15,14 @@ use Rattle.formula.specs.Row.{Row}
 use Rattle.formula.specs.Packed.{packed, packed_top, unread}
 use Rattle.formula.specs.declared.Window.{Window}
 use Rattle.rows.specs.Machine.{end_of, KeptOk, kept_join, step, run}
-use Rattle.transitions.specs.Tables.{entry_of, gain_of}
+use Rattle.transitions.specs.Tables.{entry_of, gain_of, begins_by, next_by, gain_by, rules_of}
 use Rattle.states.specs.Transition.{Makes, begins, begins_great_sa, adds_medial, adds_vowel, adds_tone, makes_kinzi, closes}
-use Rattle.transitions.proofs.Entered.{Moves}
+use Rattle.transitions.proofs.Entered.{Moves, next_entry, next_gain}
 use Rattle.syllables.specs.Window.{closed_by, window_after, Fit, WindowOf, below_last}
-use Rattle.syllables.proofs.Moved.{made_final, window_moves, closed_below, window_fits}
+use Rattle.syllables.proofs.Moved.{made_final, window_moves, closed_below, window_fits, one_more, none_more}
 use Rattle.recogniser.proofs.Kept.{kept_right, count_bound}
-use Rattle.recogniser.proofs.Walking.{moved, moved_on}
-use Rattle.scanning.specs.Scanned.{kept_packed, kept_starts, SyllablesOf, StartsOf, ArraysOf, Reached}
+use Rattle.recogniser.proofs.Walking.{state_bound, walk_refused, moved, moved_on}
+use Rattle.scanning.specs.Scanned.{kept_packed, kept_starts, SyllablesOf, StartsOf, ArraysOf, Reached, Scanned}
 
 packed_length : (kept : Row) → length (kept_packed kept) ≡ length kept
 packed_length [] = refl
@@ -165,55 +166,86 @@ at_start word =
 pub count_fits : (word : List ℕ) (at state : ℕ) (w : Window) (l k : List ℕ) → Reached word at state w l k → w.count ≤ at
 count_fits word at state w l k r = let c = r.window_of.count in omega (arith, count_bound word at r.walked.kept r.walked.came)
 
--- a turn of the loop, by the windows before and after it: a syllable begins, and the one before it is finished, or the arrays stay
-pub record Turned (word : List ℕ) (at entry : ℕ) (w : Window) (l k : List ℕ) (v : Window) : Type 0 where
-  pub begun : entry / 32 ≡ 2 → (i : ℕ) → i ≡ w.count - 1 → (p : ℕ) → p ≡ closed_by (get_or word at 0) w.last → (m : List ℕ) → m ≡ set l i p
-      → (n : List ℕ) → n ≡ set k w.count at → Reached word (at + 1) (entry % 32) v m n
-  pub stays : (entry / 32 ≡ 2 → ⊥) → (m : List ℕ) → m ≡ l → (n : List ℕ) → n ≡ k → Reached word (at + 1) (entry % 32) v m n
+-- a turn of the loop, by the windows before and after it: the value begins a syllable, and the one before it is finished, or the arrays stay
+pub record Turned (word : List ℕ) (at : ℕ) (w : Window) (l k : List ℕ) (begins : Bool) (next : ℕ) (v : Window) : Type 0 where
+  pub begun : begins ≡ true → (i : ℕ) → i ≡ w.count - 1 → (p : ℕ) → p ≡ closed_by (get_or word at 0) w.last → (m : List ℕ) → m ≡ set l i p
+      → (n : List ℕ) → n ≡ set k w.count at → Reached word (at + 1) next v m n
+  pub stays : begins ≡ false → (m : List ℕ) → m ≡ l → (n : List ℕ) → n ≡ k → Reached word (at + 1) next v m n
 
+-- the end of the word
+pub scan_done : (word : List ℕ) (at state : ℕ) (w : Window) (l k : List ℕ) → Reached word at state w l k → length word ≤ limit → at ≡ length word
+    → Scanned word (record { at = length word; state = state; count = w.count; syllables = set l (w.count - 1) w.last; starts = k })
+scan_done word at state w l k r short end =
+    let h = subst (λ (n : ℕ). Reached word n state w l k) end r in
+    record {
+      stopped = record { short = short; within = omega arith; walked = h.walked; refused = λ i. let no : ⊥ = omega arith in absurd no };
+      starts_of = h.arrays_of.starts_of;
+      whole = λ _. completed h.walked.kept w l h.window_of h.arrays_of.syllables_of;
+    }
+
+-- where the pass has come, and what the tables say of the next value there
 module _ (word : List ℕ) (at state : ℕ) (w : Window) (l k : List ℕ) (r : Reached word at state w l k) (entry : ℕ)
-    (e : entry ≡ entry_of state (get_or word at 0)) (inside : at < length word) (q : entry ≡ 96 → ⊥) (short : length word ≤ limit) (gain : ℕ)
-    (g : gain ≡ gain_of state (get_or word at 0)) where
-  abbrev move : Moves (get_or word at 0) entry (gain_of state (get_or word at 0)) r.walked.kept (step r.walked.kept (get_or word at 0))
-  move = moved word at state w.count r.walked entry e inside q
+    (n : entry ≡ next_by state (rules_of (get_or word at 0))) (inside : at < length word) (short : length word ≤ limit) where
+  e : entry ≡ entry_of state (get_or word at 0)
+  e = n ∙ next_entry state (get_or word at 0) (state_bound word at state w.count r.walked)
 
-  came : run (take (at + 1) word) [] ≡ some move.after
-  came = moved_on word at state w.count r.walked entry e inside q
+  -- the value is refused
+  pub scan_refused : entry ≡ 96 → Scanned word (record { at = at; state = state; count = w.count; syllables = l; starts = k })
+  scan_refused q =
+      record {
+        stopped =
+            record { short = short; within = omega arith; walked = r.walked; refused = λ _. walk_refused word at state w.count r.walked entry e q };
+        starts_of = r.arrays_of.starts_of;
+        whole = λ z. let no : ⊥ = omega arith in absurd no;
+      }
 
-  kept_ok : KeptOk r.walked.kept
-  kept_ok = (kept_right word at r.walked.kept r.walked.came).0
+  -- or it is read
+  module _ (q : entry ≡ 96 → ⊥) (gain : ℕ) (a : gain ≡ gain_by state (rules_of (get_or word at 0))) where
+    g : gain ≡ gain_of state (get_or word at 0)
+    g = a ∙ next_gain state (get_or word at 0) (state_bound word at state w.count r.walked) (λ z. q (e ∙ z))
 
-  makes : Makes (get_or word at 0) (entry / 32) gain r.walked.kept move.after
-  makes = rw g move.makes
+    abbrev move : Moves (get_or word at 0) entry (gain_of state (get_or word at 0)) r.walked.kept (step r.walked.kept (get_or word at 0))
+    move = moved word at state w.count r.walked entry e inside q
 
-  -- the numbers of the window fit
-  pub turn_fits : Fit (entry / 32) gain (get_or word at 0) w
-  turn_fits =
-      window_fits w makes move.begins_is kept_ok
-      (kept_right word (at + 1) move.after came).0 (let b = count_fits word at state w l k r in omega (arith, r.window_of.count)) r.window_of
+    came : run (take (at + 1) word) [] ≡ some move.after
+    came = moved_on word at state w.count r.walked entry e inside q
 
-  module _ (v : Window) (f : v ≡ window_after (entry / 32) gain (get_or word at 0) w) where
-    window_is : WindowOf move.after v
-    window_is = rw f (window_moves w makes kept_ok r.window_of)
+    kept_ok : KeptOk r.walked.kept
+    kept_ok = (kept_right word at r.walked.kept r.walked.came).0
 
-    reached : (m n : List ℕ) → ArraysOf move.after m n → Reached word (at + 1) (entry % 32) v m n
-    reached m n o =
-        record {
-          walked = record { kept = move.after; came = came; state_is = move.state_is; count_is = window_is.count };
-          window_of = window_is;
-          arrays_of = o;
-        }
+    makes : Makes (get_or word at 0) (entry / 32) gain r.walked.kept move.after
+    makes = rw g move.makes
 
-    pub turned : Turned word at entry w l k v
-    turned =
-        let c = count_fits word at state w l k r in
-        let joined : length (kept_join move.after) ≡ suc at =
-        omega (arith, ap length (kept_right word (at + 1) move.after came).1, length-take (at + 1) word) in
-        record {
-          begun = λ d i j p e m a n f.
-              rw (a, f, j)
-              (reached _ _
-              (begun at w.count p l k makes d (omega (arith, r.window_of.count)) joined r.window_of.count
-              (e ∙ closed_below w makes d r.window_of) r.arrays_of));
-          stays = λ d m a n f. rw (a, f) (reached l k (stays l k makes d r.arrays_of));
-        }
+    -- the numbers of the window fit
+    pub turn_fits : Fit (entry / 32) gain (get_or word at 0) w
+    turn_fits =
+        window_fits w makes move.begins_is kept_ok
+        (kept_right word (at + 1) move.after came).0 (let b = count_fits word at state w l k r in omega (arith, r.window_of.count)) r.window_of
+
+    module _ (begins : Bool) (b : begins ≡ begins_by (get_or word at 0)) (next : ℕ) (c : next ≡ entry % 32) (v : Window)
+        (f : v ≡ window_after (entry / 32) gain (get_or word at 0) w) where
+      window_is : WindowOf move.after v
+      window_is = rw f (window_moves w makes kept_ok r.window_of)
+
+      reached : (m n : List ℕ) → ArraysOf move.after m n → Reached word (at + 1) next v m n
+      reached m n o =
+          record {
+            walked = record { kept = move.after; came = came; state_is = c ∙ move.state_is; count_is = window_is.count };
+            window_of = window_is;
+            arrays_of = o;
+          }
+
+      pub turned : Turned word at w l k begins next v
+      turned =
+          let few = count_fits word at state w l k r in
+          let joined : length (kept_join move.after) ≡ suc at =
+          omega (arith, ap length (kept_right word (at + 1) move.after came).1, length-take (at + 1) word) in
+          record {
+            begun = λ t i j p d m y n z.
+                let two = one_more turn_fits begins b t in
+                rw (y, z, j)
+                (reached _ _
+                (begun at w.count p l k makes two (omega (arith, r.window_of.count)) joined r.window_of.count
+                (d ∙ closed_below w makes two r.window_of) r.arrays_of));
+            stays = λ t m y n z. rw (y, z) (reached l k (stays l k makes (none_more turn_fits begins b t) r.arrays_of));
+          }

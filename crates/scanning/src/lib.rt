@@ -1,7 +1,7 @@
 // One pass over a word: how far it is read, its syllables, and where each begins.
 #![tactic(auto)]
 
-ghost use Rattle.std.specs.Prelude.{◌≡◌, ◌-◌, ◌≤◌, length};
+ghost use Rattle.std.specs.Prelude.{◌≤◌, length};
 ghost use Rattle.formula.specs.Limits.{limit};
 ghost use Rattle.scanning.specs.Scanned.{Scanned};
 
@@ -20,16 +20,6 @@ pub struct Scan {
     pub starts: [u8; Word::LIMIT],
 }
 
-// `count` less `by`, or 0.
-fn less(count: usize, by: usize) -> usize
-    ensures { result ≡ count - by }
-{
-    if count < by {
-        return 0;
-    }
-    count - by
-}
-
 pub fn scan_word(word: &[u16]) -> Scan
     requires { length word.now ≤ limit }
     ensures { Scanned word.now result }
@@ -38,9 +28,7 @@ pub fn scan_word(word: &[u16]) -> Scan
     let mut state = 0;
     let mut syllables = [0; Word::LIMIT];
     let mut starts = [0u8; Word::LIMIT];
-    let mut at = 0;
-    while at < word.len() {
-        let x = word[at];
+    for (at, &x) in word.iter().enumerate() {
         let rules = rules_of(x);
         let entry = next(state, rules);
         if entry == Rules::REFUSED {
@@ -55,19 +43,17 @@ pub fn scan_word(word: &[u16]) -> Scan
         let change = entry / 32;
         if begins(x) {
             let count = window.count;
-            let finished = less(count, 1);
+            let finished = count.saturating_sub(1);
             syllables[finished] = closed_by(x, window.last);
             starts[count] = at as u8;
         }
         window = window_after(window, change, gain(state, rules), x);
-        state = (entry % 32) as usize;
-        at += 1;
+        state = usize::from(entry % 32);
     }
-    let finished = less(window.count, 1);
-    let last = window.last;
-    syllables[finished] = last;
+    let finished = window.count.saturating_sub(1);
+    syllables[finished] = window.last;
     Scan {
-        at,
+        at: word.len(),
         state,
         count: window.count,
         syllables,
