@@ -8,6 +8,7 @@ use transitions::classes::begins;
 const GREAT_SA: u16 = 0x103F;
 
 // What a value begins a syllable with: great sa is the head 101E.
+#[tactic(auto, using(letters::proofs::Picks::picks), unfolding(crate::specs::Window::begun_by))]
 fn begun(x: u16) -> u64
     requires { (0x1000 ≤ x) × (x < 0x1100) }
     ensures { (result ≡ begun_by x) × (result < 0x100) }
@@ -15,10 +16,11 @@ fn begun(x: u16) -> u64
     if x == GREAT_SA {
         return 0x1E;
     }
-    (x - 0x1000) as u64
+    u64::from(x - 0x1000)
 }
 
 // A syllable that the value x ends: great sa is its final 101E, with link 3.
+#[tactic(auto, using(letters::proofs::Picks::picks), unfolding(crate::specs::Window::closed_by))]
 pub fn closed_by(x: u16, last: u64) -> u64
     requires { last < packed_limit }
     ensures { result ≡ closed_by x last }
@@ -40,6 +42,7 @@ fn joined_by(last: u64, head: u64) -> u64
 }
 
 // The last syllable where none is begun, before the value adds to it: the last itself; or, with one syllable fewer, the last two joined.
+#[tactic(auto, using(letters::proofs::Picks::picks), unfolding(crate::specs::Window::last_kept))]
 fn last_kept(window: Window, change: u8) -> u64
     ensures { result ≡ last_kept change window }
 {
@@ -55,20 +58,17 @@ pub fn window_after(window: Window, change: u8, gain: u64, x: u16) -> Window
     requires { Fit change gain x window }
     ensures { result ≡ window_after change gain x window }
 {
-    let count = window.count;
-    let last = window.last;
-    let joined = window.joined;
     if begins(x) {
         let head = begun(x);
         return Window {
-            count: count + 1,
+            count: window.count + 1,
             last: head,
-            joined: joined_by(last, head),
+            joined: joined_by(window.last, head),
         };
     }
     Window {
-        count: count + change as usize - 1,
+        count: window.count + usize::from(change) - 1,
         last: last_kept(window, change) + gain,
-        joined,
+        joined: window.joined,
     }
 }
