@@ -8,13 +8,15 @@ use lib.ListN.{length, get_or, take, drop}
 use Rattle.formula.specs.Limits.{limit}
 use Rattle.formula.specs.Syllable.{Final, no_final, final_of, part}
 use Rattle.formula.specs.Row.{Row, parts_after, parts, join_after, Gives}
-use Rattle.refusals.specs.Outcome.{reply_outcome}
+use Rattle.refusals.specs.Outcome.{outcome_by, tells_if_there}
 use Rattle.std.specs.declared.result.Result.{Result}
-use Rattle.refusals.specs.declared.Reply.{Reply}
 use Rattle.refusals.specs.declared.Refusal.{Refusal}
-use Rattle.refusals.specs.declared.Reply.TheVariants.{One, Two, Nothing, Refused}
+use Rattle.std.specs.declared.result.Result.TheVariants.{Ok, Err}
+use Rattle.std.specs.declared.option.Option.{Option}
+use Rattle.std.specs.declared.option.Option.TheVariants.{Some, None}
 use Rattle.recogniser.proofs.Answered.{row_reads}
-use Rattle.reading.specs.Parts.{PartRight, PartAnswers}
+use Rattle.reading.specs.Parts.{part_told, PartRight, PartAnswers}
+use Rattle.reading.specs.declared.parts.Part.{Part}
 use Rattle.reading.proofs.Parted.{parts_length, part_right, part_beyond, part_refused}
 
 parts_join : (f : Final) (row : Row) → flatten (parts_after f row) ≡ join_after f row
@@ -40,18 +42,16 @@ numbered_join (l ∷ lists) list is =
     ∙ ap (λ (k : List ℕ). l ++ k) (numbered_join lists (λ (number : ℕ). list (suc number)) (λ number h. is (suc number) (suc-le-suc h)))
 
 -- the part at the place that an answer gives
-abbrev pub part_by : List ℕ → Result Reply Refusal → List ℕ
-part_by word (One n) = []
-part_by word (Two place size) = take size (drop place word)
-part_by word Nothing = []
-part_by word (Refused refusal) = []
+abbrev pub part_by : List ℕ → Result (Option Part) Refusal → List ℕ
+part_by word (Ok (Some part)) = take part.size (drop part.place word)
+part_by word (Ok None) = []
+part_by word (Err refusal) = []
 
-answered_right : (word : List ℕ) (number : ℕ) (answer : Result Reply Refusal) → PartAnswers word number (reply_outcome answer)
+answered_right : (word : List ℕ) (number : ℕ) (answer : Result (Option Part) Refusal) → PartAnswers word number (outcome_by (tells_if_there part_told) answer)
     → PartRight word number (part_by word answer)
-answered_right word number (One n) a = absurd a
-answered_right word number (Two place size) a = part_right word number place size a
-answered_right word number Nothing a = part_beyond word number a
-answered_right word number (Refused refusal) a = part_refused word number _ _ a
+answered_right word number (Ok (Some part)) a = part_right word number part.place part.size a
+answered_right word number (Ok None) a = part_beyond word number a
+answered_right word number (Err refusal) a = part_refused word number _ _ a
 
 module _ (row : Row) (word : List ℕ) (gives : Gives row word) (short : length word ≤ limit) where
   -- the parts of a word by number, from 0 to that of its last syllable, joined, are the word
@@ -61,6 +61,6 @@ module _ (row : Row) (word : List ℕ) (gives : Gives row word) (short : length 
       ∙ numbered_join (parts row) at (λ number _. (right number).has (row_reads row word gives short).admissible row gives) ∙ parts_joined row word gives
 
   -- and so are the parts at the places and of the lengths that are answered by number
-  pub places_by_number : (answer : ℕ → Result Reply Refusal) → ((number : ℕ) → PartAnswers word number (reply_outcome (answer number)))
+  pub places_by_number : (answer : ℕ → Result (Option Part) Refusal) → ((number : ℕ) → PartAnswers word number (outcome_by (tells_if_there part_told) (answer number)))
       → joined_to (length row) (λ (number : ℕ). part_by word (answer number)) ≡ word
   places_by_number answer right = parts_by_number _ (λ number. answered_right word number (answer number) (right number))

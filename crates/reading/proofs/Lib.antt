@@ -1,3 +1,4 @@
+pub mod Passing
 pub mod Recorded
 pub mod Parted
 pub mod Joined

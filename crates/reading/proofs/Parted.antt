@@ -1,7 +1,6 @@
 -- The part by number is the row's: a syllable's part lies between the places where it and the next one begin.
 -- Assumes nothing.
-use mathlib.Core.Path.{◌≡◌, refl, ap, sym, ◌∙◌}
-use mathlib.Core.Logic.{inl, inr}
+use mathlib.Core.Path.{◌≡◌, refl, ap, sym, subst, ◌∙◌}
 use mathlib.Core.List.{List, [], ◌∷◌, ◌++◌, append_assoc, append-nil, reverse_aux}
 use Prim.Native.Nat.{ℕ, zero, suc, ◌+◌, ◌-◌, ◌≤◌, ◌<◌}
 use native.Mathlib.Nat.{le_of_suc-le-suc, not-suc-le-zero}
@@ -9,25 +8,25 @@ use native.Mathlib.Decide.{dec_lt}
 use native.Mathlib.Numerals.{add-one}
 use native.Mathlib.Omega.{arith}
 use borrow.Author.Tests.{lt-ltb, le-ltb}
-use denote.Enum.Declared.{tag_of}
-use types.Run.{OneOf}
 use lib.ListN.{length, get_or, take, drop, length-append, get_or-append, get_or-eq_default}
 use lib.Seq.{take_at, drop_at}
 use Rattle.letters.specs.Choice.{pick}
 use Rattle.formula.specs.Syllable.{Final, no_final, final_of, part}
 use Rattle.formula.specs.Row.{Row, join_after, parts_after, parts}
-use Rattle.refusals.specs.Outcome.{reply_outcome}
 use Rattle.std.specs.declared.result.Result.{Result}
-use Rattle.refusals.specs.declared.Reply.{Reply}
+use Rattle.std.specs.declared.result.Result.TheVariants.{Ok, Err}
+use Rattle.std.specs.declared.option.Option.{Option}
+use Rattle.std.specs.declared.option.Option.TheVariants.{Some, None}
+use Rattle.std.specs.Result.{result_unwrap_or}
 use Rattle.refusals.specs.declared.Refusal.{Refusal}
-use Rattle.refusals.specs.declared.Reply.TheVariants.{One, Two, Nothing, Refused}
-use Rattle.refusals.specs.contracts.Reply.{the_type}
+use Rattle.refusals.specs.Outcome.{outcome_by, tells_if_there}
 use Rattle.rows.specs.Machine.{end_of, kept_join}
 use Rattle.rows.proofs.Viable.{only_row}
 use Rattle.recogniser.specs.Answer.{RefusedWith, Reads}
 use Rattle.recogniser.specs.Walked.{WalkStopped}
 use Rattle.recogniser.proofs.Answered.{refused_no_row}
-use Rattle.reading.specs.Parts.{end_by, HasPart, NoPart, PartRight, PartAnswers}
+use Rattle.reading.specs.Parts.{end_by, HasPart, NoPart, PartRight, PartAnswers, part_told}
+use Rattle.reading.specs.declared.parts.Part.{Part}
 use Rattle.scanning.specs.Scanned.{kept_starts, StartsOf}
 use Rattle.scanning.proofs.Reach.{starts_length}
 use Rattle.scanning.proofs.Stopped.{kept_is, kept_count}
@@ -155,8 +154,8 @@ parts_length f [] = refl
 parts_length f (s ∷ row) = ap suc (parts_length (final_of s) row)
 
 -- the part at its place, a word with no such syllable, and refused words
-pub part_right : (word : List ℕ) (k place size : ℕ) → HasPart word k place size → PartRight word k (take size (drop place word))
-part_right word k place size p =
+pub part_right : (word : List ℕ) (k from size : ℕ) → HasPart word k from size → PartRight word k (take size (drop from word))
+part_right word k from size p =
     record {
       has = λ _ row g. p.is ∙ ap (λ (w : Row). get_or (parts w) k []) (only_row p.row row word p.gives g);
       refused = λ no. absurd (no p.admissible p.row p.gives);
@@ -174,12 +173,17 @@ part_beyond word k p =
 pub part_refused : (word : List ℕ) (k number place : ℕ) → RefusedWith word number place → PartRight word k []
 part_refused word k number place w = record { has = λ a row g. absurd (refused_no_row word number place w a row g); refused = λ _. refl }
 
--- an answer that is told by its tag to be other than a place and a length
-pub part_none : (word : List ℕ) (k : ℕ) (answer : Result Reply Refusal) → OneOf (0 ∷ 2 ∷ 3 ∷ []) (tag_of the_type answer) → PartAnswers word k (reply_outcome answer)
-    → PartRight word k []
-part_none word k (One n) other a = absurd a
-part_none word k Nothing other a = part_beyond word k a
-part_none word k (Refused refusal) other a = part_refused word k _ _ a
-part_none word k (Two place size) (inl t) a = absurd (omega arith)
-part_none word k (Two place size) (inr (inl t)) a = absurd (omega arith)
-part_none word k (Two place size) (inr (inr t)) a = absurd (omega arith)
+module _ (word : List ℕ) (k : ℕ) where
+  -- what an answer tells to be there; a refused word has no part
+  pub part_there : (answer : Result (Option Part) Refusal) → PartAnswers word k (outcome_by (tells_if_there part_told) answer) → (part : Part)
+      → result_unwrap_or answer None ≡ Some part → HasPart word k part.place part.size
+  part_there (Ok (Some p)) a part e = subst (λ (found : Option Part). PartAnswers word k (tells_if_there part_told found)) e a
+  part_there (Ok None) a part e = let z : ◌≡◌ {A = ℕ} 0 1 = cc in let no : ⊥ = omega arith in absurd no
+  part_there (Err refusal) a part e = let z : ◌≡◌ {A = ℕ} 0 1 = cc in let no : ⊥ = omega arith in absurd no
+
+  -- an answer of no part
+  pub part_none : (answer : Result (Option Part) Refusal) → PartAnswers word k (outcome_by (tells_if_there part_told) answer)
+      → result_unwrap_or answer None ≡ None → PartRight word k []
+  part_none (Ok (Some p)) a e = let z : ◌≡◌ {A = ℕ} 0 1 = cc in let no : ⊥ = omega arith in absurd no
+  part_none (Ok None) a e = part_beyond word k a
+  part_none (Err refusal) a e = part_refused word k _ _ a

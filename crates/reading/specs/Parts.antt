@@ -5,6 +5,7 @@ use Rattle.letters.specs.Choice.{pick}
 use Rattle.formula.specs.Row.{Row, parts, join, Gives}
 use Rattle.refusals.specs.Outcome.{Outcome, accepts, accepts_both, absent, refuses}
 use Rattle.recogniser.specs.Answer.{Admissible, RefusedWith}
+use Rattle.reading.specs.declared.parts.Part.{Part}
 
 -- "The syllable asked for by number, from 0, comes back as a part of the caller's own word. Where the word is refused or has no such
 -- syllable, that part is empty."
@@ -31,6 +32,9 @@ pub record NoPart (word : List ℕ) (number : ℕ) : Type 0 where
   pub beyond : length row ≤ number
 
 -- a part tells its place and its length
+abbrev pub part_told : Part → Outcome
+part_told part = accepts_both part.place part.size
+
 abbrev pub PartAnswers : List ℕ → ℕ → Outcome → Type 0
 PartAnswers word number (accepts size) = ⊥
 PartAnswers word number (accepts_both place size) = HasPart word number place size

@@ -1,27 +1,31 @@
 -- The record of a syllable by number (document 01, "Syllable records", and document 02, E5), by the formula alone.
 -- Assumes nothing.
-use Rattle.std.specs.Prelude.{◌≡◌, List, [], ◌∷◌, ℕ, ◌≤◌, ◌<◌, length, get_or, replicate}
+use Rattle.std.specs.Prelude.{◌≡◌, List, [], ◌∷◌, ℕ, ◌≤◌, ◌<◌, length, get_or, replicate, Result, Ok, Err, Option, Some, None}
 use Rattle.formula.specs.Limits.{record_size}
 use Rattle.letters.specs.Weights.{medial_set_weight, weight_or}
 use Rattle.formula.specs.Syllable.{bare}
 use Rattle.formula.specs.Row.{Row, Gives}
 use Rattle.formula.specs.Record.{record_of}
-use Rattle.refusals.specs.Refusal.{number_of, place_of}
-use Rattle.refusals.specs.Outcome.{Outcome, accepts, accepts_both, absent, refuses}
+use Rattle.refusals.specs.declared.Refusal.{Refusal}
+use Rattle.refusals.specs.Outcome.{Outcome, accepts, accepts_both, absent, refuses, outcome_by, tells_if_there}
 use Rattle.syllables.specs.Parts.{head_part, medial_part, final_part, link_part, vowel_part, tall_part, tone_part, second_final_part}
 use Rattle.recogniser.specs.Answer.{Admissible, RefusedWith}
-use Rattle.reading.specs.declared.records.RecordAnswer.{RecordAnswer}
-use Rattle.reading.specs.declared.records.RecordAnswer.TheVariants.{Found, NoSyllable, Refused}
-use Rattle.reading.specs.declared.records.SyllableRecord.{SyllableRecord}
 
 -- a record that is found tells how many bytes it has, "eight bytes in all", by value
-abbrev pub record_outcome_of : RecordAnswer → Outcome
-record_outcome_of Found = accepts record_size
-record_outcome_of NoSyllable = absent
-record_outcome_of (Refused r) = refuses (number_of r) (place_of r)
+abbrev pub record_told : List ℕ → Outcome
+record_told bytes = accepts record_size
+
+abbrev pub record_outcome_of : Result (Option (List ℕ)) Refusal → Outcome
+record_outcome_of given = outcome_by (tells_if_there record_told) given
 
 abbrev pub no_bytes : List ℕ
 no_bytes = replicate record_size 0
+
+-- the bytes that come with an answer: zeros where there is no record
+abbrev pub bytes_in : Result (Option (List ℕ)) Refusal → List ℕ
+bytes_in (Ok (Some bytes)) = bytes
+bytes_in (Ok None) = no_bytes
+bytes_in (Err refusal) = no_bytes
 
 -- "Where the word is a row of syllables, number and records are those of that row, in its order"
 pub record HasRecord (word : List ℕ) (number : ℕ) (bytes : List ℕ) : Type 0 where
@@ -51,8 +55,8 @@ RecordAnswers word number absent bytes = NoRecord word number bytes
 RecordAnswers word number (refuses refusal place) bytes = NoReading word refusal place bytes
 
 -- the promise of a record by number
-abbrev pub RecordRight : List ℕ → ℕ → SyllableRecord → Type 0
-RecordRight word number r = RecordAnswers word number (record_outcome_of r.answer) r.bytes
+abbrev pub RecordRight : List ℕ → ℕ → Result (Option (List ℕ)) Refusal → Type 0
+RecordRight word number given = RecordAnswers word number (record_outcome_of given) (bytes_in given)
 
 -- the weight of a set of medials; inner contracts cite what follows
 unfoldable pub medial_weight_by : ℕ → ℕ
@@ -70,6 +74,3 @@ bytes_by packed =
     ∷ link_part packed
     ∷ tone_part packed
     ∷ []
-
-abbrev pub without_record : RecordAnswer → SyllableRecord
-without_record answer = record { answer = answer; bytes = no_bytes }

@@ -1,25 +1,11 @@
 // The record of a syllable by number.
 ghost use Rattle.std.specs.Prelude.{◌≡◌};
-ghost use Rattle.reading.specs.Records.{medial_weight_by, bytes_by, without_record, RecordRight};
+ghost use Rattle.reading.specs.Records.{medial_weight_by, bytes_by, RecordRight};
 
 use crate::read::read;
 use formula::Word;
 use refusals::Refusal;
 use syllables::parts;
-
-#[derive(Clone, Copy)]
-pub enum RecordAnswer {
-    Found,
-    NoSyllable,
-    Refused(Refusal),
-}
-
-// Eight bytes, and whether there is such a syllable; zeros where there is none.
-#[derive(Clone, Copy)]
-pub struct SyllableRecord {
-    pub answer: RecordAnswer,
-    pub bytes: [u8; Word::RECORD],
-}
 
 // The weight of a set of medials; a syllable has no other set than a group's.
 fn medial_weight(set: u8) -> u8
@@ -44,33 +30,13 @@ pub fn bytes_of(packed: u64) -> [u8; Word::RECORD]
     ]
 }
 
-fn without_record(answer: RecordAnswer) -> SyllableRecord
-    ensures { result ≡ without_record answer }
-{
-    SyllableRecord {
-        answer,
-        bytes: [0; Word::RECORD],
-    }
-}
-
-// The record of the syllable `number`, from 0.
-pub fn record_at(word: &[u16], number: usize) -> SyllableRecord
+// The record of the syllable `number`, from 0, where there is one.
+pub fn record_at(word: &[u16], number: usize) -> Result<Option<[u8; Word::RECORD]>, Refusal>
     ensures { RecordRight word.now number result }
 {
-    let reading = read(word);
-    let answer = reading.answer;
-    match answer {
-        Err(refusal) => without_record(RecordAnswer::Refused(refusal)),
-        Ok(count) => {
-            if count <= number {
-                return without_record(RecordAnswer::NoSyllable);
-            }
-            let syllables = reading.syllables;
-            let bytes = bytes_of(syllables[number]);
-            SyllableRecord {
-                answer: RecordAnswer::Found,
-                bytes,
-            }
-        }
-    }
+    let reading = read(word)?;
+    let Some(packed) = reading.row().get(number) else {
+        return Ok(None);
+    };
+    Ok(Some(bytes_of(*packed)))
 }
