@@ -43,13 +43,8 @@ pub fn put_label(out: &mut [u8], at: usize, line: &[u8]) -> usize
     requires { at + answer_text_limit ≤ length out.old }
     ensures { AnswerPut (LabelText line.now) out.old at out.new result }
 {
-    let decoded = decode(line);
-    let answer = decoded.answer;
-    if let Err(refusal) = answer {
-        return put_refused(out, at, refusal);
+    match decode(line) {
+        Err(refusal) => put_refused(out, at, refusal),
+        Ok(word) => put_word_label(out, at, &word.values[..word.count]),
     }
-    let word = decoded.word;
-    let values = word.values;
-    let count = word.count;
-    put_word_label(out, at, &values[..count])
 }

@@ -7,11 +7,13 @@ use native.Mathlib.Omega.{arith}
 use lib.ListN.{length}
 use Rattle.formula.specs.Held.{word_of}
 use Rattle.formula.specs.declared.Word.{Word}
-use Rattle.refusals.specs.Outcome.{Outcome, accepts, accepts_both, absent, refuses, outcome_of}
-use Rattle.refusals.proofs.Laws.{counted_once}
+use Rattle.refusals.specs.Outcome.{Outcome, accepts, accepts_both, absent, refuses, outcome_by}
+use Rattle.refusals.proofs.Laws.{number_place_injective}
 use Rattle.refusals.proofs.Determined.{Same}
-use Rattle.lines.specs.Line.{Decodes, LineRefused, too_long, faulty_three, LineAnswers, DecodeRight}
-use Rattle.lines.specs.declared.Decoded.{Decoded}
+use Rattle.lines.specs.Line.{Decodes, LineRefused, too_long, faulty_three, LineAnswers, word_told, word_in, DecodeRight}
+use Rattle.refusals.specs.declared.Refusal.{Refusal}
+use Rattle.std.specs.declared.result.Result.{Result}
+use Rattle.std.specs.declared.result.Result.TheVariants.{Ok, Err}
 
 module _ (line : List ℕ) where
   pub decodes_alike : (v w : List ℕ) → Decodes line v → Decodes line w → v ≡ w
@@ -44,9 +46,11 @@ module _ (line : List ℕ) where
       record { outcome = line_refused_alike n p m q a.0 b.0; output = a.1 ∙ sym b.1 }
 
   -- two answers that meet the promise of decoding are equal
-  pub decode_determined : (a b : Decoded) → DecodeRight line a → DecodeRight line b → a ≡ b
-  decode_determined a b r s =
-      let same = line_answers_alike (outcome_of a.answer) (outcome_of b.answer) a.word b.word r s in
-      let answer : a.answer ≡ b.answer = counted_once a.answer b.answer same.outcome in
-      let word : a.word ≡ b.word = same.output in
-      rw (answer, word)
+  pub decode_determined : (a b : Result Word Refusal) → DecodeRight line a → DecodeRight line b → a ≡ b
+  decode_determined a b r s = same a b (line_answers_alike (outcome_by word_told a) (outcome_by word_told b) (word_in a) (word_in b) r s)
+    where
+      same : (a b : Result Word Refusal) → Same (outcome_by word_told a) (outcome_by word_told b) (word_in a) (word_in b) → a ≡ b
+      same (Ok v) (Ok w) e = ap Ok e.output
+      same (Ok v) (Err q) e = let z = e.outcome in cc
+      same (Err p) (Ok w) e = let z = e.outcome in cc
+      same (Err p) (Err q) e = let z = e.outcome in ap Err (number_place_injective p q (cc) (cc))

@@ -2,27 +2,36 @@
 -- Assumes nothing.
 use mathlib.Core.Path.{◌≡◌, refl, sym, ap, ◌∙◌}
 use mathlib.Core.List.{List, [], ◌∷◌, ◌++◌, append_assoc, append-nil}
-use Prim.Native.Nat.{ℕ, suc, ◌+◌, ◌-◌, ◌*◌, ◌≤◌, ◌<◌}
+use Prim.Native.Nat.{ℕ, suc, ◌+◌, ◌-◌, ◌*◌, ◌/◌, ◌≤◌, ◌<◌, min}
 use native.Mathlib.Omega.{arith}
-use lib.ListN.{length, drop, set, replicate, length-append, drop_of_length-le}
+use lib.ListN.{length, set, replicate, length-append}
 use lib.Seq.{set_at, append_snoc}
 use borrow.Author.Tests.{le-leb}
 use Rattle.letters.specs.Choice.{pick}
 use Rattle.formula.specs.Limits.{limit, line_limit}
+use Rattle.formula.specs.declared.Word.{Word}
+use Rattle.refusals.specs.declared.Refusal.{Refusal}
 use Rattle.refusals.specs.declared.Refusal.TheVariants.{FaultyLine}
-use Rattle.std.specs.declared.result.Result.TheVariants.{Ok}
-use Rattle.lines.specs.Line.{Decoding, values, faulty, after, decode_from, refused_line}
-use Rattle.lines.specs.declared.Decoded.{Decoded}
+use Rattle.std.specs.declared.option.Option.TheVariants.{None, Some}
+use Rattle.std.specs.declared.result.Result.{Result}
+use Rattle.std.specs.declared.result.Result.TheVariants.{Ok, Err}
+use Rattle.lines.specs.Line.{Decoding, values, faulty, after, decode_from}
+use Rattle.lines.specs.Three.{value_in}
 use Rattle.lines.proofs.Decided.{answer_of, decoded_of}
+use Rattle.lines.proofs.Threes.{Cut, Turn, turn}
 
--- at a place of the line: the values so far, in the array and as a list, and that decoding goes on from here
-pub record Passed (line array : List ℕ) (count at : ℕ) : Type 0 where
+-- in a line: the values so far, in the array and as a list, and that decoding goes on with the rest
+pub record Passed (line array : List ℕ) (count : ℕ) (rest : List ℕ) : Type 0 where
   pub held : List ℕ
   pub counted : length held ≡ count
   pub shown : array ≡ held ++ replicate (limit - count) 0
-  pub place : at ≡ 3 * count
-  pub within : at ≤ length line
-  pub decoded : decode_from 0 line ≡ after held (decode_from at (drop at line))
+  pub left : length line ≡ 3 * count + length rest
+  pub decoded : decode_from 0 line ≡ after held (decode_from (3 * count) rest)
+
+-- a turn's bytes, at most three at a time, are cut from what is left
+pub cut : {left bytes rest : List ℕ} {size : ℕ} → (left ≡ bytes ++ rest) × (length bytes ≡ min size (length left)) × (0 < length left) → size ≡ 3
+    → Cut left bytes rest
+cut steps e = record { parts = steps.0; size = rw e at steps.1; more = steps.2 }
 
 -- no values before
 after_none : (d : Decoding) → after [] d ≡ d
@@ -37,15 +46,8 @@ after_after vs ws (values us) = ap values (sym (append_assoc vs ws us))
 after_after vs ws (faulty p) = refl
 
 -- at the line's start
-pub passed_none : (line : List ℕ) → Passed line (replicate limit 0) 0 0
-passed_none line = record {
-  held = [];
-  counted = refl;
-  shown = refl;
-  place = refl;
-  within = omega arith;
-  decoded = sym (after_none (decode_from 0 line));
-}
+pub passed_none : (line : List ℕ) → Passed line (replicate limit 0) 0 line
+passed_none line = record { held = []; counted = refl; shown = refl; left = omega arith; decoded = sym (after_none (decode_from 0 line)) }
 
 -- one more value, written behind those that the array shows
 shown_more : (held : List ℕ) (count v : ℕ) → length held ≡ count → count < limit
@@ -54,31 +56,45 @@ shown_more held count v counted room =
     let room_left : limit - count ≡ suc (limit - (count + 1)) = omega arith in
     rw room_left (set_at held 0 (replicate (limit - (count + 1)) 0) v count counted ∙ sym (append_snoc held v (replicate (limit - (count + 1)) 0)))
 
--- behind one more three
-pub passed_more : (line array : List ℕ) (count at v : ℕ) → Passed line array count at → at < length line → length line ≤ line_limit
-    → (at + 3 ≤ length line) × (decode_from at (drop at line) ≡ after (v ∷ []) (decode_from (at + 3) (drop (at + 3) line)))
-    → Passed line (set array count v) (count + 1) (at + 3)
-passed_more line array count at v p more small turned = record {
-  held = p.held ++ (v ∷ []);
-  counted = length-append p.held (v ∷ []) ∙ ap (λ (n : ℕ). n + 1) p.counted;
-  shown = rw p.shown (shown_more p.held count v p.counted (omega (arith, p.place)));
-  place = omega (arith, p.place);
-  within = turned.0;
-  decoded = p.decoded ∙ ap (after p.held) turned.1 ∙ after_after p.held (v ∷ []) (decode_from (at + 3) (drop (at + 3) line));
-}
+module _ {line array left : List ℕ} {count : ℕ} (p : Passed line array count left) (small : length line ≤ line_limit) where
+  module _ {bytes rest : List ℕ} (cut : Cut left bytes rest) where
+    turned : Turn (3 * count) left bytes rest (value_in bytes)
+    turned = turn (3 * count) cut
 
--- a faulty three at a place that was reached is the first
-pub passed_faulty : (line array : List ℕ) (count at : ℕ) → Passed line array count at → length line ≤ line_limit
-    → decode_from at (drop at line) ≡ faulty at → decoded_of line ≡ refused_line (FaultyLine at)
-unfolding decoded_of pick after
-passed_faulty line array count at p small here =
-    rw (le-leb (length line) line_limit small) (ap answer_of (p.decoded ∙ ap (after p.held) here))
+    -- there is room for one more value
+    pub passed_room : count < limit
+    passed_room = let more = cut.more in let l = p.left in omega arith
 
--- at the line's end the values so far are the word
-pub passed_all : (line array : List ℕ) (count at : ℕ) → Passed line array count at → length line ≤ line_limit → length line ≤ at
-    → ◌≡◌ {A = Decoded} (record { answer = Ok count; word = record { values = array; count = count } }) (decoded_of line)
-unfolding decoded_of pick after
-passed_all line array count at p small done =
-    let whole : decode_from 0 line ≡ values p.held =
-    p.decoded ∙ ap (λ (l : List ℕ). after p.held (decode_from at l)) (drop_of_length-le line done) ∙ ap values (append-nil p.held) in
-    rw (le-leb (length line) line_limit small, whole, p.shown, ← p.counted)
+    -- behind one more three
+    pub passed_more : (v : ℕ) → value_in bytes ≡ Some v → Passed line (set array count v) (count + 1) rest
+    passed_more v e =
+        let t = rw e at turned in
+        let next : 3 * count + 3 ≡ 3 * (count + 1) = omega arith in
+        record {
+          held = p.held ++ (v ∷ []);
+          counted = length-append p.held (v ∷ []) ∙ ap (λ (n : ℕ). n + 1) p.counted;
+          shown = rw p.shown (shown_more p.held count v p.counted passed_room);
+          left = let l = p.left in let k = t.0 in omega arith;
+          decoded = p.decoded ∙ ap (after p.held) t.1 ∙ after_after p.held (v ∷ []) (decode_from (3 * count + 3) rest)
+              ∙ ap (λ (n : ℕ). after (p.held ++ (v ∷ [])) (decode_from n rest)) next;
+        }
+
+    -- a faulty three at a place that was reached is the first
+    pub passed_faulty : value_in bytes ≡ None → decoded_of line ≡ Err (FaultyLine (3 * count))
+    unfolding decoded_of pick after
+    passed_faulty e =
+        let t = rw e at turned in
+        rw (le-leb (length line) line_limit small) (ap answer_of (p.decoded ∙ ap (after p.held) t))
+
+  -- at the line's end the values so far are the word
+  pub passed_all : length left ≡ 0 → ◌≡◌ {A = Result Word Refusal} (Ok (record { values = array; count = length line / 3 })) (decoded_of line)
+  unfolding decoded_of pick after
+  passed_all none = go left none p
+    where
+      go : (rest : List ℕ) → length rest ≡ 0 → Passed line array count rest
+          → ◌≡◌ {A = Result Word Refusal} (Ok (record { values = array; count = length line / 3 })) (decoded_of line)
+      go [] none q =
+          let whole : decode_from 0 line ≡ values q.held = q.decoded ∙ ap values (append-nil q.held) in
+          let counted : length line / 3 ≡ count = let l = q.left in omega arith in
+          rw (le-leb (length line) line_limit small, whole, q.shown, counted, ← q.counted)
+      go (byte ∷ rest) none q = absurd (omega arith)

@@ -1,18 +1,16 @@
 -- One three of a line: the test passes for exactly the bytes within its bounds, and the three at a place decides how the line decodes from there.
 -- Assumes nothing.
-use mathlib.Core.Path.{◌≡◌, refl, sym, ap, ◌∙◌}
+use mathlib.Core.Path.{◌≡◌, refl, sym, subst}
 use mathlib.Core.Bool.{Bool, true, false, ◌&&◌}
-use mathlib.Core.List.{List, [], ◌∷◌}
-use Prim.Native.Nat.{ℕ, ◌+◌, ◌≤◌, ◌<◌}
-use native.Mathlib.Nat.{add-zero}
+use mathlib.Core.List.{List, [], ◌∷◌, ◌++◌}
+use Prim.Native.Nat.{ℕ, ◌+◌, ◌≤◌, ◌<◌, min}
 use native.Mathlib.Omega.{arith}
-use lib.ListN.{length, get_or, drop, length-drop}
-use lib.Seq.{get_or-drop, drop-drop}
-use borrow.Author.Tests.{eq-eqb, eqb-true, leb-true, le-leb, lt-leb}
+use lib.ListN.{length, get_or}
+use borrow.Author.Tests.{eq-eqb, eqb-true, leb-true, le-leb}
 use Rattle.letters.specs.Choice.{pick}
 use Rattle.letters.proofs.Picks.{and_left, and_right}
-use Rattle.lines.specs.Line.{is_three, value_of, Decoding, faulty, after, decode_from}
-use Rattle.lines.specs.Three.{three_of, three_at}
+use Rattle.lines.specs.Line.{is_three, value_of, faulty, after, decode_from}
+use Rattle.lines.specs.Three.{three_of, value_in}
 use Rattle.std.specs.declared.option.Option.{Option}
 use Rattle.std.specs.declared.option.Option.TheVariants.{None, Some}
 
@@ -56,36 +54,45 @@ bounds_three a b c h =
       le-leb c 0xBF h.third_most,
     )
 
--- what the three at a place says of the line from there on
-abbrev pub Turn : List ℕ → ℕ → Option ℕ → Type 0
-Turn line at (Some v) = (at + 3 ≤ length line) × (decode_from at (drop at line) ≡ after (v ∷ []) (decode_from (at + 3) (drop (at + 3) line)))
-Turn line at None = decode_from at (drop at line) ≡ faulty at
+-- three bytes, read by their places
+pub value_read : (bytes : List ℕ) → length bytes ≡ 3 → value_in bytes ≡ three_of (get_or bytes 0 0) (get_or bytes 1 0) (get_or bytes 2 0)
+value_read [] e = absurd (omega arith)
+value_read (a ∷ []) e = absurd (omega arith)
+value_read (a ∷ b ∷ []) e = absurd (omega arith)
+value_read (a ∷ b ∷ c ∷ []) e = refl
+value_read (a ∷ b ∷ c ∷ d ∷ bytes) e = absurd (omega arith)
+
+-- what is cut from what is left of a line: three bytes, or all where fewer are left
+pub record Cut (left bytes rest : List ℕ) : Type 0 where
+  pub parts : left ≡ bytes ++ rest
+  pub size : length bytes ≡ min 3 (length left)
+  pub more : 0 < length left
+
+-- what the bytes that are cut at a place say of the line from there on
+abbrev pub Turn : ℕ → List ℕ → List ℕ → List ℕ → Option ℕ → Type 0
+Turn at left bytes rest (Some v) = (length left ≡ 3 + length rest) × (decode_from at left ≡ after (v ∷ []) (decode_from (at + 3) rest))
+Turn at left bytes rest None = decode_from at left ≡ faulty at
 
 -- a whole three, with the outcome of its test
-turn_whole : (line : List ℕ) (at v : ℕ) (test : Bool) (d : Decoding) → at + 3 ≤ length line
-    → d ≡ decode_from (at + 3) (drop (at + 3) line)
-    → decode_from at (drop at line) ≡ pick test (after (v ∷ []) d) (faulty at)
-    → Turn line at (pick test (Some v) None)
+turn_whole : (at a b c : ℕ) (rest : List ℕ) (test : Bool) → is_three a b c ≡ test
+    → Turn at (a ∷ b ∷ c ∷ rest) (a ∷ b ∷ c ∷ []) rest (pick test (Some (value_of b c)) None)
 unfolding pick
-turn_whole line at v true d more rest here = (more, cc)
-turn_whole line at v false d more rest here = here
+turn_whole at a b c rest true e = (omega arith, rw e)
+turn_whole at a b c rest false e = rw e
 
--- by what is left of the line: nothing, a short three, or three bytes and the rest
-turn_cut : (line rest : List ℕ) (at : ℕ) → drop at line ≡ rest → at < length line → Turn line at (three_at line at)
-unfolding three_at three_of pick
-turn_cut line [] at e more =
-    let z : ⊥ = omega (arith, ap length e, length-drop at line) in
-    absurd z
-turn_cut line (a ∷ []) at e more = rw (lt-leb (at + 3) (length line) (omega (arith, ap length e, length-drop at line))) (ap (decode_from at) e)
-turn_cut line (a ∷ b ∷ []) at e more = rw (lt-leb (at + 3) (length line) (omega (arith, ap length e, length-drop at line))) (ap (decode_from at) e)
-turn_cut line (a ∷ b ∷ c ∷ rest) at e more =
-    let shown : (k : ℕ) → get_or line (at + k) 0 ≡ get_or (a ∷ b ∷ c ∷ rest) k 0 = λ k. sym (get_or-drop at line k 0) ∙ ap (λ (l : List ℕ). get_or l k 0) e in
-    let first : get_or line at 0 ≡ a = rw add-zero at (shown 0) in
-    let left : drop (at + 3) line ≡ rest = sym (drop-drop 3 at line) ∙ ap (drop 3) e in
-    let whole : at + 3 ≤ length line = omega (arith, ap length e, length-drop at line) in
-    rw (le-leb (at + 3) (length line) whole, first, shown 1, shown 2)
-    (turn_whole line at (value_of b c) (is_three a b c) (decode_from (at + 3) rest) whole (ap (decode_from (at + 3)) (sym left)) (ap (decode_from at) e))
+turn_cut : (at : ℕ) (bytes rest : List ℕ) → length bytes ≡ min 3 (length (bytes ++ rest)) → 0 < length (bytes ++ rest)
+    → Turn at (bytes ++ rest) bytes rest (value_in bytes)
+unfolding three_of pick
+turn_cut at [] rest size more = absurd (omega arith)
+turn_cut at (a ∷ []) [] size more = refl
+turn_cut at (a ∷ []) (d ∷ rest) size more = absurd (omega arith)
+turn_cut at (a ∷ b ∷ []) [] size more = refl
+turn_cut at (a ∷ b ∷ []) (d ∷ rest) size more = absurd (omega arith)
+turn_cut at (a ∷ b ∷ c ∷ []) rest size more = turn_whole at a b c rest (is_three a b c) refl
+turn_cut at (a ∷ b ∷ c ∷ d ∷ bytes) rest size more = absurd (omega arith)
 
--- a place before the line's end: its three decides how the line goes on
-pub turn : (line : List ℕ) (at : ℕ) → at < length line → Turn line at (three_at line at)
-turn line at more = turn_cut line (drop at line) at refl more
+-- what is cut decides how the line goes on
+pub turn : (at : ℕ) {left bytes rest : List ℕ} → Cut left bytes rest → Turn at left bytes rest (value_in bytes)
+turn at {left} {bytes} {rest} cut =
+    subst (λ (l : List ℕ). Turn at l bytes rest (value_in bytes)) (sym cut.parts)
+    (turn_cut at bytes rest (rw cut.parts at cut.size) (rw cut.parts at cut.more))

@@ -6,16 +6,19 @@ use Prim.Native.Nat.{ℕ}
 use lib.ListN.{replicate}
 use Rattle.letters.specs.Choice.{pick}
 use Rattle.refusals.specs.declared.Refusal.TheVariants.{TooLong, FaultyLine}
-use Rattle.lines.specs.Line.{is_three, values, after, encode, refused_line}
-use Rattle.lines.specs.declared.Decoded.{Decoded}
+use Rattle.lines.specs.Line.{is_three, values, after, encode}
+use Rattle.formula.specs.declared.Word.{Word}
+use Rattle.refusals.specs.declared.Refusal.{Refusal}
+use Rattle.std.specs.declared.result.Result.{Result}
+use Rattle.std.specs.declared.result.Result.TheVariants.{Err}
 use Rattle.lines.proofs.Decided.{answer_of, decoded_of}
 
 -- the answer to a line of these values
-abbrev word : List ℕ → Decoded
+abbrev word : List ℕ → Result Word Refusal
 word vs = answer_of (values vs)
 
 -- a line and its answer
-unfoldable pub words : List (List ℕ × Decoded)
+unfoldable pub words : List (List ℕ × Result Word Refusal)
 words =
     -- the three lines of the program's example
     (
@@ -26,26 +29,26 @@ words =
     ∷ ([], word [])
     -- the last value of a three, and the first that is beyond it
     ∷ (0xE1 ∷ 0x81 ∷ 0xBF ∷ [], word (0x107F ∷ []))
-    ∷ (0xE1 ∷ 0x82 ∷ 0x80 ∷ [], refused_line (FaultyLine 0))
+    ∷ (0xE1 ∷ 0x82 ∷ 0x80 ∷ [], Err (FaultyLine 0))
     -- a short three, of two bytes and of one
-    ∷ (0xE1 ∷ 0x80 ∷ [], refused_line (FaultyLine 0))
-    ∷ (0xE1 ∷ 0x80 ∷ 0x80 ∷ 0xE1 ∷ [], refused_line (FaultyLine 3))
+    ∷ (0xE1 ∷ 0x80 ∷ [], Err (FaultyLine 0))
+    ∷ (0xE1 ∷ 0x80 ∷ 0x80 ∷ 0xE1 ∷ [], Err (FaultyLine 3))
     -- ASCII, "abc", and a 0D behind a value
-    ∷ (0x61 ∷ 0x62 ∷ 0x63 ∷ [], refused_line (FaultyLine 0))
-    ∷ (0xE1 ∷ 0x80 ∷ 0x80 ∷ 0x0D ∷ [], refused_line (FaultyLine 3))
+    ∷ (0x61 ∷ 0x62 ∷ 0x63 ∷ [], Err (FaultyLine 0))
+    ∷ (0xE1 ∷ 0x80 ∷ 0x80 ∷ 0x0D ∷ [], Err (FaultyLine 3))
     -- two faulty threes: the first counts
-    ∷ (0xE1 ∷ 0x80 ∷ 0x80 ∷ 0xE1 ∷ 0x80 ∷ 0xC0 ∷ 0xE1 ∷ 0x82 ∷ 0x80 ∷ [], refused_line (FaultyLine 3))
+    ∷ (0xE1 ∷ 0x80 ∷ 0x80 ∷ 0xE1 ∷ 0x80 ∷ 0xC0 ∷ 0xE1 ∷ 0x82 ∷ 0x80 ∷ [], Err (FaultyLine 3))
     -- a second byte below 80, and a third
-    ∷ (0xE1 ∷ 0x7F ∷ 0x80 ∷ [], refused_line (FaultyLine 0))
-    ∷ (0xE1 ∷ 0x80 ∷ 0x7F ∷ [], refused_line (FaultyLine 0))
+    ∷ (0xE1 ∷ 0x7F ∷ 0x80 ∷ [], Err (FaultyLine 0))
+    ∷ (0xE1 ∷ 0x80 ∷ 0x7F ∷ [], Err (FaultyLine 0))
     -- 64 values are a word, and one more is refusal 1; 192 bytes that are no UTF-8 are refusal 7, and one more is 1
     ∷ (encode (replicate 64 0x1000), word (replicate 64 0x1000))
-    ∷ (encode (replicate 65 0x1000), refused_line TooLong)
-    ∷ (replicate 192 0x61, refused_line (FaultyLine 0))
-    ∷ (replicate 193 0x61, refused_line TooLong)
+    ∷ (encode (replicate 65 0x1000), Err TooLong)
+    ∷ (replicate 192 0x61, Err (FaultyLine 0))
+    ∷ (replicate 193 0x61, Err TooLong)
     ∷ []
 
 -- each line of the table has its answer
-pub words_decoded : map (λ (w : List ℕ × Decoded). decoded_of w.0) words ≡ map (λ (w : List ℕ × Decoded). w.1) words
+pub words_decoded : map (λ (w : List ℕ × Result Word Refusal). decoded_of w.0) words ≡ map (λ (w : List ℕ × Result Word Refusal). w.1) words
 unfolding words decoded_of is_three pick after
 words_decoded = refl

@@ -5,10 +5,10 @@ use Rattle.letters.specs.Choice.{pick}
 use Rattle.formula.specs.Limits.{limit, line_limit}
 use Rattle.formula.specs.Held.{word_of}
 use Rattle.formula.specs.declared.Word.{Word}
-use Rattle.refusals.specs.Outcome.{Outcome, accepts, accepts_both, absent, refuses, outcome_of}
+use Rattle.refusals.specs.Outcome.{Outcome, accepts, accepts_both, absent, refuses, outcome_by}
 use Rattle.refusals.specs.declared.Refusal.{Refusal}
-use Rattle.std.specs.declared.result.Result.TheVariants.{Err}
-use Rattle.lines.specs.declared.Decoded.{Decoded}
+use Rattle.std.specs.declared.result.Result.{Result}
+use Rattle.std.specs.declared.result.Result.TheVariants.{Ok, Err}
 
 -- "E1, then 80 or 81, then 80 to BF"
 unfoldable pub is_three : ℕ → ℕ → ℕ → Bool
@@ -67,10 +67,15 @@ LineAnswers line (accepts_both n m) held = ⊥
 LineAnswers line absent held = ⊥
 LineAnswers line (refuses number place) held = LineRefused line number place × (held ≡ word_of [])
 
--- the promise of decoding
-abbrev pub DecodeRight : List ℕ → Decoded → Type 0
-DecodeRight line r = LineAnswers line (outcome_of r.answer) r.word
+-- what a line that is decoded tells: how many values its word has
+abbrev pub word_told : Word → Outcome
+word_told held = accepts held.count
 
--- a refused line; an inner contract cites it
-abbrev pub refused_line : Refusal → Decoded
-refused_line refusal = record { answer = Err refusal; word = word_of [] }
+-- the word of an answer; with a refusal, a word of no values
+abbrev pub word_in : Result Word Refusal → Word
+word_in (Ok held) = held
+word_in (Err refusal) = word_of []
+
+-- the promise of decoding
+abbrev pub DecodeRight : List ℕ → Result Word Refusal → Type 0
+DecodeRight line r = LineAnswers line (outcome_by word_told r) (word_in r)

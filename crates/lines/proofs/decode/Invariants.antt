@@ -1,10 +1,10 @@
-use Prim.Native.Nat.{◌-◌}
-use lib.ListN.{length}
+use mathlib.Core.Path.{◌≡◌}
+use Rattle.std.specs.Iterator.Adapters.{enumerate_source, enumerate_count}
+use Rattle.std.specs.Slice.Iter.{chunks_rest, chunks_size}
 use Rattle.lines.proofs.Passing.{Passed}
 use Rattle.lines.proofs.decode.Given as goal
 
-abbrev pub invariant-loop-at : goal.invariant-loop-at
-invariant-loop-at l = Passed l.line l.values l.count l.at
-
-abbrev pub decreases-loop-at : goal.decreases-loop-at
-decreases-loop-at l = length l.line - l.at
+abbrev pub invariant-loop-number : goal.invariant-loop-number
+invariant-loop-number l =
+    Passed l.line l.values (enumerate_count l.number-iterator) (chunks_rest (enumerate_source l.number-iterator))
+    × (chunks_size (enumerate_source l.number-iterator) ≡ 3)
