@@ -18,7 +18,13 @@ use Rattle.rows.specs.Machine.{end_of, run}
 use Rattle.rows.proofs.Sound.{sound}
 use Rattle.rows.proofs.Admitted.{run_admitted}
 use Rattle.rows.proofs.Viable.{read_back, only_row, unfinished, alive, stops, longest}
-use Rattle.recogniser.specs.Answer.{AdmissibleWithin, Admissible, RefusedWithin, RefusedWith, too_long, foreign, no_continuation, unfinished as open_end, ReadsWithin, Reads, ReadableWithin, Readable}
+use Rattle.std.specs.Result.{is_ok}
+use Rattle.std.specs.declared.result.Result.{Result}
+use Rattle.std.specs.declared.result.Result.TheVariants.{Ok, Err}
+use Rattle.refusals.specs.declared.Refusal.{Refusal}
+use Rattle.refusals.specs.Refusal.{number_of, place_of}
+use Rattle.refusals.specs.Outcome.{outcome_of}
+use Rattle.recogniser.specs.Answer.{Answers, RowTest, AdmissibleWithin, Admissible, RefusedWithin, RefusedWith, too_long, foreign, no_continuation, unfinished as open_end, ReadsWithin, Reads, ReadableWithin, Readable}
 use Rattle.recogniser.specs.Concluded.{AdmittedTo, Halted}
 
 -- whether a test of the row's last final passes
@@ -116,3 +122,8 @@ refused_no_row word number place (open_end b n v) a row g = n row g
 
 pub refused_unreadable : (word : List ℕ) (number place : ℕ) → RefusedWith word number place → Readable word → ⊥
 refused_unreadable word number place w r = refused_no_row word number place w r.admissible r.row r.gives
+
+-- so the test for rows is whether the answer is no refusal
+pub test_right : (word : List ℕ) (answer : Result ℕ Refusal) → Answers word (outcome_of answer) → RowTest word (is_ok answer)
+test_right word (Ok n) r = reads_readable word n r
+test_right word (Err refusal) w = refused_unreadable word (number_of refusal) (place_of refusal) w

@@ -60,12 +60,9 @@ pub fn answer_of(word: &[u16]) -> Result<usize, Refusal>
 }
 
 // Whether a word is a row of syllables of admitted values within the limit.
+#[tactic(auto, using(crate::proofs::Answered::test_right))]
 pub fn is_row(word: &[u16]) -> bool
     ensures { RowTest word.now result }
 {
-    let answer = answer_of(word);
-    let Ok(_) = answer else {
-        return false;
-    };
-    true
+    answer_of(word).is_ok()
 }
