@@ -1,4 +1,4 @@
--- A first foreign value that stands within the word refuses it.
+-- A word that is too long is refused, and so is one in which a first foreign value stands.
 -- Assumes nothing.
 use mathlib.Core.List.{List}
 use Prim.Native.Nat.{ℕ, ◌≤◌, ◌<◌}
@@ -7,7 +7,10 @@ use lib.ListN.{length}
 use Rattle.formula.specs.Limits.{limit}
 use Rattle.refusals.specs.Outcome.{refuses}
 use Rattle.recogniser.specs.Concluded.{AdmittedTo}
-use Rattle.normaliser.specs.Admission.{AdmitAnswers, foreign}
+use Rattle.normaliser.specs.Admission.{Unadmitted, AdmitAnswers, too_long, foreign}
+
+pub refuses_long : (word : List ℕ) → limit < length word → Unadmitted word 1 limit
+refuses_long word h = too_long h
 
 pub refuses_foreign : (word : List ℕ) (at : ℕ) → AdmittedTo word 0 at → length word ≤ limit → at < length word → AdmitAnswers word (refuses 2 at)
 refuses_foreign word at f short inside =

@@ -1,7 +1,7 @@
 -- A word and its stored form have foreign values together, so a refusal of the stored form is one of the word.
 -- Assumes nothing.
 use mathlib.Core.Path.{◌≡◌, refl, sym, subst}
-use mathlib.Core.Bool.{Bool, true, false, ◌&&◌}
+use mathlib.Core.Bool.{false≢true, Bool, true, false, ◌&&◌}
 use mathlib.Core.List.{List, [], ◌∷◌}
 use Prim.Native.Nat.{ℕ, ◌≤◌, ◌<◌}
 use native.Mathlib.Decide.{dec_lt, ℕ_discrete}
@@ -12,23 +12,24 @@ use Rattle.letters.specs.Choice.{pick}
 use Rattle.letters.specs.Letters.{is_admitted}
 use Rattle.formula.specs.Limits.{limit}
 use Rattle.formula.specs.Held.{word_of}
+use Rattle.formula.specs.declared.Word.{Word}
 use Rattle.formula.proofs.Held.{held_front, held_fits}
 use Rattle.formula.proofs.Lists.{both, both_left, both_right, every, every_at, at_every}
 use Rattle.refusals.specs.Refusal.{number_of, place_of}
 use Rattle.refusals.specs.Outcome.{outcome_of}
 use Rattle.refusals.specs.declared.Refusal.{Refusal}
+use Rattle.std.specs.Result.{is_ok}
 use Rattle.std.specs.declared.result.Result.{Result}
-use Rattle.std.specs.declared.result.Result.TheVariants.{Ok}
-use Rattle.recogniser.specs.Answer.{Admissible, Reads, Readable, FirstForeign, RefusedWith, too_long, foreign, no_continuation, unfinished}
+use Rattle.std.specs.declared.result.Result.TheVariants.{Ok, Err}
+use Rattle.recogniser.specs.Answer.{Admissible, Answers, Reads, Readable, FirstForeign, RefusedWith, too_long, foreign, no_continuation, unfinished}
 use Rattle.recogniser.specs.Concluded.{AdmittedTo}
 use Rattle.storage.specs.Stored.{is_run_mark, goes_behind, insert, makes_long_vowel, makes_letter, stored_form}
 use Rattle.storage.specs.Putting.{join_front, put_front}
 use Rattle.storage.proofs.Composing.{stored_front}
 use Rattle.storage.proofs.Outcome.{stored_shorter, stored_admitted}
 use Rattle.storage.proofs.Rows.{gives_stored}
-use Rattle.normaliser.specs.Admission.{foreign as strange}
-use Rattle.normaliser.specs.Normal.{StoreRefusedWith, unadmitted, outcome, Stores, StoreAnswers, WordFor, NormalRight, HandedIn}
-use Rattle.normaliser.specs.declared.Normalised.{Normalised}
+use Rattle.normaliser.specs.Admission.{too_long as word_too_long, foreign as strange}
+use Rattle.normaliser.specs.Normal.{StoreRefusedWith, unadmitted, outcome, Stores, HoldsForm, NormalRight, HandedIn}
 
 -- what is admitted with x put in front was admitted, and so is x
 insert_front : (x : ℕ) (values : List ℕ) → T (every is_admitted (insert x values)) → T (is_admitted x) × T (every is_admitted values)
@@ -74,6 +75,9 @@ unstored_admitted (x ∷ word) t =
     let r = put_front_lem x (stored_form word) (subst (λ (l : List ℕ). T (every is_admitted l)) (stored_front x word) t) in
     both (is_admitted x) (every is_admitted word) r.0 (unstored_admitted word r.1)
 
+pub normal_too_long : (word : List ℕ) → limit < length word → StoreRefusedWith word 1 limit
+normal_too_long word h = unadmitted (word_too_long h)
+
 module _ (word : List ℕ) (short : length word ≤ limit) where
   stored_short : length (stored_form word) ≤ limit
   stored_short = let s = stored_shorter word in omega arith
@@ -116,20 +120,31 @@ module _ (word : List ℕ) (short : length word ≤ limit) where
           subst (λ (a : Refusal). StoreRefusedWith word (number_of a) (place_of a)) (sym (h.same n))
           (store_refused (number_of refusal) (place_of refusal) r n)
 
--- what is known of a word whose stored form is read
-module _ (word : List ℕ) (r : Normalised) (right : NormalRight word r) (n : ℕ) (e : r.answer ≡ Ok n) where
-  pub stores : Stores word n
-  stores = subst (λ (a : Result ℕ Refusal). StoreAnswers word (outcome_of a)) e right.answers
+  -- the stored form by value, where it is read, and the refusal of the word, where it is refused
+  module _ (held : Word) (e : held ≡ word_of (stored_form word)) (answer : Result ℕ Refusal)
+      (right : Answers (take held.count held.values) (outcome_of answer)) where
+    read : (given : Result ℕ Refusal) → answer ≡ given → Answers (stored_form word) (outcome_of given)
+    read given q = subst (λ (a : Result ℕ Refusal). Answers (stored_form word) (outcome_of a)) q (rw (held_front held (stored_form word) e) at right)
 
-  pub held_form : r.word ≡ word_of (stored_form word)
-  held_form = subst (λ (a : Result ℕ Refusal). WordFor word (outcome_of a) r.word) e right.held
+    pub normal_right : is_ok answer ≡ true → HoldsForm word held
+    normal_right = go answer refl
+      where
+        go : (given : Result ℕ Refusal) → answer ≡ given → is_ok given ≡ true → HoldsForm word held
+        go (Ok n) q t =
+            let r = read (Ok n) q in
+            record { count = n; stores = record { admissible = word_admissible r.admissible; reads = r }; is_form = e }
+        go (Err refusal) q t = absurd (false≢true t)
 
-  pub held_room : r.word.count ≤ length r.word.values
-  held_room = held_fits r.word (stored_form word) held_form
+    pub normal_refused : (refusal of_word : Refusal) → answer ≡ Err refusal → HandedIn word refusal of_word → NormalRight word (Err of_word)
+    normal_refused refusal of_word q h = refused_right refusal of_word (read (Err refusal) q) h
 
-  -- the values at the front of the held word's array are the stored form
-  pub held_values : take r.word.count r.word.values ≡ stored_form word
-  held_values = held_front r.word (stored_form word) held_form
+-- the values at the front of the held form's array are the stored form
+module _ (word : List ℕ) (held : Word) (right : HoldsForm word held) where
+  pub form_fits : held.count ≤ length held.values
+  form_fits = held_fits held (stored_form word) right.is_form
+
+  pub form_front : take held.count held.values ≡ stored_form word
+  form_front = held_front held (stored_form word) right.is_form
 
 -- a row of syllables is its own stored form
 pub reads_stores : (word : List ℕ) (n : ℕ) → Reads word n → Stores word n

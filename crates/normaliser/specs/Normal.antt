@@ -1,19 +1,19 @@
 -- Document 01, "Storage order": the stored form of a word, which "must be a row of syllables, else the word is refused, with a place in
 -- that outcome". Assumes nothing.
-use Rattle.std.specs.Prelude.{◌≡◌, List, [], ℕ, length}
+use Rattle.std.specs.Prelude.{◌≡◌, List, ℕ, length}
 use Rattle.formula.specs.Limits.{limit}
 use Rattle.formula.specs.Held.{word_of}
 use Rattle.formula.specs.declared.Word.{Word}
 use Rattle.refusals.specs.Refusal.{number_of, place_of}
-use Rattle.refusals.specs.Outcome.{Outcome, accepts, accepts_both, absent, refuses, outcome_of}
+use Rattle.refusals.specs.Outcome.{Outcome, accepts, accepts_both, absent, refuses}
 use Rattle.refusals.specs.Output.{Writes}
 use Rattle.refusals.specs.declared.Refusal.{Refusal}
-use Rattle.std.specs.declared.result.Result.TheVariants.{Err}
+use Rattle.std.specs.declared.result.Result.{Result}
+use Rattle.std.specs.declared.result.Result.TheVariants.{Ok, Err}
 use Rattle.recogniser.specs.Answer.{AdmissibleWithin, RefusedWithin, ReadsWithin}
 use Rattle.recogniser.specs.Concluded.{AdmittedTo}
 use Rattle.storage.specs.Stored.{stored_form}
 use Rattle.normaliser.specs.Admission.{UnadmittedWithin}
-use Rattle.normaliser.specs.declared.Normalised.{Normalised}
 
 -- the refusals of a word that is normalised first: 1 and 2 speak of the word as handed in, 3 and 4 of its stored form
 pub data StoreRefusedWithin (most : ℕ) (word : List ℕ) : ℕ → ℕ → Type 0 where
@@ -37,25 +37,22 @@ StoreAnswers word (accepts_both n m) = ⊥
 StoreAnswers word absent = ⊥
 StoreAnswers word (refuses number place) = StoreRefusedWith word number place
 
--- the word that goes with an answer: the stored form, and none with a refusal
-abbrev pub WordFor : List ℕ → Outcome → Word → Type 0
-WordFor word (accepts n) held = held ≡ word_of (stored_form word)
-WordFor word (accepts_both n m) held = ⊥
-WordFor word absent held = ⊥
-WordFor word (refuses number place) held = held ≡ word_of []
-
--- the promise of a stored word by value
-pub record NormalRight (word : List ℕ) (r : Normalised) : Type 0 where
-  pub answers : StoreAnswers word (outcome_of r.answer)
-  pub held : WordFor word (outcome_of r.answer) r.word
-
 -- the promise of the normaliser, with the output as it was and as it is: the stored form, and how many values it has
 abbrev pub NormaliseRight : List ℕ → List ℕ → List ℕ → Outcome → Type 0
 NormaliseRight word = Writes (StoreRefusedWith word) (Stores word) (λ n. stored_form word) (λ n. length (stored_form word))
 
 -- inner contracts cite what follows
-abbrev pub refused_word : Refusal → Normalised
-refused_word refusal = record { answer = Err refusal; word = word_of [] }
+
+-- the word's stored form by value, which is a row of n syllables
+pub record HoldsForm (word : List ℕ) (held : Word) : Type 0 where
+  pub count : ℕ
+  pub stores : Stores word count
+  pub is_form : held ≡ word_of (stored_form word)
+
+-- the promise of a stored word by value
+abbrev pub NormalRight : List ℕ → Result Word Refusal → Type 0
+NormalRight word (Ok held) = HoldsForm word held
+NormalRight word (Err refusal) = StoreRefusedWith word (number_of refusal) (place_of refusal)
 
 -- the refusal is the same, but for a foreign value: that is the first of the word
 pub record HandedIn (word : List ℕ) (refusal answer : Refusal) : Type 0 where

@@ -7,15 +7,11 @@ use crate::put_out;
 use refusals::Refusal;
 
 // Writes the stored form of a word to the front of `output`, whether or not it is a row of syllables.
+#[tactic(auto, using(crate::proofs::Writing::form_stays, crate::proofs::Writing::form_put))]
 pub fn stored_form(word: &[u16], output: &mut [u16]) -> Result<usize, Refusal>
     ensures { FormRight word.now output.old output.new (outcome_of result) }
 {
-    let answer = admit(word);
-    if let Err(refusal) = answer {
-        return Err(refusal);
-    }
+    admit(word)?;
     let form = storage::stored(word);
-    let count = form.count;
-    let values = form.values;
-    put_out(&values[..count], output)
+    put_out(&form.values[..form.count], output)
 }

@@ -1,22 +1,20 @@
 // Where a value of the stored form was typed.
-ghost use Rattle.refusals.specs.Outcome.{reply_outcome};
+ghost use Rattle.refusals.specs.Outcome.{accepts, outcome_by, tells_if_there};
 ghost use Rattle.normaliser.specs.Typed.{TypedAnswers};
 
 use crate::admission::admit;
-use refusals::{Refusal, Reply};
+use refusals::Refusal;
 
 // Which value of a word stands at `place` of its stored form: its place in the word; nothing where the stored form ends before that. A 1026 made of
 // 1025 102E stands for the 1025.
-pub fn typed_place(word: &[u16], place: usize) -> Result<Reply, Refusal>
-    ensures { TypedAnswers word.now place (reply_outcome result) }
+#[tactic(auto, using(crate::proofs::Writing::found_placed, crate::proofs::Writing::none_placed))]
+pub fn typed_place(word: &[u16], place: usize) -> Result<Option<usize>, Refusal>
+    ensures { TypedAnswers word.now place (outcome_by (tells_if_there accepts) result) }
 {
-    let answer = admit(word);
-    if let Err(refusal) = answer {
-        return Err(refusal);
-    }
+    admit(word)?;
     let typed = typed_places::place_in_word(word, place);
     if typed < word.len() {
-        return Ok(Reply::One(typed));
+        return Ok(Some(typed));
     }
-    Ok(Reply::Nothing)
+    Ok(None)
 }
