@@ -9,16 +9,17 @@ use native.Mathlib.Nat.{le_trans}
 use native.Mathlib.Omega.{arith}
 use borrow.Author.Tests.{eqb-true, eqb-false}
 use lib.Dec.{T, eqb}
-use lib.ListN.{length, get_or, take, drop, set, get_or-replicate}
+use lib.Pointwise.{pointwise}
+use lib.ListN.{length, get_or, set, get_or-replicate}
 use lib.Seq.{get_or-set_same, get_or-set_other}
 use Rattle.letters.proofs.Tests.{is_true, is_false, of_true, or_left, or_right, or_cases}
 use Rattle.formula.proofs.Lists.{both, both_left, both_right, same_list, same_list_equal, same_list_refl}
-use Rattle.entries.specs.Limits.{book_limit, head_size}
+use Rattle.entries.specs.Limits.{book_limit}
 use Rattle.entries.specs.Entries.{Entry, value_of, word_at, entry_at, is_framed, holds}
 use Rattle.entries.specs.Book.{byte_of, zeros}
 use Rattle.entries.proofs.Bytes.{byte_value}
-use Rattle.entries.proofs.Records.{Framed, framed_true, length_word}
-use Rattle.book_check.specs.Chain.{buckets, word_bytes, hash_of, bucket_at, LiveAt, Drawn, Link, Chained}
+use Rattle.entries.proofs.Records.{Framed, framed_true}
+use Rattle.book_check.specs.Chain.{buckets, word_bytes, hash_of, bucket_at, LiveAt, Drawn, Link, Chained, Ready}
 
 -- a walk along the chain of h, at p: what is passed is not the word at `at`
 pub record Walked (b : List ℕ) (at : ℕ) (es : List Entry) (h p : ℕ) : Type 0 where
@@ -36,6 +37,11 @@ standing b at [] s d l = absurd l
 standing b at (e ∷ es) s d (inl q) =
     subst (λ (x : ℕ). Standing b at x) q.0 (record { frame = framed_true b e.start d.1; before = d.2 })
 standing b at (e ∷ es) s d (inr l) = standing b at es s d.3 l
+
+-- the record at which the walk is
+pub stand_at : {b heads links : List ℕ} {at bucket p : ℕ} → Ready b at bucket heads links → ((es : List Entry) → Chained b at es heads links → Walked b at es bucket p) → 0 < p
+    → Standing b at (p - 1)
+stand_at r w h = standing _ _ r.list _ r.chained.drawn ((w r.list r.chained).live h)
 
 pub walk_start : (b : List ℕ) (at : ℕ) (es : List Entry) (heads links : List ℕ) (h p : ℕ) → Chained b at es heads links → h < buckets → p ≡ get_or heads h 0 → Walked b at es h p
 walk_start b at es heads links h p c small e =
@@ -129,16 +135,17 @@ same_up l m = go (same_list l m) refl
         (λ t. let q : l ≡ m = sym (byte_value l) ∙ ap (map byte_of) (same_list_equal (map value_of l) (map value_of m) t) ∙ byte_value m in
         subst T e (subst (λ (n : List ℕ). T (same_list l n)) q (same_list_refl l)))
 
--- the code's comparison of two words: first the counts, then the bytes
-pub compared : (b : List ℕ) (s at n : ℕ) (r : Bool) → get_or b (s + 2) 0 ≡ n → get_or b (at + 2) 0 ≡ n → r ≡ same_list (take n (drop (s + head_size) b)) (take n (drop (at + head_size) b))
-    → same_list (word_at b s) (word_at b at) ≡ r
-compared b s at n r e f q =
-    (λ i. same_list (map value_of (take (e i) (drop (s + head_size) b))) (map value_of (take (f i) (drop (at + head_size) b)))) ∙ same_up (take n (drop (s + head_size) b)) (take n (drop (at + head_size) b)) ∙ sym q
+-- a comparison of two lists of bytes
+pointwise_same : (xs ys : List ℕ) → pointwise eqb xs ys ≡ same_list xs ys
+pointwise_same [] [] = refl
+pointwise_same [] (y ∷ ys) = refl
+pointwise_same (x ∷ xs) [] = refl
+pointwise_same (x ∷ xs) (y ∷ ys) = ap (λ (t : Bool). eqb x y && t) (pointwise_same xs ys)
 
-pub unequal : (b : List ℕ) (s at : ℕ) → Framed b s → Framed b at → (get_or b (s + 2) 0 ≡ get_or b (at + 2) 0 → ⊥) → same_list (word_at b s) (word_at b at) ≡ false
-unequal b s at f g n =
-    is_false (same_list (word_at b s) (word_at b at))
-    (λ t. n (sym (length_word b s f.room) ∙ ap length (same_list_equal (word_at b s) (word_at b at) t) ∙ length_word b at g.room))
+-- the code's comparison of two words, by their bytes
+pub compared : {first second : List ℕ} {r : Bool} (b : List ℕ) (s at : ℕ) → first ≡ word_bytes b s → second ≡ word_bytes b at → r ≡ pointwise eqb first second
+    → same_list (word_at b s) (word_at b at) ≡ r
+compared b s at e f q = same_up (word_bytes b s) (word_bytes b at) ∙ sym (pointwise_same (word_bytes b s) (word_bytes b at)) ∙ sym (q ∙ (λ i. pointwise eqb (e i) (f i)))
 
 -- with one entry more those that were live still are, and the last is where it is live
 live_left : (es : List Entry) (e : Entry) (s : ℕ) → LiveAt es s → LiveAt (es ++ (e ∷ [])) s

@@ -1,66 +1,57 @@
--- Parts of the buffer as the loops see them: two parts compared, a hash, the zeros at the end.
+-- Parts of the buffer as the loops see them: a hash, the zeros at the end.
 -- Assumes nothing.
-use mathlib.Core.Path.{◌≡◌, sym, ap, subst, ◌∙◌}
-use mathlib.Core.Bool.{Bool, true, false}
-use mathlib.Core.List.{List}
-use Prim.Native.Nat.{ℕ, suc, ◌+◌, ◌*◌, ◌%◌, ◌≤◌, ◌<◌}
-use native.Mathlib.Omega.{arith}
-use native.Mathlib.Numerals.{add-one}
-use borrow.Author.Tests.{eq-eqb, ne_eqb}
-use lib.Dec.{T, eqb}
-use lib.ListN.{length, get_or, drop, drop_of_length-le}
-use lib.Seq.{drop-cons, ext_get_or}
+use Rattle.std.proofs.Common.{◌≡◌, ap, sym, ◌∙◌, refl, Bool, true, false, not, List, [], ◌∷◌, ℕ, suc, ◌+◌, ◌-◌, ◌*◌, ◌%◌, ◌≤◌, ◌<◌, cond, eqb, length, get_or, take, drop, position, ltb, ltb-true, ltb-false, Some, None, arith, add-one, drop-cons}
+use Rattle.std.specs.List.{position_or_len}
+use lib.Seq.{take_all}
+use lib.ListN.{length-drop, drop_of_length-le}
 use Rattle.letters.specs.Choice.{pick}
-use Rattle.letters.proofs.Tests.{is_true, is_false}
-use Rattle.formula.proofs.Lists.{same_list, same_list_equal, same_list_refl}
 use Rattle.entries.specs.Entries.{Entries, wrong, zero_tail}
-use Rattle.book_frame.proofs.Parts.{part, part_length, part_at}
 use Rattle.book_check.specs.Chain.{buckets, hash_of}
-
--- parts are the same where each byte is
-pub parts_same : (b : List ℕ) (p q n : ℕ) → p + n ≤ length b → q + n ≤ length b → ((k : ℕ) → k < n → get_or b (p + k) 0 ≡ get_or b (q + k) 0)
-    → same_list (part b p n) (part b q n) ≡ true
-parts_same b p q n hp hq f =
-    let e : part b p n ≡ part b q n =
-    ext_get_or 0 (part b p n) (part b q n) (part_length b p n hp ∙ sym (part_length b q n hq))
-    (λ i h. let g : i < n = omega (arith, part_length b p n hp) in part_at b p n i g ∙ f i g ∙ sym (part_at b q n i g)) in
-    is_true (same_list (part b p n) (part b q n)) (subst (λ (l : List ℕ). T (same_list (part b p n) l)) e (same_list_refl (part b p n)))
-
-pub parts_differ : (b : List ℕ) (p q n k : ℕ) → k < n → (get_or b (p + k) 0 ≡ get_or b (q + k) 0 → ⊥) → same_list (part b p n) (part b q n) ≡ false
-parts_differ b p q n k h f =
-    is_false (same_list (part b p n) (part b q n))
-    (λ t. f (sym (part_at b p n k h) ∙ ap (λ (l : List ℕ). get_or l k 0) (same_list_equal (part b p n) (part b q n) t) ∙ part_at b q n k h))
+use Rattle.book_check.specs.Opening.{is_stray}
 
 -- one more byte is hashed
-pub hash_one : (b : List ℕ) (from n j h : ℕ) → from + n ≤ length b → j < n
-    → hash_of (drop j (part b from n)) h ≡ hash_of (drop (j + 1) (part b from n)) ((h * 31 + get_or b (from + j) 0) % buckets)
+pub hash_one : (bytes : List ℕ) (j h byte : ℕ) → j < length bytes → byte ≡ get_or bytes j 0
+    → hash_of (drop j bytes) h ≡ hash_of (drop (j + 1) bytes) ((h * 31 + byte) % buckets)
 unfolding hash_of
-hash_one b from n j h k l =
-    ap (λ (m : List ℕ). hash_of m h) (drop-cons (part b from n) j 0 (omega (arith, part_length b from n k)))
-    ∙ (λ i. hash_of (drop (sym (add-one j) i) (part b from n)) ((h * 31 + part_at b from n j l i) % buckets))
+hash_one bytes j h byte k e =
+    ap (λ (m : List ℕ). hash_of m h) (drop-cons bytes j 0 k) ∙ (λ i. hash_of (drop (sym (add-one j) i) bytes) ((h * 31 + sym e i) % buckets))
 
 -- and none is left
-pub hash_done : (b : List ℕ) (from n j h : ℕ) → from + n ≤ length b → n ≤ j → hash_of (drop j (part b from n)) h ≡ h
+pub hash_done : (bytes : List ℕ) (j h : ℕ) → length bytes ≤ j → hash_of (drop j bytes) h ≡ h
 unfolding hash_of
-hash_done b from n j h k l = ap (λ (m : List ℕ). hash_of m h) (drop_of_length-le (part b from n) {i = j} (omega (arith, part_length b from n k)))
+hash_done bytes j h k = ap (λ (m : List ℕ). hash_of m h) (drop_of_length-le bytes {i = j} k)
 
--- one more zero is passed
-pub tail_zero : (b : List ℕ) (i : ℕ) (e : Entries) → i < length b → get_or b i 0 ≡ 0 → zero_tail (drop i b) i e ≡ zero_tail (drop (i + 1) b) (i + 1) e
+-- the zeros up to the first byte that is not zero, or all of them
+tail_passed : (l : List ℕ) (at : ℕ) (given : Entries)
+    → (position_or_len is_stray l < length l → zero_tail l at given ≡ wrong (at + position_or_len is_stray l)) × (length l ≤ position_or_len is_stray l → zero_tail l at given ≡ given)
 unfolding zero_tail pick
-tail_zero b i e h z =
-    ap (λ (l : List ℕ). zero_tail l i e) (drop-cons b i 0 h) ∙ ap (λ (t : Bool). pick t (zero_tail (drop (suc i) b) (suc i) e) (wrong i)) (eq-eqb (get_or b i 0) 0 z)
-    ∙ ap (λ (m : ℕ). zero_tail (drop m b) m e) (sym (add-one i))
+tail_passed [] at given = (λ h. let z : ⊥ = omega (arith, h) in absurd z, λ h. refl)
+tail_passed (x ∷ l) at given = go (eqb x 0) (tail_passed l (suc at) given)
+  where
+    go : (t : Bool) → (position_or_len is_stray l < length l → zero_tail l (suc at) given ≡ wrong (suc at + position_or_len is_stray l)) × (length l ≤ position_or_len is_stray l → zero_tail l (suc at) given ≡ given)
+        → (cond (not (not t)) (1 + position_or_len is_stray l) 0 < suc (length l) → pick t (zero_tail l (suc at) given) (wrong at) ≡ wrong (at + cond (not (not t)) (1 + position_or_len is_stray l) 0))
+        × (suc (length l) ≤ cond (not (not t)) (1 + position_or_len is_stray l) 0 → pick t (zero_tail l (suc at) given) (wrong at) ≡ given)
+    go true ih = (λ h. ih.0 (omega (arith, h)) ∙ ap wrong (omega arith), λ h. ih.1 (omega (arith, h)))
+    go false ih = (λ h. ap wrong (omega arith), λ h. let z : ⊥ = omega (arith, h) in absurd z)
 
--- the first that is not zero
-pub tail_stray : (b : List ℕ) (i : ℕ) (e : Entries) → i < length b → (get_or b i 0 ≡ 0 → ⊥) → zero_tail (drop i b) i e ≡ pick (eqb i (length b)) e (wrong i)
-unfolding zero_tail pick
-tail_stray b i e h z =
-    ap (λ (l : List ℕ). zero_tail l i e) (drop-cons b i 0 h) ∙ ap (λ (t : Bool). pick t (zero_tail (drop (suc i) b) (suc i) e) (wrong i)) (ne_eqb (get_or b i 0) 0 z)
-    ∙ ap (λ (t : Bool). pick t e (wrong i)) (sym (ne_eqb i (length b) (λ q. let z : ⊥ = omega arith in z)))
+-- the part of the buffer from a place on
+from : (b : List ℕ) (at : ℕ) → take (length b - at) (drop at b) ≡ drop at b
+from b at = take_all (length b - at) (drop at b) (omega (arith, length-drop at b))
 
--- all are zero
-pub tail_end : (b : List ℕ) (i : ℕ) (e : Entries) → i ≡ length b → zero_tail (drop i b) i e ≡ pick (eqb i (length b)) e (wrong i)
-unfolding zero_tail pick
-tail_end b i e q =
-    ap (λ (l : List ℕ). zero_tail l i e) (drop_of_length-le b {i = i} (omega arith))
-    ∙ ap (λ (t : Bool). pick t e (wrong i)) (sym (eq-eqb i (length b) q))
+pub tail_stray : (b : List ℕ) (at n : ℕ) (given : Entries) → Some n ≡ position is_stray (take (length b - at) (drop at b)) → zero_tail (drop at b) at given ≡ wrong (at + n)
+tail_stray b at n given e = go (ltb (position_or_len is_stray (drop at b)) (length (drop at b))) refl (e ∙ ap (position is_stray) (from b at))
+  where
+    go : (t : Bool) → ltb (position_or_len is_stray (drop at b)) (length (drop at b)) ≡ t → Some n ≡ cond t (Some (position_or_len is_stray (drop at b))) None
+        → zero_tail (drop at b) at given ≡ wrong (at + n)
+    go true q f =
+        let k : n ≡ position_or_len is_stray (drop at b) = cc in
+        (tail_passed (drop at b) at given).0 (ltb-true (position_or_len is_stray (drop at b)) (length (drop at b)) q) ∙ ap (λ (m : ℕ). wrong (at + m)) (sym k)
+    go false q f = cc
+
+pub tail_zeros : (b : List ℕ) (at : ℕ) (given : Entries) → None ≡ position is_stray (take (length b - at) (drop at b)) → zero_tail (drop at b) at given ≡ given
+tail_zeros b at given e = go (ltb (position_or_len is_stray (drop at b)) (length (drop at b))) refl (e ∙ ap (position is_stray) (from b at))
+  where
+    go : (t : Bool) → ltb (position_or_len is_stray (drop at b)) (length (drop at b)) ≡ t → None ≡ cond t (Some (position_or_len is_stray (drop at b))) None
+        → zero_tail (drop at b) at given ≡ given
+    go true q f = cc
+    go false q f = (tail_passed (drop at b) at given).1 (ltb-false (position_or_len is_stray (drop at b)) (length (drop at b)) q)

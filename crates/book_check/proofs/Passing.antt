@@ -22,6 +22,9 @@ use Rattle.entries.proofs.Agree.{Sound, sound}
 use Rattle.book_check.specs.Chain.{buckets, bucket_at, Chained}
 use Rattle.book_check.specs.Opening.{opening_of, Says, OpenRight}
 use Rattle.book_check.specs.declared.open.Opening.{Opening}
+use Rattle.std.specs.Prelude.{Result, Ok, Err}
+use Rattle.refusals.specs.declared.Refusal.{Refusal}
+use Rattle.refusals.specs.declared.Refusal.TheVariants.{NotABook}
 use Rattle.book_check.proofs.Chains.{chained_start, chained_removed, chained_live}
 
 pub record Passed (b : List ℕ) (at live : ℕ) (heads links : List ℕ) : Type 0 where
@@ -160,19 +163,25 @@ module _ (b : List ℕ) (at live : ℕ) (heads links : List ℕ) (p : Passed b a
 pub moved : (b : List ℕ) (a a' l l' : ℕ) (h h' k k' : List ℕ) → a' ≡ a → l' ≡ l → h' ≡ h → k' ≡ k → Passed b a l h k → Passed b a' l' h' k'
 moved b a a' l l' h h' k k' e f g i p = rw (e, f, g, i) p
 
--- after the zeros
-pub zeros_end : (n : ℕ) (r : ℕ) (e : Entries) → r ≡ n → pick (eqb r n) e (wrong r) ≡ e
-unfolding pick
-zeros_end n r e q = ap (λ (t : Bool). pick t e (wrong r)) (eq-eqb r n q)
-
-pub zeros_stray : (n : ℕ) (r : ℕ) (e : Entries) → r < n → pick (eqb r n) e (wrong r) ≡ wrong r
-unfolding pick
-zeros_stray n r e q = ap (λ (t : Bool). pick t e (wrong r)) (ne_eqb r n (λ z. let y : ⊥ = omega arith in y))
+-- the record at which the pass is
+pub framed_here : {b : List ℕ} {at live : ℕ} {heads links : List ℕ} {is : Bool} → Passed b at live heads links → (get_or b at 0 ≡ 0 → ⊥)
+    → is ≡ (is_framed b at && is_readable (word_at b at)) → is ≡ true → Framed b at
+framed_here p z e t = framed_true _ _ (frame_here _ _ _ _ _ p z (sym e ∙ t))
 
 -- the answer, with what it tells of a buffer of bytes
-pub says_right : (b : List ℕ) (k : Opening) → ((i : ℕ) → get_or b i 0 < 256) → k ≡ opening_of (entries b) → OpenRight b k
+pub says_right : (b : List ℕ) (k : Result Opening Refusal) → ((i : ℕ) → get_or b i 0 < 256) → k ≡ opening_of (entries b) → OpenRight b k
 says_right b k small e = record { answer = e; opened = subst (Says b) (sym e) (go (entries b) refl (sound b small)) }
   where
     go : (x : Entries) → entries b ≡ x → Sound b x → Says b (opening_of x)
     go (book es f) q s = record { list = es; is_book = s.0; end = s.1 }
-    go (wrong p) q s = q
+    go (wrong p) q s = record { place = p; is = refl; no_book = q }
+
+-- a place where the buffer is no book, by what is known of its entries
+pub wrong_right : (b : List ℕ) (place : ℕ) → ((i : ℕ) → get_or b i 0 < 256) → entries b ≡ wrong place → OpenRight b (Err (NotABook place))
+wrong_right b place small e = says_right b _ small (sym (ap opening_of e))
+
+-- and a book
+pub book_right : (b : List ℕ) (live free : ℕ) (list : List Entry) → ((i : ℕ) → get_or b i 0 < 256) → live ≡ live_count list → entries b ≡ book list free
+    → OpenRight b (Ok (record { live = live; free = free }))
+book_right b live free list small counted e =
+    says_right b _ small (ap (λ (n : ℕ). Ok (record { live = n; free = free })) counted ∙ sym (ap opening_of e))

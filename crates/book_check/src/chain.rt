@@ -1,44 +1,33 @@
 // Chains of live records by a hash of their words, so that a repeated word is found without a comparison of every pair.
-ghost use Rattle.std.specs.Prelude.{◌≡◌, List, ◌+◌, ◌≤◌, ◌<◌, length, take, drop};
+ghost use Rattle.std.specs.Prelude.{◌≡◌, List, ◌+◌, ◌≤◌, ◌<◌, T, length};
 ghost use Rattle.entries.specs.Limits.{book_limit};
-ghost use Rattle.formula.specs.Lists.{same_list};
-ghost use Rattle.entries.specs.Entries.{Entry, word_at, holds};
-ghost use Rattle.book_check.specs.Chain.{hash_of, buckets, Chained, Ready};
+ghost use Rattle.entries.specs.Entries.{Entry, word_at, is_framed, holds};
+ghost use Rattle.book_check.specs.Chain.{word_bytes, hash_of, buckets, Chained, Ready};
 
 use crate::open::BOOK_LIMIT;
 use book_frame::HEAD;
-use memory::casts::{place_of, wide};
 
 // How many chains there are.
 pub(crate) const BUCKETS: usize = 1024;
 
-// The chain of a word, from its bytes.
-pub(crate) fn bucket_of(book: &[u8], from: usize, count: usize) -> usize
-    requires { from + count ≤ length book.now }
-    ensures { (result ≡ hash_of (take count (drop from book.now)) 0) × (result < buckets) }
+// The bytes of the word of the record at a place.
+pub(crate) fn word_of(book: &[u8], at: usize) -> &[u8]
+    requires { (length book.now ≤ book_limit) × T (is_framed book.now at) }
+    ensures { result.now ≡ word_bytes book.now at }
 {
-    let mut hash = 0;
-    let mut next = 0;
-    while next < count {
-        hash = (hash * 31 + wide(book[from + next])) % BUCKETS;
-        next += 1;
-    }
-    hash
+    let from = at + HEAD;
+    &book[from..from + usize::from(book[at + 2])]
 }
 
-// Whether two parts of the buffer with as many bytes are the same.
-fn is_same_part(book: &[u8], first: usize, second: usize, count: usize) -> bool
-    requires { (first + count ≤ length book.now) × (second + count ≤ length book.now) }
-    ensures { result ≡ same_list (take count (drop first book.now)) (take count (drop second book.now)) }
+// The chain of a word, from its bytes.
+pub(crate) fn bucket_of(word: &[u8]) -> usize
+    ensures { (result ≡ hash_of word.now 0) × (result < buckets) }
 {
-    let mut next = 0;
-    while next < count {
-        if book[first + next] != book[second + next] {
-            return false;
-        }
-        next += 1;
+    let mut hash = 0;
+    for byte in word {
+        hash = (hash * 31 + usize::from(*byte)) % BUCKETS;
     }
-    true
+    hash
 }
 
 // The link to a start: one more than it, since 0 ends a chain.
@@ -60,16 +49,14 @@ pub(crate) fn is_repeated(
     requires { Ready book.now at bucket heads.now links.now }
     ensures { (entries : List Entry) → Chained book.now at entries heads.now links.now → result ≡ holds entries (word_at book.now at) }
 {
-    let count = book[at + 2];
-    let mut place = place_of(heads[bucket]);
+    let word = word_of(book, at);
+    let mut place = usize::from(heads[bucket]);
     while 0 < place {
         let start = place - 1;
-        if book[start + 2] == count {
-            if is_same_part(book, start + HEAD, at + HEAD, wide(count)) {
-                return true;
-            }
+        if word_of(book, start) == word {
+            return true;
         }
-        place = place_of(links[start]);
+        place = usize::from(links[start]);
     }
     false
 }

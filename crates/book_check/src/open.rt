@@ -1,44 +1,34 @@
 // The pass over a buffer that tells whether it is a book.
-ghost use Rattle.std.specs.Prelude.{◌≡◌, ◌≤◌, eqb, length, drop};
-ghost use Rattle.letters.specs.Choice.{pick};
-ghost use Rattle.entries.specs.Entries.{Entries, wrong, zero_tail};
-ghost use Rattle.book_check.specs.Opening.{OpenRight};
+ghost use Rattle.std.specs.Prelude.{◌≡◌, position};
+ghost use Rattle.book_check.specs.Opening.{is_stray, OpenRight};
 
-use crate::chain::{BUCKETS, bucket_of, is_repeated, link_to};
+use crate::chain::{BUCKETS, bucket_of, is_repeated, link_to, word_of};
 use book_frame::{HEAD, has_mark, is_record};
-use memory::casts::wide;
+use refusals::Refusal;
 
 // The most bytes of a book.
 pub const BOOK_LIMIT: usize = 16384;
 
-// What a buffer is: a book, with the number of its live records and its first free byte, or none, with the first wrong place.
+// What a book that is opened tells: the number of its live records, and its first free byte.
 #[derive(Clone, Copy)]
-pub enum Opening {
-    Book { live: usize, free: usize },
-    Wrong(usize),
+pub struct Opening {
+    pub live: usize,
+    pub free: usize,
 }
 
-// The place of the first byte from `from` on that is not zero, or the length where there is none.
-fn first_stray(book: &[u8], from: usize) -> usize
-    requires { from ≤ length book.now }
-    ensures { (result ≤ length book.now) × ((given : Entries) → zero_tail (drop from book.now) from given ≡ pick (eqb result (length book.now)) given (wrong result)) }
+// How many zero bytes stand before the first that is not zero.
+fn first_stray(bytes: &[u8]) -> Option<usize>
+    ensures { result ≡ position is_stray bytes.now }
 {
-    let mut at = from;
-    while at < book.len() {
-        if book[at] != 0 {
-            return at;
-        }
-        at += 1;
-    }
-    at
+    bytes.iter().position(|byte| *byte != 0)
 }
 
 // Passes over the records once. Each live record is put at the head of the chain of its word.
-pub fn open_book(book: &[u8]) -> Opening
+pub fn open_book(book: &[u8]) -> Result<Opening, Refusal>
     ensures { OpenRight book.now result }
 {
     if BOOK_LIMIT < book.len() {
-        return Opening::Wrong(BOOK_LIMIT);
+        return Err(Refusal::NotABook(BOOK_LIMIT));
     }
     let mut heads = [0u16; BUCKETS];
     let mut links = [0u16; BOOK_LIMIT];
@@ -46,20 +36,19 @@ pub fn open_book(book: &[u8]) -> Opening
     let mut live = 0;
     while at < book.len() {
         if book[at] == 0 {
-            let place = first_stray(book, at);
-            if place < book.len() {
-                return Opening::Wrong(place);
+            if let Some(passed) = first_stray(&book[at..]) {
+                return Err(Refusal::NotABook(at + passed));
             }
-            return Opening::Book { live, free: at };
+            return Ok(Opening { live, free: at });
         }
         if !is_record(book, at) {
-            return Opening::Wrong(at);
+            return Err(Refusal::NotABook(at));
         }
-        let count = wide(book[at + 2]);
+        let count = usize::from(book[at + 2]);
         if has_mark(book, at, b"MW") {
-            let bucket = bucket_of(book, at + HEAD, count);
+            let bucket = bucket_of(word_of(book, at));
             if is_repeated(book, at, bucket, &heads, &links) {
-                return Opening::Wrong(at);
+                return Err(Refusal::NotABook(at));
             }
             links[at] = heads[bucket];
             heads[bucket] = link_to(at);
@@ -67,5 +56,5 @@ pub fn open_book(book: &[u8]) -> Opening
         }
         at += HEAD + count;
     }
-    Opening::Book { live, free: at }
+    Ok(Opening { live, free: at })
 }
