@@ -3,7 +3,8 @@ ghost use Rattle.std.specs.Prelude.{◌≡◌, position};
 ghost use Rattle.book_check.specs.Opening.{is_stray, OpenRight};
 
 use crate::chain::{BUCKETS, bucket_of, is_repeated, link_to, word_of};
-use book_frame::{HEAD, has_mark, is_record};
+use crate::record::Record;
+use book_frame::is_record;
 use refusals::Refusal;
 
 // The most bytes of a book.
@@ -44,8 +45,8 @@ pub fn open_book(book: &[u8]) -> Result<Opening, Refusal>
         if !is_record(book, at) {
             return Err(Refusal::NotABook(at));
         }
-        let count = usize::from(book[at + 2]);
-        if has_mark(book, at, b"MW") {
+        let record = Record::at(book, at);
+        if record.live {
             let bucket = bucket_of(word_of(book, at));
             if is_repeated(book, at, bucket, &heads, &links) {
                 return Err(Refusal::NotABook(at));
@@ -54,7 +55,7 @@ pub fn open_book(book: &[u8]) -> Result<Opening, Refusal>
             heads[bucket] = link_to(at);
             live += 1;
         }
-        at += HEAD + count;
+        at += record.size;
     }
     Ok(Opening { live, free: at })
 }

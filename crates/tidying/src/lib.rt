@@ -5,9 +5,8 @@ ghost use Rattle.refusals.specs.Outcome.{accepts, outcome_of};
 ghost use Rattle.entries.specs.Book.{Opened};
 ghost use Rattle.tidying.specs.Tidy.{Closed, TidyRight};
 
-use book_check::open::{Opening, open_book};
-use book_frame::{HEAD, has_mark};
-use memory::casts::wide;
+use book_check::open::open_book;
+use book_check::record::Record;
 use memory::copies::{clear, move_down};
 use refusals::Refusal;
 
@@ -19,12 +18,12 @@ fn close_gaps(book: &mut [u8], free: usize) -> usize
     let mut at = 0;
     let mut kept = 0;
     while at < free {
-        let size = HEAD + wide(book[at + 2]);
-        if has_mark(book, at, b"MW") {
-            move_down(book, at, kept, size);
-            kept += size;
+        let record = Record::at(book, at);
+        if record.live {
+            move_down(book, at, kept, record.size);
+            kept += record.size;
         }
-        at += size;
+        at += record.size;
     }
     kept
 }
@@ -43,11 +42,7 @@ pub fn tidy_records(book: &mut [u8], free: usize) -> usize
 pub fn tidy(book: &mut [u8]) -> Result<usize, Refusal>
     ensures { TidyRight book.old book.new (outcome_of result) }
 {
-    match open_book(book) {
-        Opening::Book { live: _, free } => {
-            let length = tidy_records(book, free);
-            Ok(length)
-        }
-        Opening::Wrong(place) => Err(Refusal::NotABook(place)),
-    }
+    let opening = open_book(book)?;
+    let length = tidy_records(book, opening.free);
+    Ok(length)
 }

@@ -10,11 +10,11 @@ use Rattle.entries.specs.Limits.{book_limit, head_size}
 use Rattle.entries.specs.Entries.{book as book_of}
 use Rattle.entries.proofs.Records.{framed_is}
 use Rattle.book_check.specs.Chain.{hash_of, bucket_at}
-use Rattle.book_frame.proofs.Marks.{mark_met, mark_missed}
+use borrow.Author.Tests.{eqb-true, eqb-false}
 use Rattle.book_check.proofs.Parts.{tail_stray, tail_zeros}
 use Rattle.book_check.proofs.Passing.{too_long, passed_start, ends_zero, ends_full, no_record, repeated, framed_here, moved, pass_removed, pass_live, wrong_right, book_right}
 use Rattle.book_check.proofs.open.open_book.Goals as goal
-use Rattle.book_check.proofs.open.open_book.Goals.{then-has_mark+else-is_repeated, else-has_mark}
+use Rattle.book_check.proofs.open.open_book.Goals.{then-record+else-is_repeated, else-record}
 
 pub returns-then-book-gt-BOOK_LIMIT : goal.returns-then-book-gt-BOOK_LIMIT
 returns-then-book-gt-BOOK_LIMIT c = wrong_right c.args.book.now _ (λ i. omega (arith, c.type_inv.book i)) (too_long c.args.book.now (omega (arith, c.if-book-gt-BOOK_LIMIT.true)))
@@ -42,13 +42,8 @@ returns-then-not-is_record c =
     wrong_right c.args.book.now _ (λ i. omega (arith, c.type_inv.book i))
     (no_record c.args.book.now l.at l.live l.heads l.links l.invariant.1 c.if-book-at-eq0.false (sym c.is_record.ensures ∙ c.if-not-is_record.true))
 
-pub bounds-book-at-in-loop-at : goal.bounds-book-at-in-loop-at
-bounds-book-at-in-loop-at c =
-    let f = framed_here c.loop-at.invariant.1 c.if-book-at-eq0.false c.is_record.ensures c.if-not-is_record.false in
-    omega (arith, f.room)
-
-pub has_mark-requires : goal.has_mark-requires
-has_mark-requires c =
+pub at-record-requires : goal.at-record-requires
+at-record-requires c =
     let f = framed_here c.loop-at.invariant.1 c.if-book-at-eq0.false c.is_record.ensures c.if-not-is_record.false in
     omega (arith, f.room)
 
@@ -68,7 +63,7 @@ is_repeated-requires c =
 pub returns-then-is_repeated : goal.returns-then-is_repeated
 returns-then-is_repeated c =
     let l = c.loop-at in
-    let alive : get_or c.args.book.now (l.at + 1) 0 ≡ 0x57 = (mark_met (get_or c.args.book.now l.at 0) _ 0x4D 0x57 _ c.has_mark.ensures c.if-has_mark.true).1 in
+    let alive : get_or c.args.book.now (l.at + 1) 0 ≡ 0x57 = eqb-true _ 0x57 (sym c.at-record.ensures.live ∙ c.if-record.true) in
     wrong_right c.args.book.now _ (λ i. omega (arith, c.type_inv.book i))
     (repeated c.args.book.now l.at l.live l.heads l.links l.invariant.1 c.if-book-at-eq0.false alive
     (sym (c.is_repeated.ensures l.invariant.1.list l.invariant.1.chained) ∙ c.if-is_repeated.true))
@@ -79,20 +74,19 @@ loop-at-preserved c =
     let l = c.loop-at in
     let b = c.args.book.now in
     let good = sym c.is_record.ensures ∙ c.if-not-is_record.false in
-    let e : l.at + (head_size + c.from-count.result) ≡ l.at + head_size + get_or b (l.at + 2) 0 = omega (arith, c.from-count.ensures) in (
+    let e : l.at + c.at-record.result.size ≡ l.at + head_size + get_or b (l.at + 2) 0 = omega (arith, c.at-record.ensures.size) in (
       l.invariant.0,
-      elim c.if-has_mark.branch [
-        | then-has_mark+else-is_repeated w ↦
-            let alive : get_or b (l.at + 1) 0 ≡ 0x57 = (mark_met (get_or b l.at 0) _ 0x4D 0x57 _ c.has_mark.ensures w.if-has_mark.true).1 in
+      elim c.if-record.branch [
+        | then-record+else-is_repeated w ↦
+            let alive : get_or b (l.at + 1) 0 ≡ 0x57 = eqb-true _ 0x57 (sym c.at-record.ensures.live ∙ w.if-record.true) in
             moved b _ _ _ _ _ _ _ _ e w.live-is w.heads-is w.links-is
             (pass_live b l.at l.live l.heads l.links l.invariant.1 c.if-book-at-eq0.false good w.bucket_of-bucket.result _ w.link_to.result l.invariant.0
             alive (sym (w.is_repeated.ensures l.invariant.1.list l.invariant.1.chained) ∙ w.if-is_repeated.false)
             (w.bucket_of-bucket.ensures.0 ∙ ap (λ (bytes : List ℕ). hash_of bytes 0) w.word_of.ensures) w.bucket_of-bucket.ensures.1 refl w.link_to.ensures)
-        | else-has_mark w ↦
-            let frame = framed_here l.invariant.1 c.if-book-at-eq0.false c.is_record.ensures c.if-not-is_record.false in
+        | else-record w ↦
             moved b _ _ _ _ _ _ _ _ e w.live-is w.heads-is w.links-is
             (pass_removed b l.at l.live l.heads l.links l.invariant.1 c.if-book-at-eq0.false good
-            (λ live. mark_missed _ _ 0x4D 0x57 _ c.has_mark.ensures w.if-has_mark.false frame.first live))
+            (eqb-false _ 0x57 (sym c.at-record.ensures.live ∙ w.if-record.false)))
       ],
     )
 

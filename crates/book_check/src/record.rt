@@ -1,0 +1,26 @@
+// The record at a place of a buffer, as a walk over the records needs it.
+ghost use Rattle.std.specs.Prelude.{◌≡◌, ◌+◌, ◌≤◌, ◌<◌, eqb, length, get_or};
+ghost use Rattle.entries.specs.Limits.{book_limit, head_size};
+
+use book_frame::HEAD;
+
+// Whether the record is live, and how many bytes it has: the next one begins behind them.
+#[derive(Clone, Copy)]
+pub struct Record {
+    pub live: bool,
+    pub size: usize,
+}
+
+impl Record {
+    // The record whose mark and count stand at a place.
+    pub fn at(book: &[u8], place: usize) -> Record
+        requires { (length book.now ≤ book_limit) × (place + 2 < length book.now) }
+        ensures live { result.live ≡ eqb (get_or book.now (place + 1) 0) 0x57 }
+        ensures size { result.size ≡ head_size + get_or book.now (place + 2) 0 }
+    {
+        Record {
+            live: book[place + 1] == b'W',
+            size: HEAD + usize::from(book[place + 2]),
+        }
+    }
+}
