@@ -65,10 +65,8 @@ pub fn measure(word: &[u16]) -> usize
     ensures { result ≡ length (skeleton_of word.now) }
 {
     let mut size = 0;
-    let mut at = 0;
-    while at < word.len() {
-        size += size_of(word[at]);
-        at += 1;
+    for x in word {
+        size += size_of(*x);
     }
     size
 }
@@ -92,10 +90,8 @@ pub fn put(word: &[u16], output: &mut [u16]) -> usize
     ensures { Written output.old (skeleton_of word.now) output.new result }
 {
     let mut next = 0;
-    let mut at = 0;
-    while at < word.len() {
-        next = put_replaced(output, next, word[at]);
-        at += 1;
+    for x in word {
+        next = put_replaced(output, next, *x);
     }
     next
 }
