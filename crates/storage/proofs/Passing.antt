@@ -7,6 +7,8 @@ use Prim.Native.Nat.{ℕ, zero, suc, ◌+◌, ◌-◌, ◌≤◌, ◌<◌}
 use native.Mathlib.Omega.{arith}
 use lib.ListN.{length, take, drop, get_or, replicate, length-append, length-drop, length-replicate, replicate-append-replicate, drop_of_length-le}
 use lib.Seq.{sets, drop-cons, length-take-le, take_at, drop_at}
+use Rattle.std.proofs.Common.{reverse}
+use Rattle.std.proofs.lemmas.List.{length-reverse, get_or-reverse, get_or_default}
 use Rattle.memory.proofs.Stores.{sets_front}
 use Rattle.letters.specs.Choice.{pick}
 use Rattle.formula.specs.Limits.{limit}
@@ -108,6 +110,21 @@ stored_more word values after front begin at s some p =
           p.put ∙ ap (put_front x) s.shown ∙ put_zeros x (stored_form (drop at word)) n
           ∙ ap (λ (l : List ℕ). l ++ zeros n) (sym (stored_front x (drop at word)) ∙ ap stored_form (sym here));
     }
+
+-- one item more of a pass from the last value to the first
+pub stored_turn : (word values after : List ℕ) (front begin : Front) (n x : ℕ) → StoredFrom word values front (length word - n)
+    → (n < length (reverse word)) × (x ≡ get_or (reverse word) n x) → FrontPut values after front.place x begin
+    → StoredFrom word after begin (length word - (n + 1))
+stored_turn word values after front begin n x s t p =
+    let inside : n < length word = omega (arith, t.0, length-reverse word) in
+    let back : length word - n - 1 ≡ length word - 1 - n = omega arith in
+    let next : length word - n - 1 ≡ length word - (n + 1) = omega arith in
+    let value : x ≡ get_or word (length word - n - 1) 0 =
+    t.1 ∙ get_or-reverse word n x inside ∙ ap (λ (k : ℕ). get_or word k x) (sym back)
+    ∙ get_or_default word (length word - n - 1) x 0 (omega arith) in
+    subst (StoredFrom word after begin) next
+    (stored_more word values after front begin (length word - n) s (omega arith)
+    (subst (λ (y : ℕ). FrontPut values after front.place y begin) value p))
 
 -- all is passed
 stored_length : (word values : List ℕ) (front : Front) → StoredFrom word values front 0 → length word ≤ limit

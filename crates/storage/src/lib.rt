@@ -49,10 +49,8 @@ pub fn stored(word: &[u16]) -> Word
         place: end,
         rank: MARKS,
     };
-    let mut at = end;
-    while 0 < at {
-        at -= 1;
-        front = put_front(&ranks, &mut values, front, word[at]);
+    for x in word.iter().rev() {
+        front = put_front(&ranks, &mut values, front, *x);
     }
     let place = front.place;
     if place == 0 {
@@ -131,13 +129,13 @@ fn put_vowel(values: &mut [u16; Word::LIMIT], place: usize) -> Front
 }
 
 // What a 1025 becomes before another value than 102E.
+#[tactic(auto, unfolding(crate::specs::Stored::makes_letter, letters::specs::Choice::pick))]
 fn vowel_before(next: u16) -> u16
     ensures { result ≡ pick (makes_letter 0x1025 next) 0x1009 0x1025 }
 {
-    if (next == KILLER) | (next == STACKER) {
-        LETTER_NYA
-    } else {
-        VOWEL_U
+    match next {
+        KILLER | STACKER => LETTER_NYA,
+        _ => VOWEL_U,
     }
 }
 
@@ -146,11 +144,7 @@ fn value_at(values: &[u16; Word::LIMIT], place: usize) -> u16
     requires { length values.now ≡ limit }
     ensures { result ≡ get_or values.now place 0 }
 {
-    if place < Word::LIMIT {
-        values[place]
-    } else {
-        0
-    }
+    values.get(place).copied().unwrap_or(0)
 }
 
 // The place of a mark in the storage order; the number of marks for any other value.
@@ -159,7 +153,7 @@ pub fn rank(ranks: &RankTable, x: u16) -> u8
     ensures { result ≡ rank x }
 {
     if x / 64 == 0x40 {
-        ranks[(x % 64) as usize]
+        ranks[usize::from(x % 64)]
     } else {
         MARKS
     }

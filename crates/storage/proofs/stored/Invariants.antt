@@ -1,8 +1,6 @@
+use Rattle.std.proofs.Common.{length, ◌-◌}
 use Rattle.storage.proofs.Passing.{StoredFrom}
 use Rattle.storage.proofs.stored.Given as goal
 
-abbrev pub invariant-loop-at : goal.invariant-loop-at
-invariant-loop-at l = StoredFrom l.word l.values l.front l.at
-
-abbrev pub decreases-loop-at : goal.decreases-loop-at
-decreases-loop-at l = l.at
+abbrev pub invariant-loop-x : goal.invariant-loop-x
+invariant-loop-x l = StoredFrom l.word l.values l.front (length l.word - length l.yielded)
