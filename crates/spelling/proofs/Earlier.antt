@@ -10,12 +10,14 @@ use Rattle.refusals.specs.Outcome.{accepts_both}
 use Rattle.rows.proofs.Earlier.{earlier_gives}
 use Rattle.recogniser.specs.Earlier.{ReadableIn}
 use Rattle.recogniser.proofs.Earlier.{earlier_short, earlier_same}
+use Rattle.std.specs.declared.result.Result.{Result}
+use Rattle.refusals.specs.declared.Refusal.{Refusal}
 use Rattle.reading.specs.Reading.{ReadRight}
-use Rattle.reading.specs.declared.read.Reading.{Reading}
+use Rattle.reading.specs.declared.row.Reading.{Reading}
 use Rattle.spelling.specs.Spell.{Lists, Written, SpellRight, spelled_out}
 use Rattle.spelling.proofs.RoundTrip.{ReadBack, read_back}
 
-pub earlier_records : {edition : Edition} (word : List ℕ) (b : ReadableIn edition word) (reading : Reading) → ReadRight word reading → ReadBack word (record_bytes b.row) reading
+pub earlier_records : {edition : Edition} (word : List ℕ) (b : ReadableIn edition word) (reading : Result Reading Refusal) → ReadRight word reading → ReadBack word (record_bytes b.row) reading
 earlier_records {edition} word b reading right =
     read_back word (record_bytes b.row) b.row (earlier_gives edition b.row word b.gives) refl (earlier_short word b) reading right
 

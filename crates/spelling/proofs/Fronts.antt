@@ -7,7 +7,7 @@ use native.Mathlib.Nat.{zero-add, le_of_suc-le-suc, not-suc-le-zero}
 use native.Mathlib.Numerals.{add-one}
 use native.Mathlib.Omega.{arith}
 use lib.ListN.{length, get_or, take, drop, set, length-append, length-map, length-drop}
-use lib.Seq.{take-suc, drop-cons, set_at, length-take-le, append_snoc}
+use lib.Seq.{take_all, take-suc, drop-cons, set_at, length-take-le, append_snoc}
 use Rattle.formula.specs.Syllable.{no_final, part}
 use Rattle.syllable_record.specs.Decode.{syllable_of}
 use Rattle.reading.specs.Records.{bytes_by}
@@ -15,9 +15,13 @@ use Rattle.syllable_text.specs.Part.{PartSize}
 use Rattle.syllable_text.specs.Part.{part_after, PartPut}
 use Rattle.syllable_text.proofs.Putting.{put_length, put_behind}
 use Rattle.spelling.specs.Spell.{joined, starts_from, spelled_starts, lists}
-use Rattle.spelling.specs.Plain.{plain_bytes, spelled_by, spelled_front}
+use Rattle.spelling.specs.Plain.{plain_bytes, spelled_by, spelled_each}
 use Rattle.spelling.specs.Put.{SpelledSize, SyllableRoom, SyllablePut, Room, SyllablesPut}
 use Rattle.spelling.proofs.Plains.{part_spelled, by_small}
+
+-- the first syllables of a list, each spelled
+abbrev pub spelled_front : List ℕ → ℕ → List (List ℕ)
+spelled_front syllables number = spelled_each (take number syllables)
 
 joined_more : (parts : List (List ℕ)) (more : List ℕ) → joined (parts ++ (more ∷ [])) ≡ joined parts ++ more
 joined_more [] more = append-nil more
@@ -53,28 +57,23 @@ module _ (syllables : List ℕ) (number : ℕ) where
         rw (front_more, starts_more 0 (spelled_front syllables number) (spelled_by (get_or syllables number d)), same)
 
 -- the pass that counts
-pub record Measured (syllables : List ℕ) (count size number : ℕ) : Type 0 where
-  pub within : number ≤ count
-  pub counted : SpelledSize syllables number size
+pub record Measured (syllables : List ℕ) (size number : ℕ) : Type 0 where
+  pub counted : SpelledSize (take number syllables) size
   pub small : size ≤ 13 * number
 
-pub measured_none : (syllables : List ℕ) (count : ℕ) → Measured syllables count 0 0
-measured_none syllables count = record { within = omega arith; counted = refl; small = omega arith }
+pub measured_none : (syllables : List ℕ) → Measured syllables 0 0
+measured_none syllables = record { counted = refl; small = omega arith }
 
-module _ (syllables : List ℕ) (count size number : ℕ) (p : Measured syllables count size number) (held : count ≤ length syllables) where
-  pub measured_more : number < count → (d : ℕ) (bytes : List ℕ) → bytes ≡ plain_bytes (bytes_by (get_or syllables number d)) → (more : ℕ) → PartSize bytes more
-      → Measured syllables count (size + more) (number + 1)
+module _ (syllables : List ℕ) (size number : ℕ) (p : Measured syllables size number) where
+  pub measured_more : number < length syllables → (d : ℕ) (bytes : List ℕ) → bytes ≡ plain_bytes (bytes_by (get_or syllables number d)) → (more : ℕ)
+      → PartSize bytes more → Measured syllables (size + more) (number + 1)
   unfolding spelled_by
   measured_more next d bytes is more s =
       let same : more ≡ length (spelled_by (get_or syllables number d)) = s.counted ∙ ap (λ (l : List ℕ). length (part no_final (syllable_of l))) is in
-      record {
-        within = omega arith;
-        counted = omega (arith, p.counted, size_more syllables number d (omega arith));
-        small = omega (arith, p.small, s.small);
-      }
+      record { counted = omega (arith, p.counted, size_more syllables number d next); small = omega (arith, p.small, s.small) }
 
-  pub measured_all : count ≤ number → SpelledSize syllables count size
-  measured_all end = let same : number ≡ count = (let w = p.within in omega arith) in rw (← same) p.counted
+  pub measured_all : length syllables ≤ number → SpelledSize syllables size
+  measured_all end = rw (← take_all number syllables end) p.counted
 
 -- fewer syllables have no more values
 size_grows : (syllables : List ℕ) (few many : ℕ) → few ≤ many → length (joined (spelled_front syllables few)) ≤ length (joined (spelled_front syllables many))
@@ -99,49 +98,57 @@ module _ (packed number at : ℕ) (values starts bytes : List ℕ) (is : bytes �
   part_put after behind p = record { start = refl; values = rw (← part_spelled packed bytes is) p }
 
 -- the pass that writes: both lists have the fronts of the syllables so far
-pub record Filled (syllables : List ℕ) (count : ℕ) (values starts new_values new_starts : List ℕ) (at number : ℕ) : Type 0 where
-  pub within : number ≤ count
+pub record Filled (syllables values starts new_values new_starts : List ℕ) (at number : ℕ) : Type 0 where
+  pub within : number ≤ length syllables
   pub values_put : PartPut values new_values 0 (joined (spelled_front syllables number)) at
   pub starts_put : new_starts ≡ spelled_starts (spelled_front syllables number) ++ drop number starts
   pub small : at ≤ 13 * number
 
-pub filled_none : (syllables : List ℕ) (count : ℕ) (values starts : List ℕ) → Filled syllables count values starts values starts 0 0
-filled_none syllables count values starts = record {
+pub filled_none : (syllables values starts : List ℕ) → Filled syllables values starts values starts 0 0
+filled_none syllables values starts = record {
   within = omega arith;
   values_put = record { put = refl; behind_it = refl };
   starts_put = refl;
   small = omega arith;
 }
 
-module _ (syllables : List ℕ) (count : ℕ) (values starts new_values new_starts : List ℕ) (at number : ℕ)
-    (p : Filled syllables count values starts new_values new_starts at number) (r : Room syllables count values starts) where
+module _ (syllables values starts new_values new_starts : List ℕ) (at number : ℕ)
+    (p : Filled syllables values starts new_values new_starts at number) (r : Room syllables values starts) where
+  -- the first syllables have no more values than all
+  front_fits : (few : ℕ) → few ≤ length syllables → length (joined (spelled_front syllables few)) ≤ length values
+  front_fits few h =
+      omega (
+        arith,
+        size_grows syllables few (length syllables) h,
+        ap (λ (l : List ℕ). length (joined (spelled_each l))) (take_all (length syllables) syllables (omega arith)),
+        r.values_fit,
+      )
+
   -- the lists are as long as before
   pub values_length : length new_values ≡ length values
-  values_length =
-      let w = p.within in
-      put_length values new_values 0 (joined (spelled_front syllables number)) at p.values_put (omega (arith, size_grows syllables number count (omega arith), r.values_fit))
+  values_length = put_length values new_values 0 (joined (spelled_front syllables number)) at p.values_put (omega (arith, front_fits number p.within))
 
   starts_number : length (spelled_starts (spelled_front syllables number)) ≡ number
-  starts_number = let w = p.within in let h = r.held in starts_length 0 (spelled_front syllables number) ∙ front_length syllables number (omega arith)
+  starts_number = starts_length 0 (spelled_front syllables number) ∙ front_length syllables number p.within
 
   pub starts_same : length new_starts ≡ length starts
   starts_same =
-      let w = p.within in
-      let f = r.starts_fit in
-      ap length p.starts_put ∙ length-append (spelled_starts (spelled_front syllables number)) (drop number starts) ∙ (omega (arith, starts_number, length-drop number starts))
+      ap length p.starts_put ∙ length-append (spelled_starts (spelled_front syllables number)) (drop number starts)
+      ∙ (omega (arith, p.within, r.starts_fit, starts_number, length-drop number starts))
 
   -- all are written
-  pub filled_all : count ≤ number → SyllablesPut syllables count (lists values starts) (lists new_values new_starts)
+  pub filled_all : length syllables ≤ number → SyllablesPut syllables (lists values starts) (lists new_values new_starts)
   filled_all end =
-      let same : number ≡ count = (let w = p.within in omega arith) in
-      rw (← same) (record { values = p.values_put.put ∙ rw zero-add; starts = p.starts_put })
+      let whole : take number syllables ≡ syllables = take_all number syllables end in
+      let same : number ≡ length syllables = omega (arith, p.within) in
+      record {
+        values = p.values_put.put ∙ rw (zero-add, whole);
+        starts = p.starts_put ∙ rw (whole, same);
+      }
 
-  module _ (next : number < count) (d : ℕ) where
-    inside : number < length syllables
-    inside = let h = r.held in omega arith
-
+  module _ (next : number < length syllables) (d : ℕ) where
     fits : length (joined (spelled_front syllables number)) + length (spelled_by (get_or syllables number d)) ≤ length values
-    fits = omega (arith, size_more syllables number d inside, size_grows syllables (number + 1) count (omega arith), r.values_fit)
+    fits = omega (arith, size_more syllables number d next, front_fits (number + 1) (omega arith))
 
     -- there is room for the next syllable
     pub filled_room : SyllableRoom (get_or syllables number d) number at new_values new_starts
@@ -155,18 +162,18 @@ module _ (syllables : List ℕ) (count : ℕ) (values starts new_values new_star
     -- one syllable more
     pub filled_more : (last_values last_starts : List ℕ) (behind : ℕ)
         → SyllablePut (get_or syllables number d) number at (lists new_values new_starts) (lists last_values last_starts) behind
-        → Filled syllables count values starts last_values last_starts behind (number + 1)
+        → Filled syllables values starts last_values last_starts behind (number + 1)
     filled_more last_values last_starts behind q =
         let place : at ≡ length (joined (spelled_front syllables number)) = omega (arith, p.values_put.behind_it) in
         record {
           within = omega arith;
           values_put =
-              rw (values_more syllables number d inside)
+              rw (values_more syllables number d next)
               (put_behind values new_values 0 (joined (spelled_front syllables number)) at p.values_put last_values (spelled_by (get_or syllables number d)) behind (omega (arith, fits)) q.values);
           starts_put =
               q.start ∙ ap (λ (l : List ℕ). set l number at) p.starts_put
               ∙ ap (λ (l : List ℕ). set (spelled_starts (spelled_front syllables number) ++ l) number at) (drop-cons starts number 0 (let f = r.starts_fit in omega arith))
               ∙ set_at (spelled_starts (spelled_front syllables number)) (get_or starts number 0) (drop (suc number) starts) at number starts_number
-              ∙ rw (places_more syllables number d inside, ← place, add-one) (sym (append_snoc (spelled_starts (spelled_front syllables number)) at (drop (suc number) starts)));
+              ∙ rw (places_more syllables number d next, ← place, add-one) (sym (append_snoc (spelled_starts (spelled_front syllables number)) at (drop (suc number) starts)));
           small = omega (arith, p.small, q.values.behind_it, by_small (get_or syllables number d));
         }

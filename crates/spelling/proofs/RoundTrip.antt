@@ -12,15 +12,17 @@ use Rattle.formula.specs.Syllable.{bare}
 use Rattle.formula.specs.Row.{Row, IsRow, join, Gives}
 use Rattle.formula.specs.Record.{record_of, record_bytes}
 use Rattle.formula.specs.Packed.{packed}
-use Rattle.refusals.specs.Outcome.{Outcome, accepts, accepts_both, absent, refuses, outcome_of}
+use Rattle.refusals.specs.Outcome.{Outcome, accepts, accepts_both, absent, refuses, outcome_by}
 use Rattle.refusals.specs.Output.{refused, put, too_short}
 use Rattle.formula.proofs.Records.{record_length, records_length}
 use Rattle.rows.proofs.Viable.{only_row}
 use Rattle.recogniser.specs.Answer.{Reads}
-use Rattle.reading.specs.Reading.{ReadRight}
-use Rattle.reading.specs.Records.{record_outcome_of, HasRecord, RecordAnswers, RecordRight}
-use Rattle.reading.specs.declared.read.Reading.{Reading}
-use Rattle.reading.specs.declared.records.SyllableRecord.{SyllableRecord}
+use Rattle.std.specs.declared.result.Result.{Result}
+use Rattle.refusals.specs.declared.Refusal.{Refusal}
+use Rattle.std.specs.declared.option.Option.{Option}
+use Rattle.reading.specs.Reading.{reading_told, syllables_in, ReadRight}
+use Rattle.reading.specs.Records.{record_outcome_of, bytes_in, HasRecord, RecordAnswers, RecordRight}
+use Rattle.reading.specs.declared.row.Reading.{Reading}
 use Rattle.recogniser.proofs.Answered.{row_reads, refused_no_row}
 use Rattle.recogniser.proofs.Determined.{answers_alike}
 use Rattle.writing.specs.Write.{Recorded, no_such_row, WriteRight}
@@ -98,7 +100,7 @@ records_of_lem word n bytes r b row g =
     }
 
 -- writing the records read from a readable word gives the word
-pub read_then_write : (word : List ℕ) (reading : Reading) (n : ℕ) → ReadRight word reading → outcome_of reading.answer ≡ accepts n
+pub read_then_write : (word : List ℕ) (reading : Result Reading Refusal) (n : ℕ) → ReadRight word reading → outcome_by reading_told reading ≡ accepts n
     → (bytes : List ℕ) → RecordsRead word n bytes → (before after : List ℕ) (outcome : Outcome) → length word ≤ length before → WriteRight bytes before after outcome
     → WrittenTo word before after outcome
 read_then_write word reading n right accepted bytes b before after outcome room w =
@@ -107,13 +109,13 @@ read_then_write word reading n right accepted bytes b before after outcome room 
     rw same at (row_accepted bytes before after outcome r.row (records_of_lem word n bytes r b r.row r.gives) (omega (arith, ap length same)) w)
 
 -- the reading of a word is right, and its records are the bytes
-pub record ReadBack (word bytes : List ℕ) (reading : Reading) : Type 0 where
+pub record ReadBack (word bytes : List ℕ) (reading : Result Reading Refusal) : Type 0 where
   pub n : ℕ
-  pub accepted : outcome_of reading.answer ≡ accepts n
+  pub accepted : outcome_by reading_told reading ≡ accepts n
   pub row_records : (row : Row) → Gives row word → record_bytes row ≡ bytes
   pub records : RecordsRead word n bytes
-  pub by_number : (number : ℕ) → number < n → (r : SyllableRecord) → RecordRight word number r
-      → (record_outcome_of r.answer ≡ accepts record_size) × (r.bytes ≡ take record_size (drop (record_size * number) bytes))
+  pub by_number : (number : ℕ) → number < n → (r : Result (Option (List ℕ)) Refusal) → RecordRight word number r
+      → (record_outcome_of r ≡ accepts record_size) × (bytes_in r ≡ take record_size (drop (record_size * number) bytes))
 
 module _ (word bytes : List ℕ) (row : Row) (g : Gives row word) (p : record_bytes row ≡ bytes) (short : length word ≤ limit) where
   row_read : Reads word (length row)
@@ -150,14 +152,14 @@ module _ (word bytes : List ℕ) (row : Row) (g : Gives row word) (p : record_by
       absurd z
   asked number below (refuses refusal place) b h = absurd (refused_no_row word refusal place h.refused row_read.admissible row g)
 
-  pub read_back : (reading : Reading) → ReadRight word reading → ReadBack word bytes reading
+  pub read_back : (reading : Result Reading Refusal) → ReadRight word reading → ReadBack word bytes reading
   read_back reading right =
       record {
         n = length row;
-        accepted = answers_alike word (outcome_of reading.answer) (accepts (length row)) right.answers row_read;
+        accepted = answers_alike word (outcome_by reading_told reading) (accepts (length row)) right.answers row_read;
         row_records = λ other h. ap record_bytes (same_row other h) ∙ p;
         records = records_read;
-        by_number = λ number below r h. asked number below (record_outcome_of r.answer) r.bytes h;
+        by_number = λ number below r h. asked number below (record_outcome_of r) (bytes_in r) h;
       }
 
 -- the records of a row are those read from its word
@@ -172,7 +174,7 @@ recorded_reads bytes row p = row_reads row (join row) (record { is_row = p.is_ro
 
 -- reading what was written from an accepted list of bytes gives that list of bytes back, record by record
 pub write_then_read : (bytes before after : List ℕ) (outcome : Outcome) (count : ℕ) → WriteRight bytes before after outcome → outcome ≡ accepts count
-    → (reading : Reading) → ReadRight (take count after) reading → ReadBack (take count after) bytes reading
+    → (reading : Result Reading Refusal) → ReadRight (take count after) reading → ReadBack (take count after) bytes reading
 write_then_read bytes before after outcome count w done reading right =
     let a = accepted_row bytes before after outcome count w done in
     let front : take count after ≡ join a.row =
@@ -182,18 +184,18 @@ write_then_read bytes before after outcome count w done reading right =
 
 -- a row that comes back: its word is written, and the reading of that has its number of syllables, these packed and their records, and no other
 -- row gives what was written
-pub record Restored (row : Row) (before after : List ℕ) (outcome : Outcome) (reading : Reading) : Type 0 where
+pub record Restored (row : Row) (before after : List ℕ) (outcome : Outcome) (reading : Result Reading Refusal) : Type 0 where
   pub written : WrittenTo (join row) before after outcome
-  pub counted : outcome_of reading.answer ≡ accepts (length row)
+  pub counted : outcome_by reading_told reading ≡ accepts (length row)
   pub gives : Gives row (take (length (join row)) after)
   pub only : (other : Row) → Gives other (take (length (join row)) after) → other ≡ row
-  pub syllables : reading.syllables ≡ map packed row ++ replicate (limit - length row) 0
-  pub records : (number : ℕ) → number < length row → (r : SyllableRecord) → RecordRight (take (length (join row)) after) number r
-      → r.bytes ≡ record_of (get_or row number (bare 0x1000))
+  pub syllables : syllables_in reading ≡ map packed row ++ replicate (limit - length row) 0
+  pub records : (number : ℕ) → number < length row → (r : Result (Option (List ℕ)) Refusal) → RecordRight (take (length (join row)) after) number r
+      → bytes_in r ≡ record_of (get_or row number (bare 0x1000))
 
 -- for every row of at most 64 values: reading what is written from its records restores the row
 pub row_restored : (row : Row) → IsRow row → length (join row) ≤ limit → (before after : List ℕ) (outcome : Outcome) → length (join row) ≤ length before
-    → WriteRight (record_bytes row) before after outcome → (reading : Reading) → ReadRight (take (length (join row)) after) reading
+    → WriteRight (record_bytes row) before after outcome → (reading : Result Reading Refusal) → ReadRight (take (length (join row)) after) reading
     → Restored row before after outcome reading
 row_restored row is short before after outcome room w reading right =
     let p = row_accepted (record_bytes row) before after outcome row (record { is_row = is; records = refl; short = short }) room w in
@@ -201,7 +203,7 @@ row_restored row is short before after outcome room w reading right =
     let front : word ≡ join row = ap (take (length (join row))) p.front ∙ take_at (join row) (drop (length (join row)) before) (length (join row)) refl in
     let g : Gives row word = record { is_row = is; joined = sym front } in
     let fits : length word ≤ limit = omega (arith, ap length front) in
-    let counted = answers_alike word (outcome_of reading.answer) (accepts (length row)) right.answers (row_reads row word g fits) in
+    let counted = answers_alike word (outcome_by reading_told reading) (accepts (length row)) right.answers (row_reads row word g fits) in
     record {
       written = p;
       counted = counted;
@@ -209,5 +211,5 @@ row_restored row is short before after outcome room w reading right =
       only = λ other h. only_row other row word h g;
       syllables = (rw counted at right.syllables) row g;
       records = λ number below r h.
-          (asked word (record_bytes row) row g refl fits number below (record_outcome_of r.answer) r.bytes h).1 ∙ record_number row number below;
+          (asked word (record_bytes row) row g refl fits number below (record_outcome_of r) (bytes_in r) h).1 ∙ record_number row number below;
     }

@@ -1,6 +1,6 @@
 -- A syllable with its final made plain, and how a packed syllable is spelled. The laws and the inner contracts cite it.
 -- Assumes nothing.
-use Rattle.std.specs.Prelude.{List, map, ℕ, ltb, get_or, take, set}
+use Rattle.std.specs.Prelude.{List, map, ℕ, ltb, get_or, set}
 use Rattle.letters.specs.Choice.{pick}
 use Rattle.formula.specs.Syllable.{Final, no_final, plain, plain_pair, stacked, kinzi, great_sa, Syllable, syllable, part}
 use Rattle.formula.specs.Record.{link_place}
@@ -32,6 +32,6 @@ plain_bytes bytes = set bytes link_place (plain_link (get_or bytes link_place 0)
 unfoldable pub spelled_by : ℕ → List ℕ
 spelled_by packed = part no_final (syllable_of (plain_bytes (bytes_by packed)))
 
--- the first packed syllables, each spelled
-abbrev pub spelled_front : List ℕ → ℕ → List (List ℕ)
-spelled_front syllables count = map spelled_by (take count syllables)
+-- packed syllables, each spelled
+abbrev pub spelled_each : List ℕ → List (List ℕ)
+spelled_each syllables = map spelled_by syllables

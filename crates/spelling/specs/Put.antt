@@ -1,14 +1,14 @@
--- The first packed syllables, counted and put to two lists. Inner contracts cite it.
+-- Packed syllables, counted and put to two lists. Inner contracts cite it.
 -- Assumes nothing.
 use Rattle.std.specs.Prelude.{◌≡◌, List, ◌++◌, ℕ, ◌+◌, ◌≤◌, ◌<◌, length, drop, set}
 use Rattle.formula.specs.Limits.{limit}
 use Rattle.syllable_text.specs.Part.{PartPut}
 use Rattle.spelling.specs.Spell.{joined, spelled_starts, Lists}
-use Rattle.spelling.specs.Plain.{spelled_by, spelled_front}
+use Rattle.spelling.specs.Plain.{spelled_by, spelled_each}
 
--- how many values the first syllables are spelled with
-abbrev pub SpelledSize : List ℕ → ℕ → ℕ → Type 0
-SpelledSize syllables count size = size ≡ length (joined (spelled_front syllables count))
+-- how many values the syllables are spelled with
+abbrev pub SpelledSize : List ℕ → ℕ → Type 0
+SpelledSize syllables size = size ≡ length (joined (spelled_each syllables))
 
 -- a syllable has a place of its own among the starts, and room among the values
 pub record SyllableRoom (packed number at : ℕ) (values starts : List ℕ) : Type 0 where
@@ -21,14 +21,13 @@ pub record SyllablePut (packed number at : ℕ) (before after : Lists) (behind :
   pub start : after.starts ≡ set before.starts number at
   pub values : PartPut before.values after.values at (spelled_by packed) behind
 
--- there are so many syllables, and both lists have room for them
-pub record Room (syllables : List ℕ) (count : ℕ) (values starts : List ℕ) : Type 0 where
-  pub held : count ≤ length syllables
-  pub short : count ≤ limit
-  pub values_fit : length (joined (spelled_front syllables count)) ≤ length values
-  pub starts_fit : count ≤ length starts
+-- there are so few syllables, and both lists have room for them
+pub record Room (syllables values starts : List ℕ) : Type 0 where
+  pub short : length syllables ≤ limit
+  pub values_fit : length (joined (spelled_each syllables)) ≤ length values
+  pub starts_fit : length syllables ≤ length starts
 
 -- both lists have their fronts written
-pub record SyllablesPut (syllables : List ℕ) (count : ℕ) (before after : Lists) : Type 0 where
-  pub values : after.values ≡ joined (spelled_front syllables count) ++ drop (length (joined (spelled_front syllables count))) before.values
-  pub starts : after.starts ≡ spelled_starts (spelled_front syllables count) ++ drop count before.starts
+pub record SyllablesPut (syllables : List ℕ) (before after : Lists) : Type 0 where
+  pub values : after.values ≡ joined (spelled_each syllables) ++ drop (length (joined (spelled_each syllables))) before.values
+  pub starts : after.starts ≡ spelled_starts (spelled_each syllables) ++ drop (length syllables) before.starts

@@ -6,6 +6,7 @@ use Rattle.formula.specs.Row.{Row, Gives}
 use Rattle.formula.specs.Spelled.{spelled}
 use Rattle.refusals.specs.Outcome.{Outcome, accepts_both, refuses}
 use Rattle.recogniser.specs.Answer.{Admissible, RefusedWith}
+use Rattle.spelling.specs.declared.Spelled.{Spelled}
 
 -- "The values go joined to one lent list"
 abbrev pub joined : List (List ℕ) → List ℕ
@@ -42,6 +43,10 @@ lists values starts = record { values = values; starts = starts }
 pub record Written (row : Row) (before after : Lists) : Type 0 where
   pub values : after.values ≡ joined (spelled row) ++ drop (length (joined (spelled row))) before.values
   pub starts : after.starts ≡ spelled_starts (spelled row) ++ drop (length (spelled row)) before.starts
+
+-- "Success .. tells how many values or bytes it wrote to each"
+abbrev pub spelled_told : Spelled → Outcome
+spelled_told spelled = accepts_both spelled.values spelled.syllables
 
 -- what the outcome says of the word, and of the lists before and after; a refusal "writes nothing"
 pub data SpellRight (word : List ℕ) (before after : Lists) : Outcome → Type 0 where

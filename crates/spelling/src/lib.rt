@@ -3,20 +3,28 @@
 
 ghost use Rattle.std.specs.Prelude.{◌≡◌, ◌≤◌, length};
 ghost use Rattle.formula.specs.Limits.{limit};
-ghost use Rattle.refusals.specs.Outcome.{reply_outcome};
+ghost use Rattle.refusals.specs.Outcome.{outcome_by};
 ghost use Rattle.reading.specs.Records.{bytes_by};
 ghost use Rattle.spelling.specs.Plain.{plain_link, plain_bytes};
 ghost use Rattle.spelling.specs.Put.{SpelledSize, SyllableRoom, SyllablePut, Room, SyllablesPut};
-ghost use Rattle.spelling.specs.Spell.{lists, SpellRight};
+ghost use Rattle.spelling.specs.Spell.{lists, spelled_told, SpellRight};
 
 use formula::Word;
-use refusals::{Refusal, Reply};
+use refusals::Refusal;
+use syllable_text::part::{part_size, put_part};
+
+// How many values a word is spelled with, and how many syllables, each of which begins at a place of its own.
+#[derive(Clone, Copy)]
+pub struct Spelled {
+    pub values: usize,
+    pub syllables: usize,
+}
 
 // The link of a final that is spelled: plain, where there is one.
 fn plain_link(link: u8) -> u8
     ensures { result ≡ plain_link link }
 {
-    if 1 < link { 1 } else { link }
+    link.min(1)
 }
 
 // The record of a packed syllable whose final is made plain.
@@ -28,16 +36,14 @@ fn plain_record(packed: u64) -> [u8; Word::RECORD]
     bytes
 }
 
-// How many values the first syllables are spelled with.
-fn measure(syllables: &[u64; Word::LIMIT], count: usize) -> usize
-    requires { (count ≤ length syllables.now) × (count ≤ limit) }
-    ensures { SpelledSize syllables.now count result }
+// How many values the syllables are spelled with.
+fn measure(syllables: &[u64]) -> usize
+    requires { length syllables.now ≤ limit }
+    ensures { SpelledSize syllables.now result }
 {
     let mut size = 0;
-    let mut number = 0;
-    while number < count {
-        size += syllable_text::part::part_size(plain_record(syllables[number]));
-        number += 1;
+    for packed in syllables {
+        size += part_size(plain_record(*packed));
     }
     size
 }
@@ -54,42 +60,38 @@ fn put_syllable(
     ensures { SyllablePut packed number at (lists values.old starts.old) (lists values.new starts.new) result }
 {
     starts[number] = at as u16;
-    syllable_text::part::put_part(values, at, 0, plain_record(packed))
+    put_part(values, at, 0, plain_record(packed))
 }
 
-// Writes the first syllables, spelled, to one list, and the place where each begins to the other.
-fn put(syllables: &[u64; Word::LIMIT], count: usize, values: &mut [u16], starts: &mut [u16])
-    requires { Room syllables.now count values.old starts.old }
-    ensures { SyllablesPut syllables.now count (lists values.old starts.old) (lists values.new starts.new) }
+// Writes the syllables, spelled, to one list, and the place where each begins to the other.
+fn put(syllables: &[u64], values: &mut [u16], starts: &mut [u16])
+    requires { Room syllables.now values.old starts.old }
+    ensures { SyllablesPut syllables.now (lists values.old starts.old) (lists values.new starts.new) }
 {
     let mut at = 0;
-    let mut number = 0;
-    while number < count {
-        at = put_syllable(syllables[number], number, at, values, starts);
-        number += 1;
+    for (number, packed) in syllables.iter().enumerate() {
+        at = put_syllable(*packed, number, at, values, starts);
     }
 }
 
 // Writes a word's spelled syllables to the front of `values`, and the place there where each begins to the front of `starts`;
 // tells how many of each were written.
-pub fn spell(word: &[u16], values: &mut [u16], starts: &mut [u16]) -> Result<Reply, Refusal>
-    ensures { SpellRight word.now (lists values.old starts.old) (lists values.new starts.new) (reply_outcome result) }
+pub fn spell(word: &[u16], values: &mut [u16], starts: &mut [u16]) -> Result<Spelled, Refusal>
+    ensures { SpellRight word.now (lists values.old starts.old) (lists values.new starts.new) (outcome_by spelled_told result) }
 {
-    let reading = reading::read::read(word);
-    let answer = reading.answer;
-    match answer {
-        Err(refusal) => Err(refusal),
-        Ok(count) => {
-            let syllables = reading.syllables;
-            let size = measure(&syllables, count);
-            if values.len() < size {
-                return Err(Refusal::OutputTooShort(size));
-            }
-            if starts.len() < count {
-                return Err(Refusal::OutputTooShort(count));
-            }
-            put(&syllables, count, values, starts);
-            Ok(Reply::Two(size, count))
-        }
+    let reading = reading::read::read(word)?;
+    let syllables = reading.row();
+    let count = syllables.len();
+    let size = measure(syllables);
+    if values.len() < size {
+        return Err(Refusal::OutputTooShort(size));
     }
+    if starts.len() < count {
+        return Err(Refusal::OutputTooShort(count));
+    }
+    put(syllables, values, starts);
+    Ok(Spelled {
+        values: size,
+        syllables: count,
+    })
 }

@@ -1,14 +1,22 @@
--- `spelling::plain_link` meets its contract: the branch is the choice of the definition.
+-- `spelling::plain_link` meets its contract: no link above 1 is the lesser of it and 1.
 -- Assumes nothing.
-use borrow.Author.Rules.{rules}
-use Rattle.letters.proofs.Picks.{picks}
+use mathlib.Core.Path.{◌≡◌, ◌∙◌}
+use Prim.Native.Nat.{ℕ, ◌<◌}
+use native.Mathlib.Decide.{dec_lt}
+use native.Mathlib.Omega.{arith}
+use borrow.Author.Tests.{lt-ltb, le-ltb}
+use Rattle.std.specs.Prelude.{min}
+use Rattle.letters.proofs.Picks.{pick_yes, pick_no}
 use Rattle.spelling.specs.Plain.{plain_link}
 use Rattle.spelling.proofs.plain_link.Goals as goal
 
-pub returns-then-link-gt1 : goal.returns-then-link-gt1
+least : (link : ℕ) → min link 1 ≡ plain_link link
 unfolding plain_link
-returns-then-link-gt1 c = search (rules, picks) depth 14
+least link = go (dec_lt 1 link)
+  where
+    go : Dec (1 < link) → min link 1 ≡ plain_link link
+    go (yes h) = pick_yes _ _ 1 link (lt-ltb 1 link h) (omega arith)
+    go (no h) = pick_no _ _ 1 link (le-ltb 1 link (omega arith)) (omega arith)
 
-pub returns-else-link-gt1 : goal.returns-else-link-gt1
-unfolding plain_link
-returns-else-link-gt1 c = search (rules, picks) depth 14
+pub returns : goal.returns
+returns c = c.min.ensures ∙ least c.args.link
