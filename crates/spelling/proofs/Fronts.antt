@@ -2,10 +2,12 @@
 -- Assumes nothing.
 use mathlib.Core.Path.{◌≡◌, refl, ap, sym, ◌∙◌}
 use mathlib.Core.List.{List, [], ◌∷◌, ◌++◌, map-append, append-nil, append_assoc}
-use Prim.Native.Nat.{ℕ, zero, suc, ◌+◌, ◌*◌, ◌≤◌, ◌<◌}
-use native.Mathlib.Nat.{zero-add, le_of_suc-le-suc, not-suc-le-zero}
+use Prim.Native.Nat.{ℕ, suc, ◌+◌, ◌*◌, ◌≤◌, ◌<◌}
+use native.Mathlib.Nat.{zero-add}
 use native.Mathlib.Numerals.{add-one}
 use native.Mathlib.Omega.{arith}
+use Rattle.std.specs.List.{sum_by}
+use Rattle.std.proofs.lemmas.List.Sums.{sum_by-cons, sum_by-take-le}
 use lib.ListN.{length, get_or, take, drop, set, length-append, length-map, length-drop}
 use lib.Seq.{take_all, take-suc, drop-cons, set_at, length-take-le, append_snoc}
 use Rattle.formula.specs.Syllable.{no_final, part}
@@ -16,7 +18,7 @@ use Rattle.syllable_text.specs.Part.{part_after, PartPut}
 use Rattle.syllable_text.proofs.Putting.{put_length, put_behind}
 use Rattle.spelling.specs.Spell.{joined, starts_from, spelled_starts, lists}
 use Rattle.spelling.specs.Plain.{plain_bytes, spelled_by, spelled_each}
-use Rattle.spelling.specs.Put.{SpelledSize, SyllableRoom, SyllablePut, Room, SyllablesPut}
+use Rattle.spelling.specs.Put.{SyllableRoom, SyllablePut, Room, SyllablesPut}
 use Rattle.spelling.proofs.Plains.{part_spelled, by_small}
 
 -- the first syllables of a list, each spelled
@@ -56,37 +58,17 @@ module _ (syllables : List ℕ) (number : ℕ) where
         let same : 0 + length (joined (spelled_front syllables number)) ≡ length (joined (spelled_front syllables number)) = omega arith in
         rw (front_more, starts_more 0 (spelled_front syllables number) (spelled_by (get_or syllables number d)), same)
 
--- the pass that counts
-pub record Measured (syllables : List ℕ) (size number : ℕ) : Type 0 where
-  pub counted : SpelledSize (take number syllables) size
-  pub small : size ≤ 13 * number
+-- the size of syllables is the sum of their sizes
+pub size_sum : (syllables : List ℕ) → length (joined (spelled_each syllables)) ≡ sum_by (λ packed. length (spelled_by packed)) syllables
+size_sum [] = refl
+size_sum (s ∷ syllables) =
+    length-append (spelled_by s) (joined (spelled_each syllables)) ∙ ap (λ (n : ℕ). length (spelled_by s) + n) (size_sum syllables)
+    ∙ sym (sum_by-cons (λ packed. length (spelled_by packed)) s syllables)
 
-pub measured_none : (syllables : List ℕ) → Measured syllables 0 0
-measured_none syllables = record { counted = refl; small = omega arith }
-
-module _ (syllables : List ℕ) (size number : ℕ) (p : Measured syllables size number) where
-  pub measured_more : number < length syllables → (d : ℕ) (bytes : List ℕ) → bytes ≡ plain_bytes (bytes_by (get_or syllables number d)) → (more : ℕ)
-      → PartSize bytes more → Measured syllables (size + more) (number + 1)
-  unfolding spelled_by
-  measured_more next d bytes is more s =
-      let same : more ≡ length (spelled_by (get_or syllables number d)) = s.counted ∙ ap (λ (l : List ℕ). length (part no_final (syllable_of l))) is in
-      record { counted = omega (arith, p.counted, size_more syllables number d next); small = omega (arith, p.small, s.small) }
-
-  pub measured_all : length syllables ≤ number → SpelledSize syllables size
-  measured_all end = rw (← take_all number syllables end) p.counted
-
--- fewer syllables have no more values
-size_grows : (syllables : List ℕ) (few many : ℕ) → few ≤ many → length (joined (spelled_front syllables few)) ≤ length (joined (spelled_front syllables many))
-size_grows syllables zero many h = omega arith
-size_grows [] (suc few) many h = omega arith
-size_grows (s ∷ syllables) (suc few) zero h = absurd (not-suc-le-zero h)
-size_grows (s ∷ syllables) (suc few) (suc many) h =
-    omega (
-      arith,
-      length-append (spelled_by s) (joined (spelled_front syllables few)),
-      length-append (spelled_by s) (joined (spelled_front syllables many)),
-      size_grows syllables few many (le_of_suc-le-suc h),
-    )
+-- and of one, that of its record's part
+pub record_size_is : (packed : ℕ) (bytes : List ℕ) → bytes ≡ plain_bytes (bytes_by packed) → (size : ℕ) → PartSize bytes size → size ≡ length (spelled_by packed)
+unfolding spelled_by
+record_size_is packed bytes is size s = s.counted ∙ ap (λ (l : List ℕ). length (part no_final (syllable_of l))) is
 
 -- one syllable by its record: there is room for its part, and it is put
 module _ (packed number at : ℕ) (values starts bytes : List ℕ) (is : bytes ≡ plain_bytes (bytes_by packed)) where
@@ -115,18 +97,13 @@ filled_none syllables values starts = record {
 module _ (syllables values starts new_values new_starts : List ℕ) (at number : ℕ)
     (p : Filled syllables values starts new_values new_starts at number) (r : Room syllables values starts) where
   -- the first syllables have no more values than all
-  front_fits : (few : ℕ) → few ≤ length syllables → length (joined (spelled_front syllables few)) ≤ length values
-  front_fits few h =
-      omega (
-        arith,
-        size_grows syllables few (length syllables) h,
-        ap (λ (l : List ℕ). length (joined (spelled_each l))) (take_all (length syllables) syllables (omega arith)),
-        r.values_fit,
-      )
+  front_fits : (few : ℕ) → length (joined (spelled_front syllables few)) ≤ length values
+  front_fits few =
+      omega (arith, size_sum (take few syllables), size_sum syllables, sum_by-take-le (λ packed. length (spelled_by packed)) syllables few, r.values_fit)
 
   -- the lists are as long as before
   pub values_length : length new_values ≡ length values
-  values_length = put_length values new_values 0 (joined (spelled_front syllables number)) at p.values_put (omega (arith, front_fits number p.within))
+  values_length = put_length values new_values 0 (joined (spelled_front syllables number)) at p.values_put (omega (arith, front_fits number))
 
   starts_number : length (spelled_starts (spelled_front syllables number)) ≡ number
   starts_number = starts_length 0 (spelled_front syllables number) ∙ front_length syllables number p.within
@@ -148,7 +125,7 @@ module _ (syllables values starts new_values new_starts : List ℕ) (at number :
 
   module _ (next : number < length syllables) (d : ℕ) where
     fits : length (joined (spelled_front syllables number)) + length (spelled_by (get_or syllables number d)) ≤ length values
-    fits = omega (arith, size_more syllables number d next, front_fits (number + 1) (omega arith))
+    fits = omega (arith, size_more syllables number d next, front_fits (number + 1))
 
     -- there is room for the next syllable
     pub filled_room : SyllableRoom (get_or syllables number d) number at new_values new_starts

@@ -5,7 +5,7 @@ ghost use Rattle.std.specs.Prelude.{◌≡◌, ◌≤◌, length};
 ghost use Rattle.formula.specs.Limits.{limit};
 ghost use Rattle.refusals.specs.Outcome.{outcome_by};
 ghost use Rattle.reading.specs.Records.{bytes_by};
-ghost use Rattle.spelling.specs.Plain.{plain_link, plain_bytes};
+ghost use Rattle.spelling.specs.Plain.{plain_link, plain_bytes, spelled_by};
 ghost use Rattle.spelling.specs.Put.{SpelledSize, SyllableRoom, SyllablePut, Room, SyllablesPut};
 ghost use Rattle.spelling.specs.Spell.{lists, spelled_told, SpellRight};
 
@@ -36,16 +36,20 @@ fn plain_record(packed: u64) -> [u8; Word::RECORD]
     bytes
 }
 
+// How many values a packed syllable is spelled with.
+fn spelled_size(packed: u64) -> usize
+    ensures is { result ≡ length (spelled_by packed) }
+    ensures small { result ≤ 13 }
+{
+    part_size(plain_record(packed))
+}
+
 // How many values the syllables are spelled with.
 fn measure(syllables: &[u64]) -> usize
     requires { length syllables.now ≤ limit }
     ensures { SpelledSize syllables.now result }
 {
-    let mut size = 0;
-    for packed in syllables {
-        size += part_size(plain_record(*packed));
-    }
-    size
+    syllables.iter().map(|packed| spelled_size(*packed)).sum()
 }
 
 // Writes a syllable, spelled, from a place of one list on, and the place as its start to the other; gives the place behind the syllable.

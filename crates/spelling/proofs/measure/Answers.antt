@@ -1,14 +1,14 @@
--- `spelling::measure` meets its contract. The loop's invariant is `Measured`: the size is that of the syllables so far.
+-- `spelling::measure` meets its contract: the sizes are summed.
 -- Assumes nothing.
+use mathlib.Core.Path.{◌≡◌, sym, ◌∙◌}
 use borrow.Author.Rules.{rules}
-use Rattle.spelling.proofs.Fronts.{measured_none, measured_more, measured_all}
+use lib.ListN.{length}
+use Rattle.std.specs.List.{sum_by}
+use Rattle.spelling.specs.Plain.{spelled_by}
+use Rattle.spelling.proofs.Fronts.{size_sum}
 use Rattle.spelling.proofs.measure.Goals as goal
 
-pub loop-packed-init : goal.loop-packed-init
-loop-packed-init c = measured_none c.args.syllables.now
-
-pub loop-packed-preserved : goal.loop-packed-preserved
-loop-packed-preserved c = search (rules, measured_more) depth 14
-
 pub returns : goal.returns
-returns c = search (rules, measured_all) depth 14
+returns c =
+    let summed : c.sum.result ≡ sum_by (λ packed. length (spelled_by packed)) c.args.syllables.now = search rules in
+    summed ∙ sym (size_sum c.args.syllables.now)
