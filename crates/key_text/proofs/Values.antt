@@ -7,10 +7,6 @@ use lib.ListN.{length}
 use Rattle.key_text.specs.Text.{value_text, value_text_at, values_text, value_text_size}
 use Rattle.key_text.proofs.Hyphens.{hyphenated_short}
 
-pub value_length : (value : ℕ) → length (value_text value) ≡ value_text_size
-unfolding value_text
-value_length value = refl
-
 pub value_length_at : (values : List ℕ) (place : ℕ) → length (value_text_at values place) ≡ value_text_size
 unfolding value_text_at value_text
 value_length_at values place = refl

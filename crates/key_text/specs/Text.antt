@@ -50,10 +50,6 @@ abbrev pub hyphenated : (ℕ → List ℕ) → ℕ → List ℕ
 hyphenated element zero = 0x2D ∷ []
 hyphenated element (suc count) = element 0 ++ further_text element count
 
--- what stands behind the first elements, as many as the first number says, of the second: a hyphen where another follows; an inner contract cites it
-unfoldable pub hyphen_behind : ℕ → ℕ → List ℕ
-hyphen_behind done count = pick (ltb done count) (0x2D ∷ []) []
-
 -- "with hyphens between syllables (one hyphen for none)"
 abbrev pub key_text : ℕ → List ℕ → List ℕ
 key_text count key = hyphenated (syllable_text key) count

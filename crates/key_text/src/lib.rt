@@ -1,10 +1,11 @@
 // Numbers, keys, values and single bytes as text, written into a lent list at a place. Each function answers the place behind what it wrote.
 #![tactic(auto)]
 
-ghost use Rattle.std.specs.Prelude.{suc, ◌+◌, ◌*◌, ◌≤◌, ◌<◌, ◌≡◌, [], ◌∷◌, length};
+ghost use Rattle.std.specs.Prelude.{suc, ℕ, List, ◌+◌, ◌*◌, ◌≤◌, ◌<◌, ◌≡◌, [], ◌∷◌, length};
 ghost use Rattle.formula.specs.Limits.{limit};
-ghost use Rattle.key_text.specs.Text.{digit_of, decimal_of, hexadecimal_of, hyphen_behind, syllable_text, key_text, value_text, values_text};
+ghost use Rattle.key_text.specs.Text.{digit_of, decimal_of, hexadecimal_of, hexadecimals_of, hyphenated, key_text, value_text, values_text};
 ghost use Rattle.key_text.specs.Text.{decimal_limit, syllable_text_size, key_text_limit, value_text_size};
+ghost use Rattle.key_text.specs.Elements.{text_at, weights_text, weights_length, value_length};
 ghost use Rattle.memory.specs.Put.{Put};
 
 use formula::Word;
@@ -24,7 +25,17 @@ pub fn put(out: &mut [u8], at: usize, byte: u8) -> usize
     at + 1
 }
 
+// Bytes as they are, one behind the other.
+pub fn put_text(out: &mut [u8], at: usize, text: &[u8]) -> usize
+    requires { at + length text.now ≤ length out.old }
+    ensures { Put out.old at text.now out.new result }
+{
+    out[at..at + text.len()].copy_from_slice(text);
+    at + text.len()
+}
+
 // The byte of a digit below 16, in upper case.
+#[tactic(auto, unfolding(crate::specs::Text::digit_of, letters::specs::Choice::pick))]
 fn digit(value: u8) -> u8
     requires { value < 16 }
     ensures { result ≡ digit_of value }
@@ -57,27 +68,71 @@ fn put_hexadecimal(out: &mut [u8], at: usize, byte: u8) -> usize
     put(out, next, digit(byte % 16))
 }
 
-// The weights of a syllable of a key.
-fn put_syllable(out: &mut [u8], at: usize, key: &[u8; Word::KEY], syllable: usize) -> usize
-    requires { (at + syllable_text_size ≤ length out.old) × (syllable < limit) }
-    ensures { Put out.old at (syllable_text key.now syllable) out.new result }
+// Bytes in hexadecimal, one behind the other.
+fn put_bytes(out: &mut [u8], at: usize, bytes: &[u8]) -> usize
+    requires { at + 2 * length bytes.now ≤ length out.old }
+    ensures { Put out.old at (hexadecimals_of (length bytes.now) bytes.now 0) out.new result }
 {
-    let first = Word::WEIGHTS * syllable;
     let mut next = at;
-    let mut done = 0;
-    while done < Word::WEIGHTS {
-        next = put_hexadecimal(out, next, key[first + done]);
-        done += 1;
+    for byte in bytes {
+        next = put_hexadecimal(out, next, *byte);
     }
     next
 }
 
-// A hyphen behind the first `done` elements of `count`, where another follows.
-fn put_hyphen(out: &mut [u8], at: usize, done: usize, count: usize) -> usize
-    requires { at < length out.old }
-    ensures { Put out.old at (hyphen_behind done count) out.new result }
+// What stands between hyphens; its text has one length for the whole type.
+trait Element {
+    ghost text: { Self → List ℕ };
+
+    ghost size: { ℕ };
+
+    ghost sized: { (element : Self) → length (text element) ≡ size };
+
+    fn put(&self, out: &mut [u8], at: usize) -> usize
+        requires { at + size ≤ length out.old }
+        ensures { Put out.old at (text self.now) out.new result };
+}
+
+// A value, in four hexadecimal digits.
+impl Element for u16 {
+    ghost text = { value_text };
+
+    ghost size = { value_text_size };
+
+    ghost sized = { value_length };
+
+    fn put(&self, out: &mut [u8], at: usize) -> usize {
+        put_bytes(out, at, &self.to_be_bytes())
+    }
+}
+
+// The weights of a syllable of a key, two hexadecimal digits each.
+impl Element for [u8; Word::WEIGHTS] {
+    ghost text = { weights_text };
+
+    ghost size = { syllable_text_size };
+
+    ghost sized = { weights_length };
+
+    fn put(&self, out: &mut [u8], at: usize) -> usize {
+        put_bytes(out, at, self)
+    }
+}
+
+// Elements with hyphens between them, and one hyphen for none.
+fn put_elements<T: Element>(out: &mut [u8], at: usize, elements: &[T]) -> usize
+    requires { (at + suc T.size * length elements.now ≤ length out.old) × (at < length out.old) }
+    ensures { Put out.old at (hyphenated (text_at T.text elements.now) (length elements.now)) out.new result }
 {
-    if done < count { put(out, at, b'-') } else { at }
+    let Some((first, others)) = elements.split_first() else {
+        return put(out, at, b'-');
+    };
+    let mut next = first.put(out, at);
+    for element in others {
+        let spaced = put(out, next, b'-');
+        next = element.put(out, spaced);
+    }
+    next
 }
 
 // A key of `count` syllables, with hyphens between them.
@@ -85,26 +140,8 @@ pub fn put_key(out: &mut [u8], at: usize, count: usize, key: &[u8; Word::KEY]) -
     requires { (at + key_text_limit ≤ length out.old) × (count ≤ limit) }
     ensures { Put out.old at (key_text count key.now) out.new result }
 {
-    if count == 0 {
-        return put(out, at, b'-');
-    }
-    let mut next = at;
-    let mut done = 0;
-    while done < count {
-        next = put_syllable(out, next, key, done);
-        done += 1;
-        next = put_hyphen(out, next, done, count);
-    }
-    next
-}
-
-// A value as four hexadecimal digits.
-fn put_value(out: &mut [u8], at: usize, value: u16) -> usize
-    requires { at + value_text_size ≤ length out.old }
-    ensures { Put out.old at (value_text value) out.new result }
-{
-    let next = put_hexadecimal(out, at, (value / 256) as u8);
-    put_hexadecimal(out, next, (value % 256) as u8)
+    let (syllables, _) = key.as_chunks::<{ Word::WEIGHTS }>();
+    put_elements(out, at, &syllables[..count])
 }
 
 // Values with hyphens between them.
@@ -112,15 +149,5 @@ pub fn put_values(out: &mut [u8], at: usize, values: &[u16]) -> usize
     requires { (at + suc value_text_size * length values.now ≤ length out.old) × (at < length out.old) }
     ensures { Put out.old at (values_text values.now) out.new result }
 {
-    if values.len() == 0 {
-        return put(out, at, b'-');
-    }
-    let mut next = at;
-    let mut done = 0;
-    while done < values.len() {
-        next = put_value(out, next, values[done]);
-        done += 1;
-        next = put_hyphen(out, next, done, values.len());
-    }
-    next
+    put_elements(out, at, values)
 }
