@@ -1,23 +1,14 @@
 // Chains of live records by a hash of their words, so that a repeated word is found without a comparison of every pair.
-ghost use Rattle.std.specs.Prelude.{◌≡◌, List, ◌+◌, ◌≤◌, ◌<◌, T, length};
+ghost use Rattle.std.specs.Prelude.{◌≡◌, List, ◌+◌, ◌<◌};
 ghost use Rattle.entries.specs.Limits.{book_limit};
-ghost use Rattle.entries.specs.Entries.{Entry, word_at, is_framed, holds};
-ghost use Rattle.book_check.specs.Chain.{word_bytes, hash_of, buckets, Chained, Ready};
+ghost use Rattle.entries.specs.Entries.{Entry, word_at, holds};
+ghost use Rattle.book_check.specs.Chain.{hash_of, buckets, Chained, Ready};
 
 use crate::open::BOOK_LIMIT;
-use book_frame::HEAD;
+use crate::record::word_of;
 
 // How many chains there are.
 pub(crate) const BUCKETS: usize = 1024;
-
-// The bytes of the word of the record at a place.
-pub(crate) fn word_of(book: &[u8], at: usize) -> &[u8]
-    requires { (length book.now ≤ book_limit) × T (is_framed book.now at) }
-    ensures { result.now ≡ word_bytes book.now at }
-{
-    let from = at + HEAD;
-    &book[from..from + usize::from(book[at + 2])]
-}
 
 // The chain of a word, from its bytes.
 pub(crate) fn bucket_of(word: &[u8]) -> usize

@@ -2,8 +2,8 @@
 ghost use Rattle.std.specs.Prelude.{◌≡◌, position};
 ghost use Rattle.book_check.specs.Opening.{is_stray, OpenRight};
 
-use crate::chain::{BUCKETS, bucket_of, is_repeated, link_to, word_of};
-use crate::record::Record;
+use crate::chain::{BUCKETS, bucket_of, is_repeated, link_to};
+use crate::record::{Record, word_of};
 use book_frame::is_record;
 use refusals::Refusal;
 

@@ -1,6 +1,8 @@
 // The record at a place of a buffer, as a walk over the records needs it.
-ghost use Rattle.std.specs.Prelude.{◌≡◌, ◌+◌, ◌≤◌, ◌<◌, eqb, length, get_or};
+ghost use Rattle.std.specs.Prelude.{◌≡◌, ◌+◌, ◌≤◌, ◌<◌, T, eqb, length, get_or};
 ghost use Rattle.entries.specs.Limits.{book_limit, head_size};
+ghost use Rattle.entries.specs.Entries.{is_framed};
+ghost use Rattle.book_check.specs.Chain.{word_bytes};
 
 use book_frame::HEAD;
 
@@ -23,4 +25,13 @@ impl Record {
             size: HEAD + usize::from(book[place + 2]),
         }
     }
+}
+
+// The bytes of the word of the record at a place.
+pub fn word_of(book: &[u8], at: usize) -> &[u8]
+    requires { (length book.now ≤ book_limit) × T (is_framed book.now at) }
+    ensures { result.now ≡ word_bytes book.now at }
+{
+    let from = at + HEAD;
+    &book[from..from + usize::from(book[at + 2])]
 }

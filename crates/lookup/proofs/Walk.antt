@@ -1,10 +1,11 @@
 -- A pass over the records of a book that searches for the first entry of a kind: none of those passed is of it, so the search finds in the whole list
 -- what it finds among those ahead. Assumes nothing.
-use mathlib.Core.Path.{◌≡◌, refl, sym, ap, ◌∙◌}
+use mathlib.Core.Path.{◌≡◌, refl, sym, ap, subst, ◌∙◌}
 use mathlib.Core.Bool.{Bool, true, false, ◌&&◌}
 use mathlib.Core.List.{List, [], ◌∷◌}
 use mathlib.Core.Option.{Option, none, some}
 use Prim.Native.Nat.{ℕ, ◌+◌, ◌≤◌, ◌<◌}
+use native.Mathlib.Omega.{arith}
 use lib.ListN.{get_or}
 use Rattle.letters.specs.Choice.{pick}
 use Rattle.letters.proofs.Tests.{pick_true, pick_false}
@@ -17,6 +18,7 @@ use Rattle.entries.specs.Tidy.{live_length}
 use Rattle.entries.proofs.Agree.{only, opened_is}
 use Rattle.entries.proofs.Walk.{Walk, walk_start, Turn, turn, walk_end}
 use Rattle.lookup.specs.Look.{look_of_entry, look_of}
+use Rattle.std.specs.Prelude.{Ok}
 
 -- a search gives the first entry that passes a test
 pub record Searches (test : Entry → Bool) (search : List Entry → Option Entry) : Type 0 where
@@ -59,6 +61,12 @@ module _ {test : Entry → Bool} {search : List Entry → Option Entry} (s : Sea
           same = ahead_finds ∙ pick_false (test (entry_at b at)) _ _ e;
         }
 
+    -- the same, behind the record's size
+    pub miss_to : {next : ℕ} → next ≡ at + (head_size + get_or b (at + 2) 0) → test (entry_at b at) ≡ false → Ahead search b next free
+    miss_to {next} there e =
+        let place : at + head_size + get_or b (at + 2) 0 ≡ next = omega (arith, there) in
+        subst (λ (n : ℕ). Ahead search b n free) place (miss e)
+
   pub done : free ≤ at → search a.list ≡ none
   done h = a.same ∙ ap search (walk_end b at free a.list a.seen a.rest a.walk h) ∙ s.nothing
 
@@ -69,7 +77,7 @@ lookup_searches w = record { nothing = refl; first = λ entry list. refl }
 
 -- what looking a word up tells, by what it looks up in the book's entries
 pub looked : (b : List ℕ) (free : ℕ) (w : List ℕ) (o : Opened b free) (list : List Entry) → IsBook b list → (x : Option Entry) → lookup list w ≡ x
-    → look_of (entries b) w ≡ look_of_entry x free (live_length list)
+    → look_of (entries b) w ≡ Ok (look_of_entry x free (live_length list))
 looked b free w o list k x e =
     ap (λ (y : Entries). look_of y w) (opened_is b free o) ∙ ap (λ (l : List Entry). look_of (book l free) w) (only b o.list list o.is_book k)
-    ∙ ap (λ (y : Option Entry). look_of_entry y free (live_length list)) e
+    ∙ ap (λ (y : Option Entry). Ok (look_of_entry y free (live_length list))) e

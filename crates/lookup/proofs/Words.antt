@@ -1,28 +1,28 @@
--- A word and its bytes in the buffer, compared value by value.
+-- A word and the bytes of a record, compared value by value.
 -- Assumes nothing.
-use mathlib.Core.Path.{◌≡◌, sym, ap, subst, ◌∙◌}
-use mathlib.Core.Bool.{true, false}
-use mathlib.Core.List.{List, map}
-use Prim.Native.Nat.{ℕ, ◌+◌, ◌≤◌, ◌<◌}
-use native.Mathlib.Omega.{arith}
-use lib.Dec.{T}
-use lib.ListN.{length, get_or}
-use lib.Seq.{ext_get_or}
-use Rattle.letters.proofs.Tests.{is_true, is_false}
-use Rattle.formula.proofs.Lists.{same_list, same_list_equal, same_list_refl}
+use Rattle.std.proofs.Common.{◌≡◌, ap, refl, sym, ◌∙◌, Bool, false, ◌&&◌, List, [], ◌∷◌, map, ℕ, eqb, length, arith}
+use Rattle.std.specs.List.{list_all, zip}
+use lib.ListN.{length-map}
+use Rattle.letters.proofs.Tests.{is_false}
+use Rattle.formula.proofs.Lists.{same_list, same_list_equal}
 use Rattle.entries.specs.Entries.{value_of}
-use Rattle.book_frame.proofs.Parts.{part, length_values, value_at}
 
-pub word_same : (b w : List ℕ) (from : ℕ) → from + length w ≤ length b → ((k : ℕ) → k < length w → value_of (get_or b (from + k) 0) ≡ get_or w k 0)
-    → same_list (map value_of (part b from (length w))) w ≡ true
-word_same b w from h f =
-    let n : length (map value_of (part b from (length w))) ≡ length w = length_values b from (length w) h in
-    let e : map value_of (part b from (length w)) ≡ w =
-    ext_get_or 0 (map value_of (part b from (length w))) w n (λ i k. let g : i < length w = omega arith in value_at b from (length w) i h g ∙ f i g) in
-    is_true (same_list (map value_of (part b from (length w))) w) (subst (λ (l : List ℕ). T (same_list (map value_of (part b from (length w))) l)) e (same_list_refl (map value_of (part b from (length w)))))
+-- a value is that of a byte
+abbrev pub is_value : ℕ × ℕ → Bool
+is_value pair = eqb (value_of pair.0) pair.1
 
-pub word_differs : (b w : List ℕ) (from k : ℕ) → from + length w ≤ length b → k < length w → (value_of (get_or b (from + k) 0) ≡ get_or w k 0 → ⊥)
-    → same_list (map value_of (part b from (length w))) w ≡ false
-word_differs b w from k h l f =
-    is_false (same_list (map value_of (part b from (length w))) w)
-    (λ t. f (sym (value_at b from (length w) k h l) ∙ ap (λ (m : List ℕ). get_or m k 0) (same_list_equal (map value_of (part b from (length w))) w t)))
+-- each value of the word is that of its byte
+pub each_same : (bytes word : List ℕ) → length bytes ≡ length word → list_all is_value (zip bytes word) ≡ same_list (map value_of bytes) word
+each_same [] [] e = refl
+each_same [] (y ∷ word) e = let z : ⊥ = omega (arith, e) in absurd z
+each_same (x ∷ bytes) [] e = let z : ⊥ = omega (arith, e) in absurd z
+each_same (x ∷ bytes) (y ∷ word) e = ap (λ (t : Bool). eqb (value_of x) y && t) (each_same bytes word (omega (arith, e)))
+
+-- a word with another number of values is another
+pub other_length : (bytes word : List ℕ) → (length bytes ≡ length word → ⊥) → same_list (map value_of bytes) word ≡ false
+other_length [] [] f = absurd (f refl)
+other_length [] (y ∷ word) f = refl
+other_length (x ∷ bytes) [] f = refl
+other_length (x ∷ bytes) (y ∷ word) f =
+    is_false (same_list (map value_of (x ∷ bytes)) (y ∷ word))
+    (λ t. f (sym (length-map (x ∷ bytes) value_of) ∙ ap length (same_list_equal (map value_of (x ∷ bytes)) (y ∷ word) t)))

@@ -1,8 +1,8 @@
--- `book_check::chain::word_of` meets its contract: the frame says that the word stands within the buffer.
+-- `book_check::record::word_of` meets its contract: the frame says that the word stands within the buffer.
 -- Assumes nothing.
 use Rattle.std.proofs.Common.{arith}
 use Rattle.entries.proofs.Records.{framed_true}
-use Rattle.book_check.proofs.chain.word_of.Goals as goal
+use Rattle.book_check.proofs.record.word_of.Goals as goal
 
 pub overflow_add-from : goal.overflow_add-from
 overflow_add-from c = let f = framed_true _ _ c.requires.1 in omega (arith, f.room, c.requires.0)
