@@ -1,6 +1,6 @@
 -- A record that fits behind the last one is planned there. `behind_last` is the set of rules by which the check finds it.
 -- Assumes nothing.
-use mathlib.Core.Path.{◌≡◌, ap, ◌∙◌}
+use mathlib.Core.Path.{◌≡◌, ap}
 use mathlib.Core.List.{List}
 use Prim.Native.Nat.{ℕ, ◌-◌, ◌≤◌}
 use native.Mathlib.Omega.{arith}
@@ -14,6 +14,7 @@ use Rattle.entries.proofs.Agree.{only}
 use Rattle.entries.proofs.Records.{end_length}
 use Rattle.entries.proofs.Walk.{free_within}
 use Rattle.entries.proofs.Tidied.{live_before_lem}
+use Rattle.std.specs.Prelude.{Ok}
 use Rattle.planning.specs.Plan.{plan_outcome}
 use Rattle.planning.specs.declared.Plan.TheVariants.{Behind}
 use Rattle.planning.proofs.Plans.{fits}
@@ -23,7 +24,7 @@ pub live_within : {book : List ℕ} {free : ℕ} → Opened book free → (list 
 live_within {book} o list k = omega (arith, o.end, live_before_lem list, ap (end_of 0) (only book list o.list k o.is_book))
 
 pub behind_answer : (book : List ℕ) (free size : ℕ) → Opened book free → size ≤ length book - free → (list : List Entry) → IsBook book list
-    → plan_outcome (Behind free) ≡ placing list free (length book) size
+    → plan_outcome (Ok (Behind free)) ≡ placing list free (length book) size
 behind_answer book free size o h list k =
     let w = free_within book free o in fits list free (length book) size (live_within o list k) (omega arith)
 

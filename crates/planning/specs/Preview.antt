@@ -1,7 +1,11 @@
 -- Document 02, "See an add before doing it": what a preview tells, by the answer that add gives. Assumes nothing.
 use Rattle.std.specs.Prelude.{Bool, false, ℕ, eqb}
-use Rattle.refusals.specs.Outcome.{Outcome, accepts, accepts_both, absent, refuses, reply_outcome}
-use Rattle.planning.specs.declared.Preview.{Preview}
+use Rattle.std.specs.Prelude.{Result, Ok, Err}
+use Rattle.refusals.specs.declared.Refusal.{Refusal}
+use Rattle.refusals.specs.Refusal.{number_of, place_of}
+use Rattle.refusals.specs.Outcome.{Outcome, accepts, accepts_both, absent, refuses}
+use Rattle.planning.specs.declared.Added.{Added}
+use Rattle.planning.specs.Plan.{added_told}
 
 -- "the answer that add gives on a copy of the book, refusal and place included, and the byte where the record would start"; "whether the add would tidy"
 pub record PreviewOutcome : Type 0 where
@@ -27,6 +31,7 @@ tidies_of (refuses number place) = false
 abbrev pub preview_of : Outcome → PreviewOutcome
 preview_of answer = record { answer = answer; start = start_of answer; tidies = tidies_of answer }
 
--- what a preview comes to
-abbrev pub preview_outcome : Preview → PreviewOutcome
-preview_outcome preview = record { answer = reply_outcome preview.answer; start = preview.start; tidies = preview.tidies }
+-- what a preview comes to: it gives the answer of add, in which stands what is told beside it
+abbrev pub preview_outcome : Result Added Refusal → PreviewOutcome
+preview_outcome (Ok added) = record { answer = added_told added; start = added.start; tidies = added.tidied }
+preview_outcome (Err refusal) = record { answer = refuses (number_of refusal) (place_of refusal); start = 0; tidies = false }

@@ -1,18 +1,12 @@
 -- `planning::plan_record` meets its contract: the record fits behind the last one, or only behind the live ones, or nowhere.
 -- Assumes nothing.
 use mathlib.Core.Path.{ap, ◌∙◌}
-use mathlib.Core.List.{List}
 use Prim.Native.Nat.{◌≤◌}
 use native.Mathlib.Omega.{arith}
 use lib.ListN.{length}
 use Rattle.refusals.specs.Outcome.{refuses}
-use Rattle.entries.specs.Entries.{Entry}
-use Rattle.entries.specs.Book.{end_of, IsBook}
-use Rattle.entries.specs.Tidy.{live_length}
 use Rattle.entries.specs.Outcome.{tidies_and_puts}
-use Rattle.entries.proofs.Agree.{only}
 use Rattle.entries.proofs.Walk.{free_within}
-use Rattle.entries.proofs.Tidied.{live_before_lem}
 use Rattle.planning.proofs.Behind.{live_within}
 use Rattle.planning.proofs.Plans.{fits_tidied, full}
 use Rattle.planning.proofs.plan_record.Goals as goal
