@@ -4,12 +4,14 @@ ghost use Rattle.likeness.specs.Likeness.{LookAlikeAnswers};
 ghost use Rattle.packing.specs.Packing.{Packed};
 ghost use Rattle.packing.specs.Answers.{outcome_numbers, pair_numbers};
 
+use packing::Pack;
+
 // Whether a word is a label, and how many syllables it has.
 #[unsafe(no_mangle)]
 pub extern "C" fn jogcairn_label(word: &[u16]) -> u64
     ensures { Packed (LabelAnswers word.now) outcome_numbers result }
 {
-    packing::of_counted(labelling::label(word))
+    labelling::label(word).pack()
 }
 
 // Writes the skeleton of a label.
@@ -17,7 +19,7 @@ pub extern "C" fn jogcairn_label(word: &[u16]) -> u64
 pub extern "C" fn jogcairn_skeleton(word: &[u16], skeleton: &mut [u16]) -> u64
     ensures { Packed (SkeletonRight word.now skeleton.old skeleton.new) outcome_numbers result }
 {
-    packing::of_counted(labelling::skeleton(word, skeleton))
+    labelling::skeleton(word, skeleton).pack()
 }
 
 // Whether two labels look alike.
@@ -25,5 +27,5 @@ pub extern "C" fn jogcairn_skeleton(word: &[u16], skeleton: &mut [u16]) -> u64
 pub extern "C" fn jogcairn_look_alike(first: &[u16], second: &[u16]) -> u64
     ensures { Packed (LookAlikeAnswers first.now second.now) pair_numbers result }
 {
-    packing::of_pair(likeness::look_alike(first, second))
+    packing::pack_pair(likeness::look_alike(first, second))
 }
