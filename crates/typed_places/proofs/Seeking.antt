@@ -7,9 +7,11 @@ use Prim.Native.Nat.{ℕ, zero, suc, ◌+◌, ◌-◌, ◌≤◌, ◌<◌}
 use native.Mathlib.Decide.{dec_lt}
 use native.Mathlib.Omega.{arith}
 use lib.Dec.{eqb}
-use lib.ListN.{length, drop, get_or, replicate, length-append, length-replicate, drop_of_length-le, get_or-eq_default}
-use lib.Seq.{drop-cons}
+use lib.ListN.{length, take, drop, get_or, replicate, length-append, length-replicate, drop_of_length-le, get_or-eq_default}
+use lib.Seq.{drop-cons, length-take-le, get_or-take}
 use borrow.Author.Tests.{ne_eqb}
+use Rattle.std.specs.Prelude.{Option, Some, None, slice_get}
+use Rattle.std.proofs.lemmas.Option.{slice_get-get_or, slice_get_past}
 use Rattle.letters.specs.Choice.{pick}
 use Rattle.letters.proofs.Picks.{and_no_right}
 use Rattle.formula.specs.Limits.{limit}
@@ -81,19 +83,18 @@ filled_at [] (suc n) (suc k) = filled_at [] n k
 filled_at (p ∷ places) n zero = refl
 filled_at (p ∷ places) n (suc k) = filled_at places n k
 
--- a place of the list has one value, whatever stands for none
-pub get_d_any : (list : List ℕ) (k d c : ℕ) → k < length list → get_or list k d ≡ get_or list k c
-get_d_any [] k d c h = let z : ⊥ = omega arith in absurd z
-get_d_any (x ∷ list) zero d c h = refl
-get_d_any (x ∷ list) (suc k) d c h = get_d_any list k d c (omega arith)
-
 -- what stands so many further on among the values that stay, from a place on
-abbrev pub seen : List ℕ → ℕ → ℕ → ℕ
-seen word at left = get_or (compose_places word (drop at (sorted_places word))) left (length word)
+abbrev pub seen : List ℕ → ℕ → ℕ → Option ℕ
+seen word at left = slice_get (compose_places word (drop at (sorted_places word))) left
 
-pub seen_first : (word : List ℕ) (place : ℕ) → seen word 0 place ≡ get_or (typed_places word) place (length word)
+pub seen_first : (word : List ℕ) (place : ℕ) → seen word 0 place ≡ slice_get (typed_places word) place
 unfolding typed_places
 seen_first word place = refl
+
+pub seen_none : (word : List ℕ) (at left : ℕ) → length word ≤ at → None ≡ seen word at left
+seen_none word at left h =
+    let past : length (sorted_places word) ≤ at = omega (arith, sorted_length word) in
+    sym (ap (λ (l : List ℕ). slice_get (compose_places word l) left) (drop_of_length-le (sorted_places word) past))
 
 module _ (word places : List ℕ) (h : length word ≤ limit) (e : places ≡ sorted_places word ++ replicate (limit - length word) limit) where
   pub filled_long : length places ≡ limit
@@ -107,20 +108,23 @@ module _ (word places : List ℕ) (h : length word ≤ limit) (e : places ≡ so
   next_same : (at : ℕ) → next_kept word places at ≡ next_kept word (sorted_places word) at
   next_same at = rw (same_at at, same_at (at + 1))
 
-  pub seen_next : (at left : ℕ) → at < length word → 0 < left → seen word (next_kept word places at) (left - 1) ≡ seen word at left
-  seen_next at left l some =
-      let less : left ≡ suc (left - 1) = omega arith in
+  pub seen_next : (at left : ℕ) → at < length word → seen word (next_kept word places at) left ≡ seen word at (suc left)
+  seen_next at left l =
       let long : at < length (sorted_places word) = omega (arith, sorted_length word) in
-      ap (λ (k : ℕ). seen word k (left - 1)) (next_same at)
-      ∙ sym (ap (seen word at) less ∙ ap (λ (l : List ℕ). get_or l (suc (left - 1)) (length word)) (compose_next word (sorted_places word) at h long))
+      ap (λ (k : ℕ). seen word k left) (next_same at)
+      ∙ sym (ap (λ (l : List ℕ). slice_get l (suc left)) (compose_next word (sorted_places word) at h long))
 
-  pub seen_here : (at left : ℕ) → at < length word → left ≡ 0 → get_or places at 0 ≡ seen word at left
-  seen_here at left l none =
-      let long : at < length (sorted_places word) = omega (arith, sorted_length word) in
-      get_d_any places at 0 limit (omega (arith, filled_long)) ∙ same_at at
-      ∙ sym (ap (seen word at) none ∙ ap (λ (l : List ℕ). get_or l 0 (length word)) (compose_next word (sorted_places word) at h long))
+  -- what stands here is the first of them
+  pub seen_now : (at : ℕ) → slice_get (take (length word) places) at ≡ seen word at 0
+  seen_now at = go (dec_lt at (length word))
+    where
+      whole : length (take (length word) places) ≡ length word
+      whole = length-take-le (length word) places (omega (arith, filled_long))
 
-pub seen_none : (word : List ℕ) (at left : ℕ) → length word ≤ at → length word ≡ seen word at left
-seen_none word at left h =
-    let past : length (sorted_places word) ≤ at = omega (arith, sorted_length word) in
-    sym (ap (λ (l : List ℕ). get_or (compose_places word l) left (length word)) (drop_of_length-le (sorted_places word) past))
+      go : Dec (at < length word) → slice_get (take (length word) places) at ≡ seen word at 0
+      go (yes l) =
+          let long : at < length (sorted_places word) = omega (arith, sorted_length word) in
+          slice_get-get_or (take (length word) places) at limit (omega (arith, whole))
+          ∙ ap Some (get_or-take (length word) places at limit l ∙ same_at at)
+          ∙ sym (ap (λ (l : List ℕ). slice_get l 0) (compose_next word (sorted_places word) at h long))
+      go (no n) = slice_get_past (take (length word) places) at (omega (arith, whole)) ∙ seen_none word at 0 (omega arith)

@@ -1,7 +1,7 @@
 // Where each value of a stored form was typed: the places of a word, sorted as its values are.
 #![tactic(auto)]
 
-ghost use Rattle.std.specs.Prelude.{◌≡◌, ◌++◌, ◌+◌, ◌-◌, ◌≤◌, length, take, drop, get_or, replicate};
+ghost use Rattle.std.specs.Prelude.{◌≡◌, ◌++◌, ◌+◌, ◌-◌, ◌≤◌, length, take, drop, get_or, slice_get, replicate};
 ghost use Rattle.formula.specs.Limits.{limit};
 ghost use Rattle.storage.specs.Stored.{insert_by};
 ghost use Rattle.typed_places.specs.Typed.{typed_at, sorted_places, typed_places};
@@ -13,22 +13,20 @@ use storage::{MARK_II, MARKS, RankTable, VOWEL_U};
 // Places of a word. Those behind the word's places are past its end, where no mark stands, so that a run ends there.
 type Places = [usize; Word::LIMIT];
 
-// The place in the word of the value at `place` of its stored form, and the word's length where none stands there.
-pub fn place_in_word(word: &[u16], place: usize) -> usize
+// The place in the word of the value at `place` of its stored form.
+pub fn place_in_word(word: &[u16], place: usize) -> Option<usize>
     requires { length word.now ≤ limit }
-    ensures { result ≡ get_or (typed_places word.now) place (length word.now) }
+    ensures { result ≡ slice_get (typed_places word.now) place }
 {
     let places = sorted_places(word);
     let mut at = 0;
-    let mut left = place;
-    while 0 < left && at < word.len() {
+    for _ in 0..place {
+        if word.len() <= at {
+            return None;
+        }
         at = next_kept(word, &places, at);
-        left -= 1;
     }
-    if at < word.len() {
-        return places[at];
-    }
-    word.len()
+    places[..word.len()].get(at).copied()
 }
 
 // Behind a place among the sorted ones, the next whose value stays: a 1025 takes up a 102E.
@@ -50,11 +48,7 @@ fn sorted_value(word: &[u16], places: &Places, at: usize) -> u16
     requires { Filled word.now places.now }
     ensures { result ≡ typed_at word.now (get_or places.now at limit) }
 {
-    if at < Word::LIMIT {
-        typed_at(word, places[at])
-    } else {
-        0
-    }
+    typed_at(word, places.get(at).copied().unwrap_or(Word::LIMIT))
 }
 
 // The places of a word, sorted. From its last place to its first, each is put before what follows it.
@@ -64,9 +58,7 @@ fn sorted_places(word: &[u16]) -> Places
 {
     let ranks = storage::rank_table();
     let mut places = [Word::LIMIT; Word::LIMIT];
-    let mut at = word.len();
-    while 0 < at {
-        at -= 1;
+    for at in (0..word.len()).rev() {
         insert_place(&ranks, word, &mut places, at);
     }
     places
@@ -88,8 +80,9 @@ fn insert_place(ranks: &RankTable, word: &[u16], places: &mut Places, at: usize)
 }
 
 // The value that was typed at a place, and 0 past the end.
+#[tactic(auto, unfolding(crate::specs::Typed::typed_at))]
 fn typed_at(word: &[u16], place: usize) -> u16
     ensures { result ≡ typed_at word.now place }
 {
-    if place < word.len() { word[place] } else { 0 }
+    word.get(place).copied().unwrap_or(0)
 }

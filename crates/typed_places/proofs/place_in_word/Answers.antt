@@ -1,33 +1,34 @@
--- `typed_places::place_in_word` meets its contract. The loop's invariant: what stands so many further on from here is what is asked for. The measure is how many are left.
+-- `typed_places::place_in_word` meets its contract. The loop's invariant: what stands so many further on from here is what is asked for.
 -- Assumes nothing.
-use mathlib.Core.Path.{◌≡◌, ap, ◌∙◌}
-use Prim.Native.Nat.{ℕ, ◌-◌}
-use native.Mathlib.Omega.{arith}
-use Rattle.typed_places.proofs.Seeking.{filled_long, seen, seen_first, seen_next, seen_here, seen_none}
+use Rattle.std.proofs.Common.{◌≡◌, ◌∙◌, ap, ℕ, suc, ◌+◌, ◌-◌, slice_get, take, length, arith}
+use Rattle.std.proofs.lemmas.Grind.{common_steps}
+use Rattle.std.proofs.lemmas.Option.{gets}
+use Rattle.typed_places.proofs.Seeking.{seen, seen_first, seen_next, seen_now, seen_none}
 use Rattle.typed_places.proofs.place_in_word.Goals as goal
-use Rattle.typed_places.proofs.place_in_word.Goals.{then-loop-left-test+else-at-word, else-loop-left-test}
 
-pub loop-left-init : goal.loop-left-init
-loop-left-init c = seen_first c.args.word.now c.args.place
+pub loop-init : goal.loop-init
+loop-init c =
+    let s = c.args in
+    let all : s.place - 0 ≡ s.place = omega arith in
+    ap (seen s.word.now 0) all ∙ seen_first s.word.now s.place
 
-pub next_kept-at-requires : goal.next_kept-at-requires
-next_kept-at-requires c =
-    record {
-      filled = record { short = c.requires; long = filled_long c.args.word.now _ c.requires c.sorted_places-places.ensures };
-      within = omega (arith, c.requires);
-    }
+pub returns-then-word-at : goal.returns-then-word-at
+returns-then-word-at c = seen_none c.args.word.now c.loop.at (c.args.place - c.loop.counter) c.if-word-at.true ∙ c.loop.invariant
 
-pub loop-left-preserved : goal.loop-left-preserved
-loop-left-preserved c =
-    ap (λ (k : ℕ). seen c.args.word.now k (c.loop-left.left - 1)) c.next_kept-at.ensures
-    ∙ seen_next _ _ c.requires c.sorted_places-places.ensures _ _ c.if-at-word.true c.loop-left-test.true
-    ∙ c.loop-left.invariant
-
-pub returns-then-at-word-2 : goal.returns-then-at-word-2
-returns-then-at-word-2 c =
-    let none_left : c.loop-left.left ≡ 0 =
-    elim c.loop-left-test.branch [ then-loop-left-test+else-at-word w ↦ omega arith | else-loop-left-test w ↦ omega arith ] in
-    seen_here c.args.word.now _ c.requires c.sorted_places-places.ensures _ _ c.if-at-word-2.true none_left ∙ c.loop-left.invariant
+pub loop-preserved : goal.loop-preserved
+loop-preserved c =
+    let s = c.args in
+    let left : ℕ = s.place - (c.loop.counter + 1) in
+    let more : suc left ≡ s.place - c.loop.counter = omega arith in
+    ap (λ (k : ℕ). seen s.word.now k left) c.next_kept-at.ensures
+    ∙ seen_next s.word.now _ c.requires c.sorted_places-places.ensures c.loop.at left c.if-word-at.false
+    ∙ ap (seen s.word.now c.loop.at) more
+    ∙ c.loop.invariant
 
 pub returns : goal.returns
-returns c = seen_none c.args.word.now c.loop-left.at c.loop-left.left c.if-at-word-2.false ∙ c.loop-left.invariant
+returns c =
+    let s = c.args in
+    let none : 0 ≡ s.place - c.loop.counter = omega arith in
+    let places = c.sorted_places-places.result in
+    let found : c.copied.result ≡ slice_get (take (length s.word.now) places) c.loop.at = grind (arith, common_steps, gets) in
+    found ∙ seen_now s.word.now places c.requires c.sorted_places-places.ensures c.loop.at ∙ ap (seen s.word.now c.loop.at) none ∙ c.loop.invariant

@@ -3,6 +3,3 @@ use Rattle.typed_places.proofs.sorted_places.Given as goal
 
 abbrev pub invariant-loop-at : goal.invariant-loop-at
 invariant-loop-at l = SortedFrom l.word l.places l.at
-
-abbrev pub decreases-loop-at : goal.decreases-loop-at
-decreases-loop-at l = l.at
