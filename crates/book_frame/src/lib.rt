@@ -8,7 +8,6 @@ ghost use Rattle.entries.specs.Readable.{is_readable};
 ghost use Rattle.entries.specs.Entries.{value_of, word_at, is_framed};
 
 use formula::Word;
-use memory::casts::wide;
 use recogniser::walk::is_row;
 
 // The bytes of a record before its word: its mark, its count and its stock number.
@@ -18,7 +17,7 @@ pub const HEAD: usize = 7;
 pub fn value_of(byte: u8) -> u16
     ensures { result ≡ value_of byte }
 {
-    (byte as u16) + 0x1000
+    u16::from(byte) + 0x1000
 }
 
 // Whether the two bytes of a mark stand at a place.
@@ -38,22 +37,17 @@ fn is_framed(book: &[u8], at: usize) -> bool
     if book.len() - at < 8 {
         return false;
     }
-    if !has_mark(book, at, b"MW") {
-        if !has_mark(book, at, b"M-") {
-            return false;
-        }
+    if !has_mark(book, at, b"MW") && !has_mark(book, at, b"M-") {
+        return false;
     }
-    let count = wide(book[at + 2]);
+    let count = usize::from(book[at + 2]);
     if count < 1 {
         return false;
     }
     if Word::LIMIT < count {
         return false;
     }
-    if book.len() - at < HEAD + count {
-        return false;
-    }
-    true
+    HEAD + count <= book.len() - at
 }
 
 // Puts the values of `count` bytes, from a place on, at the front of `output`.
@@ -61,10 +55,8 @@ pub fn copy_values(book: &[u8], from: usize, count: usize, output: &mut [u16])
     requires { (from + count ≤ length book.now) × (count ≤ length output.old) }
     ensures { output.new ≡ map value_of (take count (drop from book.now)) ++ drop count output.old }
 {
-    let mut next = 0;
-    while next < count {
-        output[next] = value_of(book[from + next]);
-        next += 1;
+    for (place, byte) in book[from..from + count].iter().enumerate() {
+        output[place] = value_of(*byte);
     }
 }
 
@@ -86,7 +78,7 @@ pub fn is_record(book: &[u8], at: usize) -> bool
     if !is_framed(book, at) {
         return false;
     }
-    let count = wide(book[at + 2]);
+    let count = usize::from(book[at + 2]);
     let values = values_of(book, at + HEAD, count);
     is_row(&values[..count])
 }

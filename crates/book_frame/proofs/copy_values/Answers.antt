@@ -1,15 +1,15 @@
--- `book_frame::copy_values` meets its contract. The invariant is `Copied`: the values of the bytes passed are stored. The measure is what is left.
+-- `book_frame::copy_values` meets its contract. The invariant is `Copied`: the values of the bytes passed are stored.
 -- Assumes nothing.
 use mathlib.Core.Path.{◌≡◌, sym, ap, subst, ◌∙◌}
 use mathlib.Core.List.{List, ◌++◌, map}
-use Prim.Native.Nat.{ℕ, ◌+◌, ◌≤◌, ◌<◌}
+use Prim.Native.Nat.{ℕ, ◌+◌, ◌-◌, ◌≤◌, ◌<◌}
 use native.Mathlib.Nat.{zero-add}
 use native.Mathlib.Omega.{arith}
 use lib.ListN.{length, get_or, drop, set}
 use Rattle.memory.proofs.Stores.{sets_front}
-use Rattle.memory.proofs.Copied.{Copied, copied_long, copied_none, copied_more, copied_all}
+use Rattle.memory.proofs.Copied.{Copied, copied_more, copied_all}
 use Rattle.entries.specs.Entries.{value_of}
-use Rattle.book_frame.proofs.Parts.{part, length_values, value_at}
+use Rattle.book_frame.proofs.Parts.{part, part_length, part_at, length_values, value_at}
 use Rattle.book_frame.proofs.copy_values.Goals as goal
 
 module _ (b : List ℕ) (from count : ℕ) (within : from + count ≤ length b) (l : List ℕ) where
@@ -30,23 +30,20 @@ module _ (b : List ℕ) (from count : ℕ) (within : from + count ≤ length b) 
       let long = length_values b from count within in
       copied_all values l 0 stored next c (omega (arith, long)) ∙ sets_front values l (omega (arith, long)) ∙ ap (λ (k : ℕ). values ++ drop k l) long
 
-pub loop-next-init : goal.loop-next-init
-loop-next-init c = copied_none _ _ _
-
-pub bounds-output-next : goal.bounds-output-next
-bounds-output-next c = omega (arith, copied_long _ _ _ _ _ c.loop-next.invariant)
-
-pub loop-next-preserved : goal.loop-next-preserved
-loop-next-preserved c =
-    let l = c.loop-next in
-    copied_value c.args.book.now c.args.from c.args.count c.requires.0 c.args.output.now l.output l.next c.value_of.result
-    l.invariant c.loop-next-test.true c.value_of.ensures
-
-pub shape_of-output : goal.shape_of-output
-shape_of-output c = copied_long _ _ _ _ _ c.loop-next.invariant
+pub loop-place-preserved : goal.loop-place-preserved
+loop-place-preserved c =
+    let l = c.loop-place in
+    let s = c.args in
+    let b = s.book.now in
+    let n : ℕ = s.from + s.count - s.from in
+    let within : l.place < n = omega (arith, part_length b s.from n (omega arith), c.loop-place-test.true) in
+    copied_value b s.from s.count c.requires.0 s.output.now l.output l.place c.value_of.result l.invariant (omega arith)
+    (c.value_of.ensures ∙ ap value_of (part_at b s.from n l.place within))
 
 pub returns : goal.returns
 returns c =
-    let l = c.loop-next in
-    copied_values c.args.book.now c.args.from c.args.count c.requires.0 c.args.output.now l.output l.next l.invariant
-    c.loop-next-test.false c.requires.1
+    let l = c.loop-place in
+    let s = c.args in
+    let n : ℕ = s.from + s.count - s.from in
+    copied_values s.book.now s.from s.count c.requires.0 s.output.now l.output l.place l.invariant
+    (omega (arith, part_length s.book.now s.from n (omega arith), c.loop-place-test.false)) c.requires.1

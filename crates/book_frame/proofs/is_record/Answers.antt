@@ -36,7 +36,7 @@ values_of-values-requires c =
     let frame : Framed c.args.book.now c.args.at =
     framed_true _ _ (of_true _ framed_on) in
     let f = frame in
-    (omega (arith, f.short, c.wide-count.ensures.0), omega (arith, f.room, c.wide-count.ensures.0))
+    (omega (arith, f.short, c.from-count.ensures), omega (arith, f.room, c.from-count.ensures))
 
 pub slice_bounds-values-end : goal.slice_bounds-values-end
 slice_bounds-values-end c =
@@ -44,7 +44,7 @@ slice_bounds-values-end c =
     sym c.is_framed.ensures ∙ c.if-not-is_framed.false in
     let frame : Framed c.args.book.now c.args.at =
     framed_true _ _ (of_true _ framed_on) in
-    let f = frame in omega (arith, f.short, c.wide-count.ensures.0, c.values_of-values.ensures.1)
+    let f = frame in omega (arith, f.short, c.from-count.ensures, c.values_of-values.ensures.1)
 
 pub slice_bounds-is_row-end : goal.slice_bounds-is_row-end
 slice_bounds-is_row-end c =
@@ -55,7 +55,7 @@ slice_bounds-is_row-end c =
     let f = frame in
     sym
     (length-take-le _ c.values_of-values.result
-    (omega (arith, f.short, c.wide-count.ensures.0, c.values_of-values.ensures.1)))
+    (omega (arith, f.short, c.from-count.ensures, c.values_of-values.ensures.1)))
 
 pub returns : goal.returns
 returns c =
@@ -63,8 +63,8 @@ returns c =
     sym c.is_framed.ensures ∙ c.if-not-is_framed.false in
     let b = c.args.book.now in
     let at = c.args.at in
-    let e : take c.wide-count.result c.values_of-values.result ≡ word_at b at =
-    c.values_of-values.ensures.0 ∙ ap (λ (n : ℕ). map value_of (take n (drop (at + head_size) b))) c.wide-count.ensures.0 in
+    let e : take c.from-count.result c.values_of-values.result ≡ word_at b at =
+    c.values_of-values.ensures.0 ∙ ap (λ (n : ℕ). map value_of (take n (drop (at + head_size) b))) c.from-count.ensures in
     tests_agree (word_at b at) c.is_row.result (is_readable (word_at b at))
     (subst (λ (w : List ℕ). RowTest w c.is_row.result) e c.is_row.ensures) (readable_test (word_at b at))
     ∙ ap (λ (t : Bool). t && is_readable (word_at b at)) (sym framed_on)
