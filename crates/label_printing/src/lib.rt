@@ -8,10 +8,9 @@ ghost use Rattle.answer_text.specs.Answer.{answer_text_limit, AnswerPut};
 ghost use Rattle.label_printing.specs.Output.{skeleton_text, WordLabelText, LabelText};
 
 use answer_text::put_refused;
-use key_text::{put, put_values};
+use key_text::{put_text, put_values};
 use labelling::skeleton;
 use lines::decode;
-use refusals::Refusal;
 use skeletons::LIMIT;
 
 // What follows the number of a line that is a label.
@@ -19,10 +18,8 @@ fn put_skeleton(out: &mut [u8], at: usize, values: &[u16]) -> usize
     requires { (at + answer_text_limit ≤ length out.old) × (length values.now ≤ skeleton_limit) }
     ensures { PutWithin answer_text_limit out.old at (skeleton_text values.now) out.new result }
 {
-    let first = put(out, at, b'O');
-    let second = put(out, first, b'K');
-    let third = put(out, second, b' ');
-    put_values(out, third, values)
+    let spoken = put_text(out, at, b"OK ");
+    put_values(out, spoken, values)
 }
 
 // What follows the number of a line that has these values.
@@ -31,8 +28,7 @@ fn put_word_label(out: &mut [u8], at: usize, word: &[u16]) -> usize
     ensures { AnswerPut (WordLabelText word.now) out.old at out.new result }
 {
     let mut values = [0; LIMIT];
-    let answer = skeleton(word, &mut values);
-    match answer {
+    match skeleton(word, &mut values) {
         Err(refusal) => put_refused(out, at, refusal),
         Ok(count) => put_skeleton(out, at, &values[..count]),
     }

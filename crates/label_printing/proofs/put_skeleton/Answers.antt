@@ -9,6 +9,6 @@ pub returns : goal.returns
 unfolding skeleton_text
 returns c =
     record {
-      put = put_after c.put-first.ensures (put_after c.put-second.ensures (put_after c.put-third.ensures c.put_values.ensures));
+      put = put_after c.put_text-spoken.ensures c.put_values.ensures;
       short = skeleton_text_short c.args.values.now c.requires.1;
     }

@@ -10,20 +10,20 @@ use Rattle.label_printing.proofs.put_word_label.Goals as goal
 
 pub slice_bounds-values-end : goal.slice_bounds-values-end
 slice_bounds-values-end c =
-    let given : Given c.args.word.now unwritten c.skeleton-answer.new.output c.in-Ok.count =
-    told_given c.skeleton-answer.result c.skeleton-answer.ensures c.in-Ok.count c.in-Ok.is in
+    let given : Given c.args.word.now unwritten c.skeleton.new.output c.in-Ok.count =
+    told_given c.skeleton.result c.skeleton.ensures c.in-Ok.count c.in-Ok.is in
     given.fits
 
 pub slice_bounds-put_skeleton-end : goal.slice_bounds-put_skeleton-end
 slice_bounds-put_skeleton-end c =
-    let given : Given c.args.word.now unwritten c.skeleton-answer.new.output c.in-Ok.count =
-    told_given c.skeleton-answer.result c.skeleton-answer.ensures c.in-Ok.count c.in-Ok.is in
+    let given : Given c.args.word.now unwritten c.skeleton.new.output c.in-Ok.count =
+    told_given c.skeleton.result c.skeleton.ensures c.in-Ok.count c.in-Ok.is in
     let g = given in g.long ∙ sym (ap length g.front)
 
 pub put_skeleton-requires : goal.put_skeleton-requires
 put_skeleton-requires c =
-    let given : Given c.args.word.now unwritten c.skeleton-answer.new.output c.in-Ok.count =
-    told_given c.skeleton-answer.result c.skeleton-answer.ensures c.in-Ok.count c.in-Ok.is in
+    let given : Given c.args.word.now unwritten c.skeleton.new.output c.in-Ok.count =
+    told_given c.skeleton.result c.skeleton.ensures c.in-Ok.count c.in-Ok.is in
     let g = given in
     (omega arith, rw g.front (skeleton_short c.args.word.now g.count g.label))
 
@@ -31,13 +31,13 @@ pub returns-in-Err : goal.returns-in-Err
 returns-in-Err c =
     record {
       text = _;
-      right = no_label (told_refused c.skeleton-answer.result c.skeleton-answer.ensures (omega arith) c.in-Err.refusal c.in-Err.is) refl;
+      right = no_label (told_refused c.skeleton.result c.skeleton.ensures (omega arith) c.in-Err.refusal c.in-Err.is) refl;
       put = c.put_refused.ensures;
     }
 
 pub returns-in-Ok : goal.returns-in-Ok
 returns-in-Ok c =
-    let given : Given c.args.word.now unwritten c.skeleton-answer.new.output c.in-Ok.count =
-    told_given c.skeleton-answer.result c.skeleton-answer.ensures c.in-Ok.count c.in-Ok.is in
+    let given : Given c.args.word.now unwritten c.skeleton.new.output c.in-Ok.count =
+    told_given c.skeleton.result c.skeleton.ensures c.in-Ok.count c.in-Ok.is in
     let g = given in
     record { text = _; right = is_label g.label (ap skeleton_text g.front); put = c.put_skeleton.ensures }
