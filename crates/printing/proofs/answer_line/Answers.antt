@@ -1,20 +1,16 @@
 -- `printing::answer_line` meets its contract: it answers the refusal of the decoding, or the key of its values.
 -- Assumes nothing.
-use Rattle.lines.proofs.Told.{told_word, told_fits, told_count}
+use mathlib.Core.Path.{ap, ◌∙◌}
+use Rattle.std.specs.declared.result.Result.TheVariants.{Err}
+use Rattle.std.proofs.lemmas.Result.{err_from_is_err_and}
+use Rattle.lines.proofs.Told.{told_word}
 use Rattle.printing.proofs.Answers.{refused_right, values_right}
 use Rattle.printing.proofs.answer_line.Goals as goal
 
-pub returns-in-Err : goal.returns-in-Err
-returns-in-Err c = refused_right _ c.decode-decoded.result c.decode-decoded.ensures _ c.in-Err.is
-
-pub slice_bounds-values-end : goal.slice_bounds-values-end
-slice_bounds-values-end c = told_fits _ c.decode-decoded.result c.decode-decoded.ensures _ c.in_default.is
-
-pub slice_bounds-key_of-end : goal.slice_bounds-key_of-end
-slice_bounds-key_of-end c = told_count _ c.decode-decoded.result c.decode-decoded.ensures _ c.in_default.is
+pub returns-in_err-word : goal.returns-in_err-word
+returns-in_err-word c =
+    let refused = err_from_is_err_and c.from_residual.result c.from_residual.ensures.1 in
+    refused_right c.decode.ensures c.in_err-word.field-0.0 c.in_err-word.was c.from_residual.result (refused.1 ∙ ap Err refused.2)
 
 pub returns : goal.returns
-returns c =
-    values_right
-    (told_word _ c.decode-decoded.result c.decode-decoded.ensures _ c.in_default.is)
-    c.key_of.ensures
+returns c = values_right (told_word _ _ c.decode.ensures _ c.in_ok-word.was) c.key_of.ensures

@@ -8,22 +8,13 @@ use Rattle.key_text.proofs.Decimal.{decimal_short}
 use Rattle.key_text.proofs.Keys.{key_short}
 use Rattle.printing.proofs.put_accepted.Goals as goal
 
-pub put-spaced-requires : goal.put-spaced-requires
-put-spaced-requires c = omega (arith, decimal_short c.args.count (omega arith))
-
-pub put_key-requires : goal.put_key-requires
-put_key-requires c = (omega (arith, decimal_short c.args.count (omega arith)), omega arith)
-
 pub returns : goal.returns
 unfolding accepted_text
 returns c =
-    let digits = decimal_short c.args.count (omega arith) in
-    let keyed = key_short c.args.count c.args.key.now c.requires.1 in
+    let key = c.args.key.now in
+    let digits = decimal_short key.count (omega arith) in
+    let keyed = key_short key.count key.bytes c.requires.1 in
     record {
-      put =
-          put_after c.put-first.ensures
-          (put_after c.put-second.ensures
-          (put_after c.put-third.ensures
-          (put_after c.put_decimal-counted.ensures (put_after c.put-spaced.ensures c.put_key.ensures))));
+      put = put_after c.put_text-spoken.ensures (put_after c.put_decimal-counted.ensures (put_after c.put-spaced.ensures c.put_key.ensures));
       short = simp length-append (omega arith);
     }
