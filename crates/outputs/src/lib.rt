@@ -54,13 +54,6 @@ pub fn put_key(word: &[u16], output: &mut [u8]) -> Result<usize, Refusal>
 pub fn put_values(line: &[u8], output: &mut [u16]) -> Result<usize, Refusal>
     ensures { DecodeWritten line.now output.old output.new (outcome_of result) }
 {
-    let decoded = decode(line);
-    let answer = decoded.answer;
-    if let Err(refusal) = answer {
-        return Err(refusal);
-    }
-    let word = decoded.word;
-    let count = word.count;
-    let values = word.values;
-    put_out(&values[..count], output)
+    let word = decode(line)?;
+    put_out(&word.values[..word.count], output)
 }
