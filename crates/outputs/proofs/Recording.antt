@@ -1,52 +1,30 @@
 -- What the record by number tells, written to lent output: it is the row's, and has eight bytes.
 -- Assumes nothing.
-use mathlib.Core.Path.{◌≡◌, subst, ◌∙◌}
-use mathlib.Core.List.{List}
+use mathlib.Core.Path.{◌≡◌, refl, ap, subst, sym, ◌∙◌}
+use mathlib.Core.List.{List, ◌++◌}
 use Prim.Native.Nat.{ℕ, ◌≤◌, ◌<◌}
 use native.Mathlib.Omega.{arith}
-use lib.ListN.{length}
-use lib.Seq.{sets}
-use Rattle.memory.proofs.Stores.{sets_front}
+use lib.ListN.{length, drop}
 use Rattle.formula.specs.Limits.{record_size}
-use Rattle.refusals.specs.Refusal.{number_of, place_of}
-use Rattle.refusals.specs.Outcome.{accepts, absent, refuses}
+use Rattle.refusals.specs.Outcome.{accepts, refuses}
 use Rattle.refusals.specs.Output.{refused, put, too_short}
-use Rattle.refusals.specs.declared.Refusal.{Refusal}
-use Rattle.reading.specs.Records.{record_outcome_of, HasRecord, NoRecord, RecordAnswers, RecordRight}
-use Rattle.reading.specs.declared.records.RecordAnswer.{RecordAnswer}
-use Rattle.reading.specs.declared.records.RecordAnswer.TheVariants.{Found, NoSyllable, Refused}
-use Rattle.reading.specs.declared.records.SyllableRecord.{SyllableRecord}
-use Rattle.outputs.specs.Outputs.{RecordWritten, answered, no_syllable}
+use Rattle.reading.specs.Records.{no_bytes, HasRecord, NoReading}
+use Rattle.outputs.specs.Outputs.{RecordWritten, answered}
 use Rattle.outputs.proofs.Sizes.{record_long}
 
-module _ (word : List ℕ) (number : ℕ) (given : SyllableRecord) (right : RecordRight word number given) where
-  answers : (a : RecordAnswer) → given.answer ≡ a → RecordAnswers word number (record_outcome_of a) given.bytes
-  answers a e = subst (λ (r : RecordAnswer). RecordAnswers word number (record_outcome_of r) given.bytes) e right
+module _ (word : List ℕ) (number : ℕ) (before : List ℕ) where
+  pub refused_right : (refusal place : ℕ) → NoReading word refusal place no_bytes → RecordWritten word number before before (refuses refusal place)
+  refused_right refusal place none = answered (refused none.refused refl)
 
-  found : given.answer ≡ Found → HasRecord word number given.bytes
-  found e = (answers Found e).1
+  module _ (bytes : List ℕ) (has : HasRecord word number bytes) where
+    pub short_right : length before < record_size → RecordWritten word number before before (refuses 5 record_size)
+    short_right less =
+        let long = record_long word number bytes has in
+        subst (λ (n : ℕ). RecordWritten word number before before (refuses 5 n)) long (answered (too_short has (omega (arith, long)) refl))
 
-  pub found_long : given.answer ≡ Found → length given.bytes ≡ record_size
-  found_long e = record_long word number given.bytes (found e)
-
-  module _ (before after : List ℕ) where
-    pub refused_right : (refusal : Refusal) → given.answer ≡ Refused refusal → after ≡ before
-        → RecordWritten word number before after (refuses (number_of refusal) (place_of refusal))
-    refused_right refusal e same = answered (refused (answers (Refused refusal) e).refused same)
-
-    pub absent_right : given.answer ≡ NoSyllable → after ≡ before → RecordWritten word number before after absent
-    absent_right e same =
-        let n = answers NoSyllable e in
-        no_syllable (subst (NoRecord word number) n.is n) same
-
-    pub short_right : given.answer ≡ Found → length before < record_size → after ≡ before → RecordWritten word number before after (refuses 5 record_size)
-    short_right e less same =
-        subst (λ (n : ℕ). RecordWritten word number before after (refuses 5 n)) (found_long e)
-        (answered (too_short (found e) (omega (arith, found_long e)) same))
-
-    pub written_right : given.answer ≡ Found → record_size ≤ length before → after ≡ sets before 0 given.bytes
+    pub written_right : record_size ≤ length before → (after : List ℕ) → after ≡ bytes ++ drop record_size before
         → RecordWritten word number before after (accepts record_size)
-    written_right e fits is =
-        let room : length given.bytes ≤ length before = omega (arith, found_long e) in
-        subst (λ (n : ℕ). RecordWritten word number before after (accepts n)) (found_long e)
-        (answered (put (found e) room (is ∙ sets_front given.bytes before room)))
+    written_right fits after is =
+        let long = record_long word number bytes has in
+        subst (λ (n : ℕ). RecordWritten word number before after (accepts n)) long
+        (answered (put has (omega (arith, long)) (is ∙ ap (λ (n : ℕ). bytes ++ drop n before) (sym long))))

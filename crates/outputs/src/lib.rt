@@ -1,7 +1,7 @@
 // A record, a key and a decoded line, written to lent output.
 #![tactic(auto)]
 
-ghost use Rattle.refusals.specs.Outcome.{outcome_of, reply_outcome};
+ghost use Rattle.refusals.specs.Outcome.{accepts, outcome_of, outcome_by, tells_if_there};
 ghost use Rattle.outputs.specs.Outputs.{RecordWritten, KeyWritten, DecodeWritten};
 
 use collation::weigh::weigh;
@@ -9,27 +9,21 @@ use formula::Word;
 use lines::decode;
 use memory::copies::put_all;
 use normaliser::put_out;
-use reading::records::{RecordAnswer, record_at};
-use refusals::{Refusal, Reply};
+use reading::records::record_at;
+use refusals::Refusal;
 
-// Writes the record of the syllable `number`, from 0, to the front of the output; nothing where there is no such syllable.
-pub fn put_record(word: &[u16], number: usize, output: &mut [u8]) -> Result<Reply, Refusal>
-    ensures { RecordWritten word.now number output.old output.new (reply_outcome result) }
+// Writes the record of the syllable `number`, from 0, to the front of the output, and tells its size; nothing where there is no such syllable.
+pub fn put_record(word: &[u16], number: usize, output: &mut [u8]) -> Result<Option<usize>, Refusal>
+    ensures { RecordWritten word.now number output.old output.new (outcome_by (tells_if_there accepts) result) }
 {
-    let given = record_at(word, number);
-    let answer = given.answer;
-    match answer {
-        RecordAnswer::Refused(refusal) => Err(refusal),
-        RecordAnswer::NoSyllable => Ok(Reply::Nothing),
-        RecordAnswer::Found => {
-            if output.len() < Word::RECORD {
-                return Err(Refusal::OutputTooShort(Word::RECORD));
-            }
-            let bytes = given.bytes;
-            put_all(&bytes, output, 0);
-            Ok(Reply::One(Word::RECORD))
-        }
+    let Some(bytes) = record_at(word, number)? else {
+        return Ok(None);
+    };
+    if output.len() < Word::RECORD {
+        return Err(Refusal::OutputTooShort(Word::RECORD));
     }
+    output[..Word::RECORD].copy_from_slice(&bytes);
+    Ok(Some(Word::RECORD))
 }
 
 // Writes the key of a word to the front of the output.
