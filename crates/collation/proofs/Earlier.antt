@@ -5,7 +5,9 @@ use mathlib.Core.List.{List}
 use Prim.Native.Nat.{ℕ}
 use lib.ListN.{length}
 use Rattle.formula.specs.Earlier.{Edition}
+use Rattle.std.specs.declared.result.Result.{Result}
 use Rattle.std.specs.declared.result.Result.TheVariants.{Ok}
+use Rattle.refusals.specs.declared.Refusal.{Refusal}
 use Rattle.refusals.specs.Pair.{PairOutcome, tells}
 use Rattle.rows.proofs.Earlier.{earlier_gives}
 use Rattle.recogniser.specs.Answer.{Admissible}
@@ -23,12 +25,12 @@ use Rattle.collation.specs.declared.key.Key.{Key}
 use Rattle.collation.proofs.Laws.{ordered_by}
 use Rattle.collation.proofs.Determined.{outcome_once, key_determined}
 
-pub earlier_key : {edition : Edition} (word : List ℕ) → Admissible word → (b : ReadableIn edition (stored_form word)) → (key : Key) → KeyRight word key
-    → key ≡ record { answer = Ok (length b.row); bytes = key_bytes b.row }
-earlier_key word a b key right =
-    key_determined word key _ right
+pub earlier_key : {edition : Edition} (word : List ℕ) → Admissible word → (b : ReadableIn edition (stored_form word)) → (answer : Result Key Refusal) → KeyRight word answer
+    → answer ≡ Ok (record { count = length b.row; bytes = key_bytes b.row })
+earlier_key word a b answer right =
+    key_determined word answer (Ok (record { count = length b.row; bytes = key_bytes b.row })) right
     (record {
-      answers = earlier_stores word a b;
+      stores = earlier_stores word a b;
       bytes = λ row g. rw (earlier_same (stored_form word) b row g);
     })
 

@@ -7,20 +7,16 @@ use lib.ListN.{length, take}
 use lib.Seq.{take_at}
 use Rattle.formula.specs.Row.{Row, Gives}
 use Rattle.formula.specs.Weighing.{weights}
-use Rattle.refusals.specs.Outcome.{outcome_of}
-use Rattle.std.specs.declared.result.Result.{Result}
-use Rattle.refusals.specs.declared.Refusal.{Refusal}
-use Rattle.std.specs.declared.result.Result.TheVariants.{Ok}
 use Rattle.rows.proofs.Viable.{only_row}
 use Rattle.storage.specs.Stored.{stored_form}
-use Rattle.normaliser.specs.Normal.{Stores, StoreAnswers}
+use Rattle.normaliser.specs.Normal.{Stores}
 use Rattle.weighing.specs.Order.{in_turn, order_values, order_weights, Filed, filed, order}
 use Rattle.weighing.specs.Keys.{key_limit, used_bytes, zeros, key_of}
 use Rattle.std.specs.declared.cmp.Ordering.{Ordering}
 use Rattle.std.specs.declared.cmp.Ordering.TheVariants.{Less, Equal}
 use Rattle.weighing.proofs.Lexicographic.{opposite, less_not_equal}
 use Rattle.weighing.proofs.Laws.{words_are_ordered, keys_order, key_used}
-use Rattle.collation.specs.Keyed.{KeyFor, KeyRight}
+use Rattle.collation.specs.Keyed.{HasKey}
 use Rattle.collation.specs.Comparison.{Ordered}
 use Rattle.collation.specs.declared.key.Key.{Key}
 
@@ -111,34 +107,32 @@ identical_equal first second n m s t e =
     }
 
 -- the used bytes of a key are the weights of the row
-module _ (word : List ℕ) (key : Key) (right : KeyRight word key) (n : ℕ) (e : key.answer ≡ Ok n) where
-  pub key_stores : Stores word n
-  key_stores = subst (λ (a : Result ℕ Refusal). StoreAnswers word (outcome_of a)) e right.answers
-
-  pub used_bytes_lem : (row : Row) → Gives row (stored_form word) → take (used_bytes n) key.bytes ≡ key_of row
-  used_bytes_lem row g =
-      let count : length row ≡ n = ap length (key_stores.reads.only row g) ∙ key_stores.reads.count in
-      ap (take (used_bytes n)) (subst (λ (a : Result ℕ Refusal). KeyFor word (outcome_of a) key.bytes) e right.bytes row g)
-      ∙ take_at (key_of row) (zeros (key_limit - used_bytes (length row))) (used_bytes n) (key_used row ∙ ap used_bytes count)
+pub used_bytes_lem : (word : List ℕ) (key : Key) → HasKey word key → (row : Row) → Gives row (stored_form word)
+    → take (used_bytes key.count) key.bytes ≡ key_of row
+used_bytes_lem word key right row g =
+    let count : length row ≡ key.count = ap length (right.stores.reads.only row g) ∙ right.stores.reads.count in
+    ap (take (used_bytes key.count)) (right.bytes row g)
+    ∙ take_at (key_of row) (zeros (key_limit - used_bytes (length row))) (used_bytes key.count) (key_used row ∙ ap used_bytes count)
 
 -- the used bytes of two keys, compared byte by byte, the shorter first where one begins the other, are in the order of the rows of weights
-module _ (first : List ℕ) (key : Key) (right : KeyRight first key) (n : ℕ) (e : key.answer ≡ Ok n)
-    (second : List ℕ) (other : Key) (other_right : KeyRight second other) (m : ℕ) (f : other.answer ≡ Ok m) where
+module _ (first : List ℕ) (key : Key) (right : HasKey first key) (second : List ℕ) (other : Key) (other_right : HasKey second other) where
+  abbrev pub by_keys : Ordering
+  by_keys = order_values (take (used_bytes key.count) key.bytes) (take (used_bytes other.count) other.bytes)
+
   pub keys_in_order : (row third : Row) → Gives row (stored_form first) → Gives third (stored_form second)
-      → order_values (take (used_bytes n) key.bytes) (take (used_bytes m) other.bytes) ≡ order_weights (weights row) (weights third)
+      → by_keys ≡ order_weights (weights row) (weights third)
   keys_in_order row third g h =
-      ap (λ (w : List ℕ). order_values w (take (used_bytes m) other.bytes)) (used_bytes_lem first key right n e row g)
-      ∙ ap (order_values (key_of row)) (used_bytes_lem second other other_right m f third h) ∙ keys_order row third
+      ap (λ (w : List ℕ). order_values w (take (used_bytes other.count) other.bytes)) (used_bytes_lem first key right row g)
+      ∙ ap (order_values (key_of row)) (used_bytes_lem second other other_right third h) ∙ keys_order row third
 
   -- so words compare by their keys, and by their stored forms where those are the same
-  pub keys_compare : Ordered first second
-      (in_turn (order_values (take (used_bytes n) key.bytes) (take (used_bytes m) other.bytes)) (order_values (stored_form first) (stored_form second)))
+  pub keys_compare : Ordered first second (in_turn by_keys (order_values (stored_form first) (stored_form second)))
   unfolding order
   keys_compare =
       record {
-        first_count = n;
-        first_stores = key_stores first key right n e;
-        second_count = m;
-        second_stores = key_stores second other other_right m f;
+        first_count = key.count;
+        first_stores = right.stores;
+        second_count = other.count;
+        second_stores = other_right.stores;
         by_weights = λ row third g h. ap (λ (o : Ordering). in_turn o (order_values (stored_form first) (stored_form second))) (keys_in_order row third g h);
       }

@@ -1,111 +1,79 @@
 -- The weights of a word's stored form are those of its key.
 -- Assumes nothing.
-use mathlib.Core.Path.{◌≡◌, sym, subst}
+use mathlib.Core.Path.{◌≡◌, ap, sym, subst}
 use mathlib.Core.List.{List}
-use Prim.Native.Nat.{ℕ, ◌≤◌}
+use Prim.Native.Nat.{ℕ, ◌≤◌, ◌<◌}
 use native.Mathlib.Omega.{arith}
 use lib.ListN.{length, take}
+use lib.Seq.{length-take-le}
 use Rattle.formula.specs.Limits.{limit}
 use Rattle.formula.specs.Row.{Gives}
-use Rattle.refusals.specs.Refusal.{number_of, place_of}
-use Rattle.refusals.specs.Outcome.{outcome_of}
+use Rattle.formula.specs.Held.{word_of}
+use Rattle.formula.specs.declared.Word.{Word}
+use Rattle.formula.proofs.Held.{held_front}
 use Rattle.refusals.specs.declared.Refusal.{Refusal}
+use Rattle.refusals.specs.declared.Refusal.TheVariants.{TooLong}
+use Rattle.std.specs.Result.{MatchResult, IsErrAnd}
 use Rattle.std.specs.declared.result.Result.{Result}
 use Rattle.std.specs.declared.result.Result.TheVariants.{Ok, Err}
-use Rattle.recogniser.specs.Answer.{Answers}
 use Rattle.recogniser.proofs.Counted.{count_limit}
 use Rattle.storage.specs.Stored.{stored_form}
 use Rattle.storage.proofs.Rows.{gives_stored}
-use Rattle.normaliser.specs.Normal.{StoreRefusedWith, Stores, StoreAnswers, HandedIn}
-use Rattle.normaliser.proofs.Storing.{word_admissible, refused_right, reads_stores}
+use Rattle.normaliser.specs.Normal.{HandedIn}
+use Rattle.normaliser.proofs.Storing.{normal_too_long, word_admissible, refused_right, reads_stores}
 use Rattle.weighing.specs.Keys.{key_limit, used_bytes, zeros}
-use Rattle.weighing.specs.Order.{in_turn, order_values}
-use Rattle.keying.specs.Filled.{KeyIfRead, FillRight}
-use Rattle.collation.specs.Keyed.{KeyFor, KeyRight, WeighRight}
-use Rattle.collation.specs.Comparison.{Ordered}
-use Rattle.collation.proofs.Laws.{keys_compare}
+use Rattle.keying.specs.Filled.{FillRight}
+use Rattle.collation.specs.Keyed.{HasKey, WeighRight}
 
 -- the weights of a row of syllables, which is its own stored form
-pub row_weighed : (word : List ℕ) (answer : Result ℕ Refusal) (bytes : List ℕ) → FillRight word answer bytes → (n : ℕ) → answer ≡ Ok n
-    → WeighRight word answer bytes
-row_weighed word answer bytes right n e =
-    let reads = subst (λ (a : Result ℕ Refusal). Answers word (outcome_of a)) e right.answers in
-    let filled = subst (λ (a : Result ℕ Refusal). KeyIfRead word (outcome_of a) bytes) e right.key in
+pub row_weighed : (word bytes : List ℕ) (answer : Result ℕ Refusal) (n : ℕ) → FillRight word answer bytes → answer ≡ Ok n → WeighRight word (Ok n) bytes
+row_weighed word bytes answer n right e =
+    let filled = rw e at right in
+    let reads = filled.answers in
     record {
-      answers = subst (λ (a : Result ℕ Refusal). StoreAnswers word (outcome_of a)) (sym e) (reads_stores word n reads);
-      weighed =
-          subst (λ (a : Result ℕ Refusal). KeyFor word (outcome_of a) bytes) (sym e)
-          (λ row g. filled row (subst (Gives row) (gives_stored reads.row word reads.gives) g));
+      answers = reads_stores word n reads;
+      weighed = λ row g. filled.key row (subst (Gives row) (gives_stored reads.row word reads.gives) g);
       room = right.size;
     }
 
+pub long_weighed : (word bytes : List ℕ) → limit < length word → bytes ≡ zeros key_limit → WeighRight word (Err TooLong) bytes
+long_weighed word bytes h e = record { answers = normal_too_long word h; weighed = e; room = ap length e }
+
 -- what a word's stored form, with at most as many values as a word has, gives when it is read and weighed
-module _ (word values : List ℕ) (short : length word ≤ limit) (e : values ≡ stored_form word) (answer : Result ℕ Refusal) (bytes : List ℕ)
-    (right : FillRight values answer bytes) where
-  at_form : FillRight (stored_form word) answer bytes
-  at_form = subst (λ (l : List ℕ). FillRight l answer bytes) e right
-
-  pub form_weighed : (n : ℕ) → answer ≡ Ok n → WeighRight word answer bytes
-  form_weighed n f =
-      let reads = subst (λ (a : Result ℕ Refusal). Answers (stored_form word) (outcome_of a)) f at_form.answers in
-      record {
-        answers =
-            subst (λ (a : Result ℕ Refusal). StoreAnswers word (outcome_of a)) (sym f)
-            (record { admissible = word_admissible word short reads.admissible; reads = reads });
-        weighed =
-            subst (λ (a : Result ℕ Refusal). KeyFor word (outcome_of a) bytes) (sym f)
-            (subst (λ (a : Result ℕ Refusal). KeyIfRead (stored_form word) (outcome_of a) bytes) f at_form.key);
+module _ (word : List ℕ) (short : length word ≤ limit) (bytes : List ℕ) where
+  form_weighed : (answer : Result ℕ Refusal) → FillRight (stored_form word) answer bytes → (told : Result ℕ Refusal)
+      → MatchResult answer (λ n. told ≡ Ok n) (λ refusal. IsErrAnd told (HandedIn word refusal)) → WeighRight word told bytes
+  form_weighed (Ok n) right told e =
+      rw e
+      (record {
+        answers = record { admissible = word_admissible word short right.answers.admissible; reads = right.answers };
+        weighed = right.key;
         room = right.size;
-      }
-
+      })
   -- a refusal goes with zeros
-  pub form_refused : (refusal told : Refusal) → answer ≡ Err refusal → HandedIn word refusal told → WeighRight word (Err told) bytes
-  form_refused refusal told f h =
-      record {
-        answers =
-            refused_right word short refusal told
-            (subst (λ (a : Result ℕ Refusal). Answers (stored_form word) (outcome_of a)) f at_form.answers) h;
-        weighed = subst (λ (a : Result ℕ Refusal). KeyIfRead (stored_form word) (outcome_of a) bytes) f at_form.key;
-        room = right.size;
-      }
+  form_weighed (Err refusal) right (Err of_word) h =
+      record { answers = refused_right word short refusal of_word right.answers h; weighed = right.key; room = right.size }
+  form_weighed (Err refusal) right (Ok n) h = absurd h
 
--- and a refusal leaves a key of zeros
-pub refused_zeros : (word : List ℕ) (answer : Result ℕ Refusal) (bytes : List ℕ) → FillRight word answer bytes → (refusal : Refusal)
-    → answer ≡ Err refusal → bytes ≡ zeros key_limit
-refused_zeros word answer bytes right refusal e = subst (λ (a : Result ℕ Refusal). KeyIfRead word (outcome_of a) bytes) e right.key
+  pub held_weighed : (held : Word) → held ≡ word_of (stored_form word) → (answer : Result ℕ Refusal)
+      → FillRight (take held.count held.values) answer bytes → (told : Result ℕ Refusal)
+      → MatchResult answer (λ n. told ≡ Ok n) (λ refusal. IsErrAnd told (HandedIn word refusal)) → WeighRight word told bytes
+  held_weighed held e answer right = form_weighed answer (rw (held_front held (stored_form word) e) at right)
 
-pub weighed_key : (word : List ℕ) (answer : Result ℕ Refusal) (bytes : List ℕ) → WeighRight word answer bytes
-    → KeyRight word (record { answer = answer; bytes = bytes })
-weighed_key word answer bytes right = record { answers = right.answers; bytes = right.weighed }
+-- what is known of a word that is weighed
+module _ (word : List ℕ) (answer : Result ℕ Refusal) (bytes : List ℕ) (right : WeighRight word answer bytes) (count : ℕ) (told : answer ≡ Ok count) where
+  pub weighed : WeighRight word (Ok count) bytes
+  weighed = subst (λ (a : Result ℕ Refusal). WeighRight word a bytes) told right
 
-pub weighed_refused : (word : List ℕ) (answer : Result ℕ Refusal) (bytes : List ℕ) → WeighRight word answer bytes → (refusal : Refusal)
-    → answer ≡ Err refusal → StoreRefusedWith word (number_of refusal) (place_of refusal)
-weighed_refused word answer bytes right refusal e = subst (λ (a : Result ℕ Refusal). StoreAnswers word (outcome_of a)) e right.answers
+  pub weighed_key : HasKey word (record { count = count; bytes = bytes })
+  weighed_key = let w = weighed in record { stores = w.answers; bytes = w.weighed }
 
--- a word that is weighed, with the number of its syllables
-pub record Weighed : Type 0 where
-  pub word : List ℕ
-  pub answer : Result ℕ Refusal
-  pub bytes : List ℕ
-  pub right : WeighRight word answer bytes
-  pub count : ℕ
-  pub told : answer ≡ Ok count
-
-module _ (w : Weighed) where
-  pub weighed_stores : Stores w.word w.count
-  weighed_stores = subst (λ (a : Result ℕ Refusal). StoreAnswers w.word (outcome_of a)) w.told w.right.answers
-
-  pub weighed_limit : w.count ≤ limit
-  weighed_limit = count_limit (stored_form w.word) w.count weighed_stores.reads
+  pub weighed_limit : count ≤ limit
+  weighed_limit = let w = weighed in count_limit (stored_form word) count w.answers.reads
 
   -- the used bytes are within the key
-  pub weighed_used : used_bytes w.count ≤ length w.bytes
-  weighed_used = let h = weighed_limit in omega (arith, w.right.room)
+  pub weighed_used : used_bytes count ≤ length bytes
+  weighed_used = let h = weighed_limit in omega (arith, right.room)
 
--- two words that are weighed compare by their used bytes, and by their stored forms where those are the same
-pub weighed_order : (w v : Weighed) → Ordered w.word v.word
-    (in_turn (order_values (take (used_bytes w.count) w.bytes) (take (used_bytes v.count) v.bytes))
-    (order_values (stored_form w.word) (stored_form v.word)))
-weighed_order w v =
-    keys_compare w.word _ (weighed_key w.word w.answer w.bytes w.right) w.count w.told
-    v.word _ (weighed_key v.word v.answer v.bytes v.right) v.count v.told
+  pub weighed_taken : used_bytes count ≡ length (take (used_bytes count) bytes)
+  weighed_taken = sym (length-take-le (used_bytes count) bytes weighed_used)

@@ -3,10 +3,11 @@
 use Rattle.std.specs.Prelude.{◌≡◌, List, [], ◌∷◌, ℕ}
 use Rattle.letters.specs.Weights.{head_weight}
 use Rattle.formula.specs.Row.{Row, Gives}
-use Rattle.refusals.specs.Pair.{PairOutcome, pair_outcome_of, PairAnswers}
+use Rattle.refusals.specs.Pair.{PairOutcome, pair_outcome_by, PairAnswers}
 use Rattle.std.specs.declared.result.Result.{Result}
 use Rattle.refusals.specs.declared.PairRefusal.{PairRefusal}
-use Rattle.std.specs.declared.result.Result.TheVariants.{Ok}
+use Rattle.std.specs.declared.option.Option.{Option}
+use Rattle.std.specs.declared.option.Option.TheVariants.{Some, None}
 use Rattle.storage.specs.Stored.{stored_form}
 use Rattle.normaliser.specs.Normal.{StoreRefusedWith, Stores}
 use Rattle.weighing.specs.Order.{filed, order}
@@ -38,20 +39,15 @@ abbrev pub CompareAnswers : List ℕ → List ℕ → PairOutcome → Type 0
 CompareAnswers first second outcome = PairAnswers Stores StoreRefusedWith Compares first second outcome
 
 -- the promise of a comparison
-abbrev pub CompareRight : List ℕ → List ℕ → Result ℕ PairRefusal → Type 0
-CompareRight first second answer = CompareAnswers first second (pair_outcome_of answer)
+abbrev pub CompareRight : List ℕ → List ℕ → Result Ordering PairRefusal → Type 0
+CompareRight first second answer = CompareAnswers first second (pair_outcome_by order_number answer)
 
--- inner contracts cite what follows: the answer that says the order,
-abbrev pub compared_as : Ordering → Result ℕ PairRefusal
-compared_as order = Ok (order_number order)
-
--- the weight of the first value as a head; 0 where it is none, and for no values,
+-- inner contracts cite what follows: the weight of the first value as a head; 0 where it is none, and for no values,
 abbrev pub first_head : List ℕ → ℕ
 first_head [] = 0
 first_head (x ∷ word) = head_weight x
 
--- and the order that the first heads tell; that they are equal tells nothing
-abbrev pub HeadsTell : List ℕ → List ℕ → Ordering → Type 0
-HeadsTell first second Before = Ordered first second Before
-HeadsTell first second Alike = Unit {0}
-HeadsTell first second Behind = Ordered first second Behind
+-- and the order that the first heads tell, where they tell one
+abbrev pub HeadsTell : List ℕ → List ℕ → Option Ordering → Type 0
+HeadsTell first second (Some is) = Ordered first second is
+HeadsTell first second None = Unit {0}

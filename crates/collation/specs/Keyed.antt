@@ -4,9 +4,11 @@ use Rattle.std.specs.Prelude.{◌≡◌, List, ℕ, length}
 use Rattle.formula.specs.Row.{Row, Gives}
 use Rattle.refusals.specs.Outcome.{Outcome, accepts, accepts_both, absent, refuses, outcome_of}
 use Rattle.std.specs.declared.result.Result.{Result}
+use Rattle.std.specs.declared.result.Result.TheVariants.{Ok, Err}
+use Rattle.refusals.specs.Refusal.{number_of, place_of}
 use Rattle.refusals.specs.declared.Refusal.{Refusal}
 use Rattle.storage.specs.Stored.{stored_form}
-use Rattle.normaliser.specs.Normal.{StoreAnswers}
+use Rattle.normaliser.specs.Normal.{StoreRefusedWith, Stores, StoreAnswers}
 use Rattle.weighing.specs.Keys.{key_limit, zeros, key_bytes}
 use Rattle.collation.specs.declared.key.Key.{Key}
 
@@ -17,12 +19,17 @@ KeyFor word (accepts_both n m) bytes = ⊥
 KeyFor word absent bytes = ⊥
 KeyFor word (refuses number place) bytes = bytes ≡ zeros key_limit
 
--- the promise of a key; "the syllable count comes with it", in the answer
-pub record KeyRight (word : List ℕ) (key : Key) : Type 0 where
-  pub answers : StoreAnswers word (outcome_of key.answer)
-  pub bytes : KeyFor word (outcome_of key.answer) key.bytes
+-- a word's key; "the syllable count comes with it"
+pub record HasKey (word : List ℕ) (key : Key) : Type 0 where
+  pub stores : Stores word key.count
+  pub bytes : KeyFor word (accepts key.count) key.bytes
 
--- inner contracts cite what follows: the same of an answer beside the bytes
+-- the promise of a key
+abbrev pub KeyRight : List ℕ → Result Key Refusal → Type 0
+KeyRight word (Ok key) = HasKey word key
+KeyRight word (Err refusal) = StoreRefusedWith word (number_of refusal) (place_of refusal)
+
+-- inner contracts cite what follows: an answer beside the bytes of a key
 pub record WeighRight (word : List ℕ) (answer : Result ℕ Refusal) (bytes : List ℕ) : Type 0 where
   pub answers : StoreAnswers word (outcome_of answer)
   pub weighed : KeyFor word (outcome_of answer) bytes

@@ -2,32 +2,25 @@
 ghost use Rattle.std.specs.Prelude.{◌≡◌};
 ghost use Rattle.collation.specs.Comparison.{first_head, HeadsTell};
 
-use std::cmp::Ordering;
 use letters::weight::head_weight;
 use recogniser::walk::is_row;
+use std::cmp::Ordering;
 
 // The weight of a word's first value as a head; 0 where it is none, and for no values.
-fn first_head(word: &[u16]) -> usize
+fn first_head(word: &[u16]) -> u8
     ensures { result ≡ first_head word.now }
 {
-    if word.len() == 0 {
-        return 0;
-    }
-    head_weight(word[0]) as usize
+    word.first().map_or(0, |first| head_weight(*first))
 }
 
-// The order of two rows of syllables whose first heads weigh differently; that they are equal tells nothing.
-pub(crate) fn order_heads(first: &[u16], second: &[u16]) -> Ordering
+// The order of two rows of syllables whose first heads weigh differently.
+#[tactic(auto, using(crate::proofs::Apart::heads_tell))]
+pub(crate) fn order_heads(first: &[u16], second: &[u16]) -> Option<Ordering>
     ensures { HeadsTell first.now second.now result }
 {
     let order = first_head(first).cmp(&first_head(second));
-    if let Ordering::Equal = order {
-        return order;
+    if order.is_ne() && is_row(first) && is_row(second) {
+        return Some(order);
     }
-    if is_row(first) {
-        if is_row(second) {
-            return order;
-        }
-    }
-    Ordering::Equal
+    None
 }

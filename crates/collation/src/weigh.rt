@@ -9,6 +9,7 @@ use normaliser::as_handed_in;
 use refusals::Refusal;
 
 // Fills a key of zeros with the weights of a word's stored form, which is a word of its own.
+#[tactic(auto, using(crate::proofs::Weighing::long_weighed))]
 fn weigh_stored(word: &[u16], bytes: &mut [u8; Word::KEY]) -> Result<usize, Refusal>
     requires { bytes.old ≡ zeros key_limit }
     ensures { WeighRight word.now result bytes.new }
@@ -17,13 +18,7 @@ fn weigh_stored(word: &[u16], bytes: &mut [u8; Word::KEY]) -> Result<usize, Refu
         return Err(Refusal::TooLong);
     }
     let form = storage::stored(word);
-    let count = form.count;
-    let values = form.values;
-    let answer = fill(&values[..count], bytes);
-    if let Err(refusal) = answer {
-        return Err(as_handed_in(word, refusal));
-    }
-    answer
+    fill(&form.values[..form.count], bytes).map_err(|refusal| as_handed_in(word, refusal))
 }
 
 // The same for a word of any values and any length; with a refusal it is a key of zeros again. A row of syllables is its own stored form.
@@ -31,9 +26,8 @@ pub fn weigh(word: &[u16], bytes: &mut [u8; Word::KEY]) -> Result<usize, Refusal
     requires { bytes.old ≡ zeros key_limit }
     ensures { WeighRight word.now result bytes.new }
 {
-    let answer = fill(word, bytes);
-    if let Ok(_) = answer {
-        return answer;
+    if let Ok(count) = fill(word, bytes) {
+        return Ok(count);
     }
     weigh_stored(word, bytes)
 }
