@@ -27,21 +27,17 @@ pub fn put_record(word: &[u16], number: usize, output: &mut [u8]) -> Result<Opti
 }
 
 // Writes the key of a word to the front of the output.
+#[tactic(auto, using(crate::proofs::Keying::key_stays, crate::proofs::Keying::key_short, crate::proofs::Keying::key_written))]
 pub fn put_key(word: &[u16], output: &mut [u8]) -> Result<usize, Refusal>
     ensures { KeyWritten word.now output.old output.new (outcome_of result) }
 {
     let mut bytes = [0; Word::KEY];
-    let answer = weigh(word, &mut bytes);
-    match answer {
-        Err(refusal) => Err(refusal),
-        Ok(count) => {
-            if output.len() < Word::KEY {
-                return Err(Refusal::OutputTooShort(Word::KEY));
-            }
-            put_all(&bytes, output, 0);
-            Ok(count)
-        }
+    let count = weigh(word, &mut bytes)?;
+    if output.len() < Word::KEY {
+        return Err(Refusal::OutputTooShort(Word::KEY));
     }
+    put_all(&bytes, output, 0);
+    Ok(count)
 }
 
 // Writes the values of a line to the front of the output.
