@@ -1,14 +1,15 @@
 -- The filed keys tell which records fit: the weights of a key begin with others where the part of their length is the same; and the starts that are
 -- kept are those of the live entries that fit. Assumes nothing.
 use mathlib.Core.Path.{◌≡◌, refl, sym, ap, subst, ◌∙◌}
-use mathlib.Core.Bool.{Bool, true, false}
+use mathlib.Core.Bool.{Bool, true, false, ◌&&◌}
 use mathlib.Core.List.{List, [], ◌∷◌, ◌++◌, map, append-nil}
-use Prim.Native.Nat.{ℕ, ◌+◌, ◌*◌, ◌-◌, ◌≤◌, ◌<◌}
+use Prim.Native.Nat.{ℕ, ◌+◌, ◌-◌, ◌≤◌, ◌<◌}
 use native.Mathlib.Numerals.{add-one}
 use native.Mathlib.Omega.{arith}
-use lib.ListN.{length, get_or, take, drop, set, length-drop, length-append}
-use lib.Seq.{sets, length-sets, length-take-le, take_all, take-suc, take-take, get_or-drop}
-use Rattle.formula.specs.Limits.{weight_count}
+use lib.Dec.{eqb}
+use Rattle.std.specs.List.{starts_with}
+use lib.ListN.{length, get_or, take, drop, set, length-append}
+use lib.Seq.{sets, length-sets, length-take-le, take_all, take-suc, get_or-drop}
 use Rattle.memory.proofs.Stores.{sets_behind, sets_whole}
 use Rattle.letters.specs.Choice.{pick}
 use Rattle.formula.specs.Lists.{filtered, is_prefix}
@@ -16,37 +17,21 @@ use Rattle.formula.specs.Row.{Row}
 use Rattle.formula.proofs.Lists.{All}
 use Rattle.formula.proofs.Filtered.{filtered_append, filtered_few, filtered_alike, filtered_all, filtered_map}
 use Rattle.weighing.specs.Keys.{key_of}
-use Rattle.weighing.specs.Order.{order_values}
-use Rattle.std.specs.declared.cmp.Ordering.{Ordering}
-use Rattle.weighing.proofs.Prefix.{key_prefix, is_equal, prefix_compared, prefix_short}
-use Rattle.entries.specs.Limits.{book_limit}
-use Rattle.entries.specs.Entries.{Entry, word_at, entry_at}
+use Rattle.weighing.proofs.Prefix.{key_prefix}
+use Rattle.entries.specs.Entries.{Entry, entry_at}
 use Rattle.entries.specs.Book.{IsBook}
 use Rattle.entries.specs.Map.{live_ones}
-use Rattle.book_keys.specs.Filing.{row_of, key_room, HasKey, AllKeyed, start_of}
-use Rattle.book_keys.proofs.Rows.{key_count, key_weights, key_ends}
-use Rattle.book_keys.proofs.Live.{entries_back, keyed_at}
+use Rattle.book_keys.specs.Filing.{row_of, AllKeyed, start_of}
+use Rattle.book_keys.proofs.Rows.{keyed_weights}
+use Rattle.book_keys.proofs.Live.{entries_back}
 use Rattle.book_keys.proofs.Collecting.{starts_snoc}
-use Rattle.book_fitting.specs.Fitting.{fits, fits_key, weights_at, has_prefix, KeyWithin, AllWithin, KeptRight}
+use Rattle.book_fitting.specs.Fitting.{fits, fits_key, has_prefix, KeptRight}
 
-module _ (keys prefix : List ℕ) (start : ℕ) (h : KeyWithin keys start) (count : ℕ) (counted : count ≡ get_or keys (weight_count * start) 0) where
-  weights_long : length (weights_at keys start) ≡ weight_count * count
-  weights_long =
-      length-take-le (weight_count * get_or keys (weight_count * start) 0) (drop (weight_count * start + 1) keys) (omega (arith, h.within, length-drop (weight_count * start + 1) keys))
-      ∙ omega (arith, counted)
-
-  -- too few weights
-  pub prefix_longer : weight_count * count < length prefix → has_prefix keys prefix start ≡ false
-  prefix_longer l = prefix_short prefix (weights_at keys start) (omega (arith, weights_long))
-
-  -- enough of them, compared
-  pub prefix_told : length prefix ≤ weight_count * count → (o : Ordering) → o ≡ order_values (take (length prefix) (drop (weight_count * start + 1) keys)) prefix
-      → has_prefix keys prefix start ≡ is_equal o
-  prefix_told l o e =
-      sym (prefix_compared prefix (weights_at keys start))
-      ∙ ap (λ (p : List ℕ). is_equal (order_values p prefix))
-      (take-take (length prefix) (weight_count * get_or keys (weight_count * start) 0) (drop (weight_count * start + 1) keys) (omega (arith, counted)))
-      ∙ ap is_equal (sym e)
+-- the library's test is that of the definition
+pub prefix_told : (prefix weights : List ℕ) → starts_with eqb weights prefix ≡ is_prefix prefix weights
+prefix_told [] weights = refl
+prefix_told (x ∷ prefix) [] = refl
+prefix_told (x ∷ prefix) (y ∷ weights) = ap (λ (t : Bool). eqb x y && t) (prefix_told prefix weights)
 
 -- the values behind those that are put at the front
 untouched : (vs l : List ℕ) (k : ℕ) → length vs ≤ k → length vs ≤ length l → get_or (sets l 0 vs) k 0 ≡ get_or l k 0
@@ -83,7 +68,7 @@ module _ (keys prefix before after : List ℕ) (count next : ℕ) (k : Kept keys
   abbrev test : ℕ → Bool
   test = has_prefix keys prefix
 
-  pub keep_few : count ≤ next
+  keep_few : count ≤ next
   keep_few = omega (arith, k.counted, k.passed, filtered_few test (take next before), length-take-le next before k.passed)
 
   pub keep_long : length after ≡ length before
@@ -94,6 +79,10 @@ module _ (keys prefix before after : List ℕ) (count next : ℕ) (k : Kept keys
   keep_here =
       ap (λ (l : List ℕ). get_or l next 0) k.starts
       ∙ untouched (filtered test (take next before)) before next (omega (arith, keep_few, k.counted)) (omega (arith, keep_few, k.counted, k.passed))
+
+  -- there is room for one more
+  pub keep_room : next < length before → count < length after
+  keep_room h = omega (arith, keep_few, keep_long)
 
   module _ (h : next < length before) where
     -- what is kept with the start at the place
@@ -131,23 +120,12 @@ module _ (keys prefix before after : List ℕ) (count next : ℕ) (k : Kept keys
       }
 
 module _ (b keys : List ℕ) where
-  -- the weights of a filed key are those of the record's word,
-  keyed_weights : (at : ℕ) → HasKey b keys at → weights_at keys at ≡ key_of (row_of (word_at b at))
-  keyed_weights at h = ap (λ (n : ℕ). take (weight_count * n) (drop (weight_count * at + 1) keys)) (key_count b keys at h) ∙ key_weights b keys at h
-
-  -- and they stand within the room for keys
-  pub keyed_within : (starts : List ℕ) → length b ≤ book_limit → length keys ≡ key_room → AllKeyed b keys starts → AllWithin keys starts
-  keyed_within starts short room a place h =
-      let at = get_or starts place 0 in
-      let k = keyed_at b keys starts place a h in
-      record { room = room; within = omega (arith, room, key_count b keys at k, key_ends b keys at k short) }
-
   keyed_alike : (prefix : List ℕ) (l : List Entry) → AllKeyed b keys (map start_of l) → map (entry_at b) (map start_of l) ≡ l
       → All (λ (e : Entry). has_prefix keys prefix (start_of e) ≡ fits_key prefix e) l
   keyed_alike prefix [] a e = tt
   keyed_alike prefix (x ∷ l) a e =
       let here : entry_at b x.start ≡ x = ap (λ (m : List Entry). get_or m 0 x) e in (
-        ap (is_prefix prefix) (keyed_weights x.start a.0) ∙ ap (fits_key prefix) here,
+        ap (is_prefix prefix) (keyed_weights b keys x.start a.0) ∙ ap (fits_key prefix) here,
         keyed_alike prefix l a.1 (ap (drop 1) e),
       )
 

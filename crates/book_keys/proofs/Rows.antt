@@ -18,7 +18,7 @@ use Rattle.entries.specs.Limits.{book_limit, head_size}
 use Rattle.recogniser.proofs.Decided.{decide_row}
 use Rattle.entries.specs.Entries.{word_at}
 use Rattle.entries.proofs.Records.{Framed, framed_true, length_word}
-use Rattle.book_keys.specs.Filing.{decided_row, row_of, filed_key, key_room, HasKey}
+use Rattle.book_keys.specs.Filing.{decided_row, row_of, filed_key, key_room, weights_at, HasKey}
 
 pub row_is : (word : List ℕ) → Readable word → (row : Row) → Gives row word → row_of word ≡ row
 unfolding row_of
@@ -74,3 +74,7 @@ module _ (b keys : List ℕ) (at : ℕ) (h : HasKey b keys at) where
   pub key_ends : length b ≤ book_limit → weight_count * at + (1 + weight_count * length (row_of (word_at b at))) ≤ key_room
   key_ends s =
       omega (arith, (key_within b at s (framed_true b at h.framed) h.readable).1, filed_key_length (row_of (word_at b at)))
+
+  -- the weights that stand behind the number are those of the record's word
+  pub keyed_weights : weights_at keys at ≡ key_of (row_of (word_at b at))
+  keyed_weights = ap (λ (n : ℕ). take (weight_count * n) (drop (weight_count * at + 1) keys)) key_count ∙ key_weights

@@ -1,6 +1,6 @@
 -- Document 01, "The word book" and "Weights": the rows of the words of a book, and how the keys of its live records are filed.
 -- Assumes nothing.
-use Rattle.std.specs.Prelude.{◌≡◌, List, [], ◌∷◌, map, ℕ, ◌≤◌, T, length, take, drop}
+use Rattle.std.specs.Prelude.{◌≡◌, List, [], ◌∷◌, map, ℕ, ◌+◌, ◌≤◌, T, length, get_or, take, drop}
 use Rattle.std.proofs.lemmas.List.Edits.{sets}
 use Rattle.formula.specs.Row.{Row, Gives}
 use Rattle.recogniser.specs.Answer.{Readable}
@@ -27,6 +27,10 @@ pub record HasKey (bytes keys : List ℕ) (at : ℕ) : Type 0 where
   pub framed : T (is_framed bytes at)
   pub readable : Readable (word_at bytes at)
   pub key_there : take (length (filed_key (row_of (word_at bytes at)))) (drop (used_bytes at) keys) ≡ filed_key (row_of (word_at bytes at))
+
+-- the weights in the key that is filed for the record at a start
+abbrev pub weights_at : List ℕ → ℕ → List ℕ
+weights_at keys start = take (used_bytes (get_or keys (used_bytes start) 0)) (drop (used_bytes start + 1) keys)
 
 -- each of these starts has its key
 abbrev pub AllKeyed : List ℕ → List ℕ → List ℕ → Type 0

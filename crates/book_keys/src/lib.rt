@@ -1,7 +1,7 @@
 // The live records of a book, each with its key: the number of its syllables and their weights.
 #![tactic(auto)]
 
-ghost use Rattle.std.specs.Prelude.{◌≡◌, ◌∷◌, ◌+◌, ◌*◌, ◌≤◌, ◌<◌, T, length, take};
+ghost use Rattle.std.specs.Prelude.{◌≡◌, ◌∷◌, ◌+◌, ◌*◌, ◌≤◌, ◌<◌, T, length, take, drop};
 ghost use Rattle.std.proofs.lemmas.List.Edits.{sets};
 ghost use Rattle.formula.specs.Limits.{limit};
 ghost use Rattle.recogniser.specs.Answer.{Readable};
@@ -9,7 +9,7 @@ ghost use Rattle.weighing.specs.Keys.{used_bytes};
 ghost use Rattle.entries.specs.Limits.{book_limit};
 ghost use Rattle.entries.specs.Entries.{word_at, is_framed};
 ghost use Rattle.entries.specs.Book.{Opened};
-ghost use Rattle.book_keys.specs.Filing.{row_of, filed_key, key_room, most_live, FiledRight};
+ghost use Rattle.book_keys.specs.Filing.{row_of, filed_key, key_room, most_live, weights_at, FiledRight};
 
 use book_frame::{HEAD, has_mark, values_of};
 use formula::Word;
@@ -23,6 +23,27 @@ pub const KEY_ROOM: usize = 98304;
 
 // The most live records of a book.
 pub const MOST_LIVE: usize = 2048;
+
+// So many bytes from a place on, or as many of them as there are.
+pub fn part(bytes: &[u8], from: usize, count: usize) -> &[u8]
+    ensures { result.now ≡ take count (drop from bytes.now) }
+{
+    let Some(rest) = bytes.get(from..) else {
+        return &[];
+    };
+    rest.get(..count).unwrap_or(rest)
+}
+
+// The weights of the key that is filed for the record at a start.
+pub fn weights_at(keys: &[u8], start: u16) -> &[u8]
+    ensures { result.now ≡ weights_at keys.now start }
+{
+    let from = Word::WEIGHTS * usize::from(start);
+    match keys.get(from) {
+        Some(count) => part(keys, from + 1, Word::WEIGHTS * usize::from(*count)),
+        None => &[],
+    }
+}
 
 // A start in 16 bits.
 fn start_of(at: usize) -> u16

@@ -1,122 +1,64 @@
 // Two records of a book in word order.
 #![tactic(auto)]
 
-ghost use Rattle.std.specs.Prelude.{◌≡◌, ◌+◌, ◌*◌, ◌≤◌, ◌<◌, length, get_or, take, drop};
-ghost use Rattle.weighing.specs.Order.{order_values, front_of};
-ghost use Rattle.entries.specs.Limits.{book_limit};
+ghost use Rattle.std.specs.Prelude.{◌≡◌};
+ghost use Rattle.weighing.specs.Order.{order_values, front_of, order};
 ghost use Rattle.entries.specs.Entries.{entry_at};
-ghost use Rattle.book_keys.specs.Filing.{key_room, HasKey};
-ghost use Rattle.book_order.specs.Order.{is_less, before, Decides};
+ghost use Rattle.book_keys.specs.Filing.{HasKey};
+ghost use Rattle.book_order.specs.Order.{file_of, bytes_at, filed_order, Decides};
 
-use std::cmp::Ordering;
 use book_frame::HEAD;
-use book_keys::KEY_ROOM;
-use formula::Word;
-use memory::casts::wide;
+use book_keys::{part, weights_at};
+use std::cmp::Ordering;
 
-fn is_less(order: Ordering) -> bool
-    ensures { result ≡ is_less order }
+// The bytes of the word of the record at a start.
+fn bytes_at(book: &[u8], start: u16) -> &[u8]
+    ensures { result.now ≡ bytes_at book.now start }
 {
-    match order {
-        Ordering::Less => true,
-        Ordering::Equal => false,
-        Ordering::Greater => false,
+    let at = usize::from(start);
+    match book.get(at + 2) {
+        Some(count) => part(book, at + HEAD, usize::from(*count)),
+        None => &[],
     }
 }
 
-// The order of two parts of a list of bytes.
-fn order_parts(
-    bytes: &[u8],
-    first: usize,
-    first_size: usize,
-    second: usize,
-    second_size: usize,
-) -> Ordering
-    requires { (first + first_size ≤ length bytes.now) × (second + second_size ≤ length bytes.now) }
-    ensures { result ≡ order_values (take first_size (drop first bytes.now)) (take second_size (drop second bytes.now)) }
+// Eight bytes as one number, the first highest, which the compiler loads at once.
+#[tactic(auto, using(crate::proofs::Fronts::big_endian))]
+fn front(bytes: &[u8; 8]) -> u64
+    ensures { result ≡ front_of 8 bytes.now }
 {
-    let first_end = first + first_size;
-    let second_end = second + second_size;
-    bytes[first..first_end].cmp(&bytes[second..second_end])
+    u64::from_be_bytes(*bytes)
 }
 
-// The two bytes from a place on as one number, the first highest.
-fn pair(bytes: &[u8], at: usize) -> usize
-    requires { (at + 2 ≤ length bytes.now) × (length bytes.now ≤ key_room) }
-    ensures { (result ≡ 256 * get_or bytes.now at 0 + get_or bytes.now (at + 1) 0) × (result < 0x10000) }
+// The order of two keys by their first eight bytes, where both have as many; else as if they were equal.
+fn order_fronts(first: &[u8], second: &[u8]) -> Ordering
+    ensures { Decides result (order_values first.now second.now) }
 {
-    let high = wide(bytes[at]);
-    let low = wide(bytes[at + 1]);
-    256 * high + low
-}
-
-// The eight bytes from a place on as one number, the first highest, which the compiler loads at once.
-fn front(bytes: &[u8], at: usize) -> usize
-    requires { (at + 8 ≤ length bytes.now) × (length bytes.now ≤ key_room) }
-    ensures { result ≡ front_of 8 (drop at bytes.now) }
-{
-    let high = pair(bytes, at) * 0x10000 + pair(bytes, at + 2);
-    let low = pair(bytes, at + 4) * 0x10000 + pair(bytes, at + 6);
-    high * 0x100000000 + low
-}
-
-// The order of two parts by their first eight bytes, where both have as many; else as if they were equal.
-fn order_fronts(
-    bytes: &[u8],
-    first: usize,
-    first_size: usize,
-    second: usize,
-    second_size: usize,
-) -> Ordering
-    requires { (first + first_size ≤ length bytes.now) × (second + second_size ≤ length bytes.now) × (length bytes.now ≤ key_room) }
-    ensures { Decides result (order_values (take first_size (drop first bytes.now)) (take second_size (drop second bytes.now))) }
-{
-    if first_size < 8 || second_size < 8 {
-        return Ordering::Equal;
+    match (first.first_chunk(), second.first_chunk()) {
+        (Some(one), Some(other)) => front(one).cmp(&front(other)),
+        _ => Ordering::Equal,
     }
-    front(bytes, first).cmp(&front(bytes, second))
 }
 
-// The order of two parts, by their first eight bytes at once where these decide.
-fn order_keys(
-    bytes: &[u8],
-    first: usize,
-    first_size: usize,
-    second: usize,
-    second_size: usize,
-) -> Ordering
-    requires { (first + first_size ≤ length bytes.now) × (second + second_size ≤ length bytes.now) × (length bytes.now ≤ key_room) }
-    ensures { result ≡ order_values (take first_size (drop first bytes.now)) (take second_size (drop second bytes.now)) }
+// The order of two keys, by their first eight bytes at once where these decide.
+fn order_keys(first: &[u8], second: &[u8]) -> Ordering
+    ensures { result ≡ order_values first.now second.now }
 {
-    let order = order_fronts(bytes, first, first_size, second, second_size);
-    let Ordering::Equal = order else {
+    let order = order_fronts(first, second);
+    if order.is_ne() {
         return order;
-    };
-    order_parts(bytes, first, first_size, second, second_size)
+    }
+    first.cmp(second)
 }
 
-// Whether the record at one place stands before the record at another in word order.
-pub fn is_before(book: &[u8], keys: &[u8; KEY_ROOM], first: usize, second: usize) -> bool
-    requires { (length book.now ≤ book_limit) × (length keys.now ≡ key_room) × HasKey book.now keys.now first × HasKey book.now keys.now second }
-    ensures { result ≡ before (entry_at book.now first) (entry_at book.now second) }
+// The order of the records at two starts: by the weights of their keys, and where these are the same by the values of their words.
+pub fn order(book: &[u8], keys: &[u8], first: u16, second: u16) -> Ordering
+    ensures filed { result ≡ filed_order book.now keys.now first second }
+    ensures by_words { HasKey book.now keys.now first → HasKey book.now keys.now second → result ≡ order (file_of (entry_at book.now first)) (file_of (entry_at book.now second)) }
 {
-    let first_key = Word::WEIGHTS * first;
-    let second_key = Word::WEIGHTS * second;
-    let by_weights = order_keys(
-        keys,
-        first_key + 1,
-        Word::WEIGHTS * wide(keys[first_key]),
-        second_key + 1,
-        Word::WEIGHTS * wide(keys[second_key]),
-    );
-    let Ordering::Equal = by_weights else {
-        return is_less(by_weights);
-    };
-    is_less(order_parts(
-        book,
-        first + HEAD,
-        wide(book[first + 2]),
-        second + HEAD,
-        wide(book[second + 2]),
-    ))
+    let order = order_keys(weights_at(keys, first), weights_at(keys, second));
+    if order.is_ne() {
+        return order;
+    }
+    bytes_at(book, first).cmp(bytes_at(book, second))
 }

@@ -4,14 +4,18 @@ ghost use Rattle.entries.specs.Book.{Opened};
 ghost use Rattle.book_fitting.specs.Fitting.{fits_key};
 ghost use Rattle.sorting.specs.Passing.{PutsPassing};
 
-use crate::merging::sort_front;
 use book_fitting::keep_fitting;
 use book_keys::{KEY_ROOM, MOST_LIVE, file_records};
-use memory::copies::put_all;
+use book_order::order;
 use refusals::Refusal;
 
 // Puts the starts of the live records whose weights begin with these, in word order, at the front of `starts`, where there is room for them.
-pub fn sort_records(book: &[u8], free: usize, prefix: &[u8], starts: &mut [u16]) -> Result<usize, Refusal>
+pub fn sort_records(
+    book: &[u8],
+    free: usize,
+    prefix: &[u8],
+    starts: &mut [u16],
+) -> Result<usize, Refusal>
     requires { Opened book.now free }
     ensures { PutsPassing book.now (fits_key prefix.now) starts.old starts.new (outcome_of result) }
 {
@@ -22,7 +26,8 @@ pub fn sort_records(book: &[u8], free: usize, prefix: &[u8], starts: &mut [u16])
     if starts.len() < count {
         return Err(Refusal::OutputTooShort(count));
     }
-    put_all(&found[..count], starts, 0);
-    sort_front(book, &keys, starts, count, &mut found);
+    let fitting = &mut found[..count];
+    fitting.sort_unstable_by(|first, second| order(book, &keys, *first, *second));
+    starts[..count].copy_from_slice(fitting);
     Ok(count)
 }

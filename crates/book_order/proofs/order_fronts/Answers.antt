@@ -1,26 +1,19 @@
--- `book_order::order_fronts` meets its contract: where both parts have eight bytes, these decide if they differ.
+-- `book_order::order_fronts` meets its contract: where both keys have eight bytes, these decide if they differ.
 -- Assumes nothing.
-use mathlib.Core.Path.{refl, ap, ◌∙◌}
-use mathlib.Core.Logic.{inl}
-use Prim.Native.Nat.{ℕ}
+use mathlib.Core.Path.{ap, ◌∙◌}
 use native.Mathlib.Omega.{arith}
-use lib.ListN.{drop}
-use borrow.Author.Tests.{ltb-false}
 use Rattle.weighing.specs.Order.{order_numbers, front_of}
-use Rattle.book_order.proofs.Fronts.{fronts_decide}
 use Rattle.weighing.proofs.Library.{numbers_compared}
+use Rattle.book_order.proofs.Fronts.{front_of_part, fronts_decide}
 use Rattle.book_order.proofs.order_fronts.Goals as goal
 
-pub returns-then-first_size-lt8 : goal.returns-then-first_size-lt8
-returns-then-first_size-lt8 c = inl refl
-
-pub front-requires-2 : goal.front-requires-2
-front-requires-2 c = (omega (arith, ltb-false, c.if-second_size-lt8.false, c.requires.1), c.requires.2)
-
-pub returns : goal.returns
-returns c =
+pub returns-in-Some-Some : goal.returns-in-Some-Some
+returns-in-Some-Some c =
     let a = c.args in
-    fronts_decide a.bytes.now (λ at. omega (arith, c.type_inv.bytes at)) a.first a.first_size a.second a.second_size
-    (omega (arith, c.if-first_size-lt8.false)) (omega (arith, ltb-false, c.if-second_size-lt8.false)) c.requires.0 c.requires.1 c.cmp.result
-    ((c.cmp.ensures ∙ numbers_compared _ _) ∙ ap (order_numbers c.front.result) c.front-2.ensures
-    ∙ ap (λ (n : ℕ). order_numbers n (front_of 8 (drop a.second a.bytes.now))) c.front.ensures)
+    let one = c.in-Some-Some.ensures.cases in
+    let other = c.in-Some-Some.ensures'.cases in
+    fronts_decide a.first.now a.second.now one.enough other.enough (λ at. omega (arith, c.type_inv.first at)) (λ at. omega (arith, c.type_inv.second at))
+    c.cmp.result
+    (c.cmp.ensures ∙ numbers_compared _ _
+    ∙ (λ i. order_numbers ((c.front.ensures ∙ ap (front_of 8) one.same ∙ front_of_part 8 8 a.first.now (omega arith)) i)
+    ((c.front-in-Some-Some.ensures ∙ ap (front_of 8) other.same ∙ front_of_part 8 8 a.second.now (omega arith)) i)))
