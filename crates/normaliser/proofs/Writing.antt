@@ -1,13 +1,17 @@
 -- A word that passes the tests stands for its stored form, and what is held of that is put out.
 -- Assumes nothing.
 use mathlib.Core.Path.{◌≡◌, refl, sym, ◌∙◌}
-use mathlib.Core.List.{List}
-use Prim.Native.Nat.{ℕ, ◌<◌, ◌≤◌}
-use lib.ListN.{length, get_or, take}
+use mathlib.Core.List.{List, [], ◌∷◌}
+use Prim.Native.Nat.{ℕ, zero, suc, ◌<◌, ◌≤◌}
+use lib.ListN.{length, take}
+use Rattle.std.specs.Prelude.{Option, Some, None, slice_get}
+use Rattle.std.proofs.Math.Option as option
+use Rattle.std.proofs.Math.Option.{none, some}
+use Rattle.std.proofs.Math.ListN.{get_elem?}
 use Rattle.formula.specs.Held.{word_of}
 use Rattle.formula.specs.declared.Word.{Word}
 use Rattle.formula.proofs.Held.{held_front}
-use Rattle.refusals.specs.Outcome.{Outcome, accepts, refuses}
+use Rattle.refusals.specs.Outcome.{Outcome, accepts, refuses, tells_if_there}
 use Rattle.refusals.specs.Output.{Puts, whole, no_room, refused}
 use Rattle.std.proofs.lemmas.List.Edits.{sets}
 use Rattle.memory.proofs.Stores.{sets_front}
@@ -16,11 +20,10 @@ use Rattle.recogniser.specs.Answer.{Admissible, Readable}
 use Rattle.storage.specs.Stored.{stored_form}
 use Rattle.storage.proofs.Rows.{gives_stored}
 use Rattle.typed_places.specs.Typed.{typed_places}
-use Rattle.typed_places.proofs.Laws.{typed_found, typed_none}
 use Rattle.normaliser.specs.Admission.{Unadmitted}
 use Rattle.normaliser.specs.Form.{FormRight}
 use Rattle.normaliser.specs.Normal.{StoreRefusedWith, Stores, HoldsForm, NormaliseRight}
-use Rattle.normaliser.specs.Typed.{HasPlace, HasNoPlace}
+use Rattle.normaliser.specs.Typed.{TypedAnswers}
 use Rattle.normaliser.proofs.Storing.{readable_stores}
 
 -- values are put where there is room for them
@@ -58,10 +61,20 @@ module _ (word before : List ℕ) where
     row_put readable p =
         put_values (length readable.row) (readable_stores word readable) word (sym (gives_stored readable.row word readable.gives)) p
 
--- every typed place is one of the word, so the word's length stands for none
-module _ (word : List ℕ) (place : ℕ) (a : Admissible word) where
-  pub found_placed : get_or (typed_places word) place (length word) < length word → HasPlace word place (get_or (typed_places word) place (length word))
-  found_placed h = record { admissible = a; typed = typed_found word place h }
+-- what stands at a place of a list, or that nothing does, in the library's words and in ours
+abbrev Same : Option ℕ → option.Option ℕ → Type 0
+Same None q = q ≡ none
+Same (Some p) q = q ≡ some p
 
-  pub none_placed : length word ≤ get_or (typed_places word) place (length word) → HasNoPlace word place
-  none_placed h = record { admissible = a; nothing = typed_none word place h }
+by_place : (xs : List ℕ) (i : ℕ) → Same (slice_get xs i) (get_elem? xs i)
+by_place [] i = refl
+by_place (x ∷ xs) zero = refl
+by_place (x ∷ xs) (suc i) = by_place xs i
+
+-- the typed place of a value is told where there is one
+pub place_told : (word : List ℕ) (place : ℕ) → Admissible word → TypedAnswers word place (tells_if_there accepts (slice_get (typed_places word) place))
+place_told word place a = go (slice_get (typed_places word) place) (by_place (typed_places word) place)
+  where
+    go : (o : Option ℕ) → Same o (get_elem? (typed_places word) place) → TypedAnswers word place (tells_if_there accepts o)
+    go (Some p) e = record { admissible = a; typed = e }
+    go None e = record { admissible = a; nothing = e }

@@ -1,6 +1,6 @@
 -- `normaliser::admission::admit` meets its contract: the first foreign value refuses the word, and where there is none it is admitted.
 -- Assumes nothing.
-use Rattle.std.proofs.Common.{refl, length, arith}
+use Rattle.std.proofs.Common.{refl, arith}
 use Rattle.normaliser.specs.Admission.{too_long}
 use Rattle.normaliser.proofs.Admitting.{refuses_foreign}
 use Rattle.normaliser.proofs.admission.admit.Goals as goal
