@@ -22,56 +22,52 @@ use Rattle.storage.proofs.Composing.{other_vowel, other_letter}
 use Rattle.storage.proofs.Settled.{StandsBefore, put_stands}
 
 -- what holds of inserting into an array, by the values of what it has
-module _ (value : ℕ → ℕ) where
+module _ {A : Type 0} (value : A → ℕ) where
   -- what the array holds once x is inserted behind a place
-  abbrev pub inserted_at : List ℕ → ℕ → ℕ → List ℕ
+  abbrev pub inserted_at : List A → ℕ → A → List A
   inserted_at array place x = take place array ++ insert_by value x (drop (place + 1) array)
 
+  -- what stands behind a place
+  rest_is : (array : List A) (place : ℕ) (next : A) → place < length array → next ≡ get_or array place next → drop place array ≡ next ∷ drop (suc place) array
+  rest_is array place next h e = drop-cons array place next h ∙ ap (λ (y : A). y ∷ drop (suc place) array) (sym e)
+
   -- x goes behind the next: that moves to the place, and x is inserted behind the next place
-  insert_moved : (array : List ℕ) (place x : ℕ) → place + 1 < length array → goes_behind (value x) (value (get_or array (place + 1) 0)) ≡ true
-      → inserted_at (set array place (get_or array (place + 1) 0)) (place + 1) x ≡ inserted_at array place x
-  insert_moved array place x more behind =
-      let next : ℕ = get_or array (suc place) 0 in
+  insert_moved : (array : List A) (place : ℕ) (x next : A) → place + 1 < length array → next ≡ get_or array (place + 1) next
+      → goes_behind (value x) (value next) ≡ true → inserted_at (set array place next) (place + 1) x ≡ inserted_at array place x
+  insert_moved array place x next more is behind =
       rw (add-one, add-one)
-      (rw (take-suc-set array place next (omega arith), drop-set-lt (suc (suc place)) array place next (omega arith), append_snoc, drop-cons array (suc place) 0 (omega arith), insert_behind value x next (drop (suc (suc place)) array) (rw add-one at behind)))
+      (rw (take-suc-set array place next (omega arith), drop-set-lt (suc (suc place)) array place next (omega arith), append_snoc, rest_is array (suc place) next (omega arith) (rw add-one at is), insert_behind value x next (drop (suc (suc place)) array) behind))
 
   -- x goes no further: it is put at the place
-  put_here : (array : List ℕ) (place x : ℕ) → place < length array → insert_by value x (drop (place + 1) array) ≡ x ∷ drop (place + 1) array
+  put_here : (array : List A) (place : ℕ) (x : A) → place < length array → insert_by value x (drop (place + 1) array) ≡ x ∷ drop (place + 1) array
       → set array place x ≡ inserted_at array place x
   put_here array place x h e = rw (e, add-one) (set_split array place x h)
 
-  stays_last : (array : List ℕ) (place x : ℕ) → length array ≤ place + 1 → insert_by value x (drop (place + 1) array) ≡ x ∷ drop (place + 1) array
+  stays_last : (array : List A) (place : ℕ) (x : A) → length array ≤ place + 1 → insert_by value x (drop (place + 1) array) ≡ x ∷ drop (place + 1) array
   stays_last array place x h = rw (drop_of_length-le array h)
 
-  stays_before : (array : List ℕ) (place x : ℕ) → place + 1 < length array → goes_behind (value x) (value (get_or array (place + 1) 0)) ≡ false
-      → insert_by value x (drop (place + 1) array) ≡ x ∷ drop (place + 1) array
-  stays_before array place x more here =
-      rw (drop-cons array (place + 1) 0) (insert_here value x (get_or array (place + 1) 0) (drop (suc (place + 1)) array) here)
+  stays_before : (array : List A) (place : ℕ) (x next : A) → place + 1 < length array → next ≡ get_or array (place + 1) next
+      → goes_behind (value x) (value next) ≡ false → insert_by value x (drop (place + 1) array) ≡ x ∷ drop (place + 1) array
+  stays_before array place x next more is here =
+      rw (rest_is array (place + 1) next more is) (insert_here value x next (drop (suc (place + 1)) array) here)
 
   -- on the way: inserting from here gives what inserting from the first place gave
-  pub record Inserting (before array : List ℕ) (first place x : ℕ) : Type 0 where
-    pub long : length array ≡ limit
-    pub within : place < limit
-    pub same : inserted_at array place x ≡ inserted_at before first x
+  abbrev pub SameFrom : List A → List A → ℕ → ℕ → A → Type 0
+  SameFrom before array first place x = inserted_at array place x ≡ inserted_at before first x
 
-  pub inserting_more : (before array : List ℕ) (first place x : ℕ) → Inserting before array first place x → place + 1 < limit
-      → goes_behind (value x) (value (get_or array (place + 1) 0)) ≡ true → Inserting before (set array place (get_or array (place + 1) 0)) first (place + 1) x
-  inserting_more before array first place x i more behind =
-      record {
-        long = length-set array place (get_or array (place + 1) 0) ∙ i.long;
-        within = more;
-        same = insert_moved array place x (omega (arith, i.long)) behind ∙ i.same;
-      }
+  pub inserting_more : (before array : List A) (first place : ℕ) (x next : A) → length array ≡ limit → place + 1 < limit → next ≡ get_or array (place + 1) next
+      → goes_behind (value x) (value next) ≡ true → SameFrom before array first place x → SameFrom before (set array place next) first (place + 1) x
+  inserting_more before array first place x next long more is behind same = insert_moved array place x next (omega arith) is behind ∙ same
 
-  pub inserted_last : (before array : List ℕ) (first place x : ℕ) → Inserting before array first place x → limit ≤ place + 1
-      → set array place x ≡ inserted_at before first x
-  inserted_last before array first place x i end =
-      put_here array place x (omega (arith, i.long, i.within)) (stays_last array place x (omega (arith, i.long))) ∙ i.same
+  pub inserted_last : (before array : List A) (first place : ℕ) (x : A) → length array ≡ limit → place < limit → limit ≤ place + 1
+      → SameFrom before array first place x → set array place x ≡ inserted_at before first x
+  inserted_last before array first place x long within end same =
+      put_here array place x (omega arith) (stays_last array place x (omega arith)) ∙ same
 
-  pub inserted_before : (before array : List ℕ) (first place x : ℕ) → Inserting before array first place x → place + 1 < limit
-      → goes_behind (value x) (value (get_or array (place + 1) 0)) ≡ false → set array place x ≡ inserted_at before first x
-  inserted_before before array first place x i more here =
-      put_here array place x (omega (arith, i.long, i.within)) (stays_before array place x (omega (arith, i.long)) here) ∙ i.same
+  pub inserted_before : (before array : List A) (first place : ℕ) (x next : A) → length array ≡ limit → place + 1 < limit → next ≡ get_or array (place + 1) next
+      → goes_behind (value x) (value next) ≡ false → SameFrom before array first place x → set array place x ≡ inserted_at before first x
+  inserted_before before array first place x next long more is here same =
+      put_here array place x (omega arith) (stays_before array place x next (omega arith) is here) ∙ same
 
 -- one value put at the front, by the three cases of the code
 drop_set : (values : List ℕ) (place x : ℕ) → place < length values → drop place (set values place x) ≡ x ∷ drop (suc place) values

@@ -1,11 +1,11 @@
 // Storage order: the form in which a word is stored, whatever values it has.
 #![tactic(auto)]
 
-ghost use Rattle.std.specs.Prelude.{◌≡◌, ◌++◌, ◌+◌, ◌-◌, ◌≤◌, length, take, drop, get_or};
+ghost use Rattle.std.specs.Prelude.{◌≡◌, ◌++◌, ℕ, ◌+◌, ◌-◌, ◌≤◌, ◌<◌, nat_lt, length, take, drop, get_or};
 ghost use Rattle.letters.specs.Choice.{pick};
 ghost use Rattle.formula.specs.Limits.{limit};
 ghost use Rattle.formula.specs.Held.{word_of};
-ghost use Rattle.storage.specs.Stored.{rank, insert, makes_letter, stored_form};
+ghost use Rattle.storage.specs.Stored.{rank, goes_behind, insert, insert_by, makes_letter, stored_form};
 ghost use Rattle.storage.specs.Putting.{rank_table, Room, FrontRoom, FrontPut, MarkRoom, PartRoom};
 
 use formula::Word;
@@ -102,13 +102,28 @@ fn insert_mark(ranks: &RankTable, values: &mut [u16; Word::LIMIT], at: usize, ma
     requires { MarkRoom ranks.now values.old at mark }
     ensures { values.new ≡ take at values.old ++ insert mark (drop (at + 1) values.old) }
 {
-    let own = rank(ranks, mark);
+    insert_ranked(values, at, mark, rank(ranks, mark), |x| rank(ranks, x));
+}
+
+// Puts an element in front of the sorted ones behind a place: it goes behind the first of them, as far as they rank below it.
+pub fn insert_ranked<T: Copy, F: Fn(T) -> u8>(
+    sorted: &mut [T; Word::LIMIT],
+    at: usize,
+    x: T,
+    own: u8,
+    rank: F,
+)
+    requires room { at < limit }
+    requires callable { F.IsAlwaysCallable rank }
+    ensures { (value : T → ℕ) → ((y : T) (r : ℕ) → F.post rank y r → goes_behind (value x) (value y) ≡ nat_lt r own)
+        → sorted.new ≡ take at sorted.old ++ insert_by value x (drop (at + 1) sorted.old) }
+{
     let mut place = at;
-    while place + 1 < Word::LIMIT && rank(ranks, values[place + 1]) < own {
-        values[place] = values[place + 1];
+    while place + 1 < Word::LIMIT && rank(sorted[place + 1]) < own {
+        sorted[place] = sorted[place + 1];
         place += 1;
     }
-    values[place] = mark;
+    sorted[place] = x;
 }
 
 // Puts a 1025 in front of the stored values that begin at a place: with a 102E there it becomes one value.

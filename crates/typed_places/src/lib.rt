@@ -8,7 +8,7 @@ ghost use Rattle.typed_places.specs.Typed.{typed_at, sorted_places, typed_places
 ghost use Rattle.typed_places.specs.Seeking.{PlaceRoom, Filled, SortedRoom, next_kept};
 
 use formula::Word;
-use storage::{MARK_II, MARKS, RankTable, VOWEL_U};
+use storage::{MARK_II, MARKS, RankTable, VOWEL_U, insert_ranked, rank};
 
 // Places of a word. Those behind the word's places are past its end, where no mark stands, so that a run ends there.
 type Places = [usize; Word::LIMIT];
@@ -70,13 +70,14 @@ fn insert_place(ranks: &RankTable, word: &[u16], places: &mut Places, at: usize)
     requires { PlaceRoom ranks.now places.old at }
     ensures { places.new ≡ take at places.old ++ insert_by (typed_at word.now) at (drop (at + 1) places.old) }
 {
-    let own = storage::rank(ranks, typed_at(word, at)) % MARKS;
-    let mut place = at;
-    while place + 1 < Word::LIMIT && storage::rank(ranks, typed_at(word, places[place + 1])) < own {
-        places[place] = places[place + 1];
-        place += 1;
-    }
-    places[place] = at;
+    let own = rank(ranks, typed_at(word, at)) % MARKS;
+    insert_ranked(
+        places,
+        at,
+        at,
+        own,
+        |place| rank(ranks, typed_at(word, place)),
+    );
 }
 
 // The value that was typed at a place, and 0 past the end.
