@@ -10,6 +10,7 @@ use native.Mathlib.Decide.{ℕ_discrete}
 use native.Mathlib.Omega.{arith}
 use lib.Dec.{T, eqb, eqb→eq, ltb, ltb→lt}
 use lib.ListN.{length, get_or, get_elem?}
+use Rattle.std.specs.Prelude.{MatchOption, slice_get}
 use borrow.Author.Tests.{ne_eqb}
 use Rattle.letters.specs.Choice.{pick}
 use Rattle.letters.specs.Weights.{bit_if}
@@ -22,6 +23,12 @@ use Rattle.storage.proofs.Settled.{Settled}
 use Rattle.storage.proofs.Rows.{gives_settled}
 use Rattle.typed_places.specs.Typed.{typed_at, sorted_places, compose_places, typed_places, StandsFor, as_typed, long_vowel, letter}
 use Rattle.typed_places.proofs.Sorting.{places_values, sorted_values, sorted_within, sorted_once}
+
+-- an element of a list, as the code answers it, is the element as the specifications ask for it
+pub element_answered : (list : List ℕ) (k : ℕ) → MatchOption (slice_get list k) (get_elem? list k ≡ none) (λ x. get_elem? list k ≡ some x)
+element_answered [] k = refl
+element_answered (x ∷ list) zero = refl
+element_answered (x ∷ list) (suc k) = element_answered list k
 
 module _ (word : List ℕ) where
   -- at each place a stored value that stands for the typed one
