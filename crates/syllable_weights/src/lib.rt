@@ -19,9 +19,9 @@ pub fn put_weights(bytes: &mut [u8; Word::KEY], at: usize, packed: u64, medials:
     requires { (at + weight_count ≤ key_limit) × (medials.now ≡ medial_table) }
     ensures { bytes.new ≡ sets bytes.old at (weights_by packed) }
 {
-    let value = 0x1000 + parts::head(packed) as u16;
+    let value = 0x1000 + u16::from(parts::head(packed));
     let head = head_weight(value);
-    let medial = medials[parts::medials(packed) as usize];
+    let medial = medials[usize::from(parts::medials(packed))];
     let letter = parts::letter(packed);
     let second = parts::second_letter(packed);
     let vowel = independent_vowel_weight(value) + parts::vowel(packed);

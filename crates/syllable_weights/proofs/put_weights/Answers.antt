@@ -1,6 +1,6 @@
 -- `syllable_weights::put_weights` meets its contract: its stores are those of the six weights one after the other.
 -- Assumes nothing.
-use mathlib.Core.Path.{ap}
+use mathlib.Core.Path.{ap, ◌∙◌}
 use mathlib.Core.List.{List}
 use Prim.Native.Nat.{ℕ, ◌+◌}
 use native.Mathlib.Omega.{arith}
@@ -13,7 +13,7 @@ use Rattle.syllable_weights.proofs.put_weights.Goals as goal
 pub overflow_add-vowel : goal.overflow_add-vowel
 overflow_add-vowel c =
     let own = c.independent_vowel_weight in
-    let l = independent_vowel_limit (0x1000 + c.head.result) in
+    let l = independent_vowel_limit (0x1000 + c.from-value.result) in
     omega (arith, own.ensures, c.vowel.ensures)
 
 pub returns : goal.returns
@@ -30,10 +30,10 @@ returns c =
     c.second_letter-second.result
     _
     c.tone-tone.result
-    c.head.ensures
+    (c.from-value.ensures ∙ c.head.ensures)
     c.head_weight-head.ensures
-    c.medials.ensures
-    (ap (λ (l : List ℕ). get_or l c.medials.result 0) c.requires.1)
+    (c.from.ensures ∙ c.medials.ensures)
+    (ap (λ (l : List ℕ). get_or l c.from.result 0) c.requires.1)
     c.letter-letter.ensures
     c.second_letter-second.ensures
     c.independent_vowel_weight.ensures
