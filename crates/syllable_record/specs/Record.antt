@@ -1,10 +1,15 @@
 -- Document 01, "Syllable records", and document 02, E5: the tests that tell a record from other bytes, by the bytes themselves.
 -- Assumes nothing.
-use Rattle.std.specs.Prelude.{Bool, ◌&&◌, ◌||◌, List, ℕ, ◌+◌, eqb, leb, get_or}
+use Rattle.std.specs.Prelude.{Bool, ◌&&◌, ◌||◌, List, [], ◌∷◌, ℕ, ◌+◌, eqb, leb, get_or}
 use Rattle.letters.specs.Choice.{pick}
 use Rattle.letters.specs.Weights.{is_head, is_final_letter}
 use Rattle.formula.specs.Syllable.{carries_marks, carries_final}
 use Rattle.formula.specs.Record.{link_place}
+use Rattle.syllable_record.specs.declared.Record.{Record}
+
+-- the bytes in their order
+abbrev pub bytes_of : Record → List ℕ
+bytes_of r = r.head ∷ r.medial ∷ r.vowel ∷ r.tall ∷ r.letter ∷ r.second_letter ∷ r.link ∷ r.tone ∷ []
 
 -- a vowel's weight, and "1 for a tall AA, else 0"
 unfoldable pub is_vowel_numbers : ℕ → ℕ → Bool

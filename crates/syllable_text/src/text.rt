@@ -1,12 +1,12 @@
 // The values that the numbers of a record stand for: of each part of a syllable at most four.
-ghost use Rattle.std.specs.Prelude.{◌≡◌, [], ◌∷◌, ◌+◌, eqb, length};
+ghost use Rattle.std.specs.Prelude.{◌≡◌, ℕ, ◌+◌, ◌≤◌, List, eqb, length, take};
 ghost use Rattle.letters.specs.Marks.{medial_text, vowel_text, tone_text, aa_text};
 ghost use Rattle.formula.specs.Syllable.{final_text};
 ghost use Rattle.syllable_record.specs.Decode.{medial_of_weight, vowel_of_weight, letter_of_number, plain_of_numbers, final_of_numbers, tone_of_weight};
-ghost use Rattle.syllable_text.specs.Text.{text_of, Room, PutRight};
-ghost use Rattle.syllable_text.specs.Part.{head_after};
+ghost use Rattle.syllable_text.specs.Part.{head_after, PartPut};
 
 use memory::copies::put_all;
+use std::marker::Model;
 
 const YA: u16 = 0x103B;
 
@@ -33,57 +33,50 @@ const GREAT_SA: u16 = 0x103F;
 // The final number of 1004, whose stacked form is kinzi.
 const KINZI_LETTER: u8 = 5;
 
-// The first `count` of `values`; the others are zero.
-#[derive(Clone, Copy)]
-pub struct Text {
-    pub values: [u16; 4],
-    pub count: usize,
+// A text of at most four values: the first `count` of `values`.
+#[derive(Drop)]
+pub(crate) struct Text {
+    values: [u16; 4],
+    count: usize,
+}
+
+// Clauses see the values.
+impl Model for Text {
+    ghost Value = { List ℕ };
+
+    ghost view = { λ text. take text.count text.values };
+
+    ghost invariant = { λ text. text.count ≤ 4 };
 }
 
 impl Text {
-    fn none() -> Self
-        ensures { result ≡ text_of [] }
+    // The text of these values.
+    fn of<const N: usize>(text: [u16; N]) -> Self
+        requires { N ≤ 4 }
+        ensures { result ≡ text.entry }
     {
-        Self {
-            values: [0, 0, 0, 0],
-            count: 0,
-        }
+        let mut values = [0; 4];
+        values[..N].copy_from_slice(&text);
+        Self { values, count: N }
     }
 
-    fn one(first: u16) -> Self
-        ensures { result ≡ text_of (first ∷ []) }
+    pub(crate) fn len(&self) -> usize
+        ensures { result ≡ length self.now }
     {
-        Self {
-            values: [first, 0, 0, 0],
-            count: 1,
-        }
+        self.count
     }
 
-    fn two(first: u16, second: u16) -> Self
-        ensures { result ≡ text_of (first ∷ second ∷ []) }
+    // Writes the values from a place on, and gives the place behind them. Most texts are empty, and a copy of nothing costs a call.
+    pub(crate) fn put(self, output: &mut [u16], at: usize) -> usize
+        requires { at + length self ≤ length output.old }
+        ensures { PartPut output.old output.new at self result }
     {
-        Self {
-            values: [first, second, 0, 0],
-            count: 2,
+        let Self { values, count } = self;
+        if count == 0 {
+            return at;
         }
-    }
-
-    fn three(first: u16, second: u16, third: u16) -> Self
-        ensures { result ≡ text_of (first ∷ second ∷ third ∷ []) }
-    {
-        Self {
-            values: [first, second, third, 0],
-            count: 3,
-        }
-    }
-
-    fn four(first: u16, second: u16, third: u16, fourth: u16) -> Self
-        ensures { result ≡ text_of (first ∷ second ∷ third ∷ fourth ∷ []) }
-    {
-        Self {
-            values: [first, second, third, fourth],
-            count: 4,
-        }
+        put_all(&values[..count], output, at);
+        at + count
     }
 }
 
@@ -100,21 +93,21 @@ pub(crate) fn head_value(link: u8, head: u8) -> u16
 
 // The medial group of a weight.
 pub(crate) fn medial_text(weight: u8) -> Text
-    ensures { result ≡ text_of (medial_text (medial_of_weight weight)) }
+    ensures { result ≡ medial_text (medial_of_weight weight) }
 {
     match weight {
-        1 => Text::one(YA),
-        2 => Text::one(RA),
-        3 => Text::one(WA),
-        4 => Text::one(HA),
-        5 => Text::two(YA, WA),
-        6 => Text::two(RA, WA),
-        7 => Text::two(YA, HA),
-        8 => Text::two(RA, HA),
-        9 => Text::two(WA, HA),
-        10 => Text::three(YA, WA, HA),
-        11 => Text::three(RA, WA, HA),
-        _ => Text::none(),
+        1 => Text::of([YA]),
+        2 => Text::of([RA]),
+        3 => Text::of([WA]),
+        4 => Text::of([HA]),
+        5 => Text::of([YA, WA]),
+        6 => Text::of([RA, WA]),
+        7 => Text::of([YA, HA]),
+        8 => Text::of([RA, HA]),
+        9 => Text::of([WA, HA]),
+        10 => Text::of([YA, WA, HA]),
+        11 => Text::of([RA, WA, HA]),
+        _ => Text::of([]),
     }
 }
 
@@ -127,34 +120,34 @@ fn aa_value(tall: u8) -> u16
 
 // The vowel of a weight.
 pub(crate) fn vowel_text(weight: u8, tall: u8) -> Text
-    ensures { result ≡ text_of (vowel_text (vowel_of_weight weight (eqb tall 1))) }
+    ensures { result ≡ vowel_text (vowel_of_weight weight (eqb tall 1)) }
 {
     let aa = aa_value(tall);
     match weight {
-        1 => Text::one(aa),
-        2 => Text::one(MARK_I),
-        3 => Text::one(0x102E),
-        4 => Text::one(MARK_U),
-        5 => Text::one(0x1030),
-        6 => Text::one(MARK_E),
-        7 => Text::one(0x1032),
-        8 => Text::two(MARK_E, aa),
-        9 => Text::three(MARK_E, aa, KILLER),
-        10 => Text::one(MARK_AM),
-        11 => Text::two(MARK_I, MARK_U),
-        12 => Text::two(MARK_U, MARK_AM),
-        _ => Text::none(),
+        1 => Text::of([aa]),
+        2 => Text::of([MARK_I]),
+        3 => Text::of([0x102E]),
+        4 => Text::of([MARK_U]),
+        5 => Text::of([0x1030]),
+        6 => Text::of([MARK_E]),
+        7 => Text::of([0x1032]),
+        8 => Text::of([MARK_E, aa]),
+        9 => Text::of([MARK_E, aa, KILLER]),
+        10 => Text::of([MARK_AM]),
+        11 => Text::of([MARK_I, MARK_U]),
+        12 => Text::of([MARK_U, MARK_AM]),
+        _ => Text::of([]),
     }
 }
 
 // The final of its letters' numbers and a link; a great sa is written with the next head.
 pub(crate) fn final_text(letter: u8, second_final: u8, link: u8) -> Text
-    ensures { result ≡ text_of (final_text (final_of_numbers letter second_final link)) }
+    ensures { result ≡ final_text (final_of_numbers letter second_final link) }
 {
     match link {
         1 => plain_text(letter, second_final),
         2 => stacked_text(letter),
-        _ => Text::none(),
+        _ => Text::of([]),
     }
 }
 
@@ -167,46 +160,35 @@ fn letter_value(number: u8) -> u16
 
 // A plain letter, or two where the second's number is not 0.
 fn plain_text(letter: u8, second_final: u8) -> Text
-    ensures { result ≡ text_of (final_text (plain_of_numbers letter second_final)) }
+    ensures { result ≡ final_text (plain_of_numbers letter second_final) }
 {
     let first = letter_value(letter);
     if second_final == 0 {
-        Text::two(first, KILLER)
+        Text::of([first, KILLER])
     } else {
-        Text::four(first, KILLER, letter_value(second_final), KILLER)
+        Text::of([first, KILLER, letter_value(second_final), KILLER])
     }
 }
 
 // The letter of a number, stacked.
 fn stacked_text(letter: u8) -> Text
-    ensures { result ≡ text_of (final_text (final_of_numbers letter 0 2)) }
+    ensures { result ≡ final_text (final_of_numbers letter 0 2) }
 {
     let value = letter_value(letter);
     if letter == KINZI_LETTER {
-        Text::three(value, KILLER, STACKER)
+        Text::of([value, KILLER, STACKER])
     } else {
-        Text::two(value, STACKER)
+        Text::of([value, STACKER])
     }
 }
 
 // The tone of a weight.
 pub(crate) fn tone_text(weight: u8) -> Text
-    ensures { result ≡ text_of (tone_text (tone_of_weight weight)) }
+    ensures { result ≡ tone_text (tone_of_weight weight) }
 {
     match weight {
-        1 => Text::one(0x1037),
-        2 => Text::one(0x1038),
-        _ => Text::none(),
+        1 => Text::of([0x1037]),
+        2 => Text::of([0x1038]),
+        _ => Text::of([]),
     }
-}
-
-// Writes a text from a place on, and gives the place behind it.
-pub(crate) fn put(output: &mut [u16], at: usize, text: Text) -> usize
-    requires { Room (length output.old) at text }
-    ensures { PutRight output.old output.new at text result }
-{
-    let values = text.values;
-    let count = text.count;
-    put_all(&values[..count], output, at);
-    at + count
 }

@@ -4,7 +4,7 @@ ghost use Rattle.writing.specs.Size.{size_of};
 ghost use Rattle.writing.specs.Put.{RowFits, RowPut};
 
 use formula::Word;
-use syllable_record::may_follow;
+use syllable_record::Record;
 use syllable_text::part::{part_size, put_part};
 
 // How many values the records are written with, if they are those of a row and the values are few enough.
@@ -18,7 +18,7 @@ pub(crate) fn measure(records: &[u8]) -> Option<usize>
     let mut link = 0;
     let mut count = 0;
     for next in whole {
-        if !may_follow(link, *next) {
+        if !Record::from(*next).may_follow(link) {
             return None;
         }
         count += part_size(*next);

@@ -1,9 +1,0 @@
--- `syllable_text::text::Text::one` meets its contract: one value, and zeros behind.
--- Assumes nothing.
-use mathlib.Core.Path.{refl}
-use Rattle.syllable_text.specs.Text.{text_of}
-use Rattle.syllable_text.proofs.text.Text.one.Goals as goal
-
-pub returns : goal.returns
-unfolding text_of
-returns c = refl
