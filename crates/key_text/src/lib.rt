@@ -60,6 +60,7 @@ pub fn put_decimal(out: &mut [u8], at: usize, number: u64) -> usize
 }
 
 // A byte as two hexadecimal digits.
+#[tactic(auto, using(memory::proofs::Putting::put_after))]
 fn put_hexadecimal(out: &mut [u8], at: usize, byte: u8) -> usize
     requires { at + 2 ≤ length out.old }
     ensures { Put out.old at (hexadecimal_of byte) out.new result }
@@ -101,6 +102,7 @@ impl Element for u16 {
 
     ghost sized = { value_length };
 
+    #[tactic(auto, unfolding(crate::specs::Text::value_text))]
     fn put(&self, out: &mut [u8], at: usize) -> usize {
         put_bytes(out, at, &self.to_be_bytes())
     }
@@ -114,6 +116,7 @@ impl Element for [u8; Word::WEIGHTS] {
 
     ghost sized = { weights_length };
 
+    #[tactic(auto, unfolding(crate::specs::Elements::weights_text))]
     fn put(&self, out: &mut [u8], at: usize) -> usize {
         put_bytes(out, at, self)
     }
@@ -136,6 +139,7 @@ fn put_elements<T: Element>(out: &mut [u8], at: usize, elements: &[T]) -> usize
 }
 
 // A key of `count` syllables, with hyphens between them.
+#[tactic(auto, using(crate::proofs::Elements::key_elements))]
 pub fn put_key(out: &mut [u8], at: usize, count: usize, key: &[u8; Word::KEY]) -> usize
     requires { (at + key_text_limit ≤ length out.old) × (count ≤ limit) }
     ensures { Put out.old at (key_text count key.now) out.new result }
@@ -145,6 +149,7 @@ pub fn put_key(out: &mut [u8], at: usize, count: usize, key: &[u8; Word::KEY]) -
 }
 
 // Values with hyphens between them.
+#[tactic(auto, using(crate::proofs::Elements::values_elements))]
 pub fn put_values(out: &mut [u8], at: usize, values: &[u16]) -> usize
     requires { (at + suc value_text_size * length values.now ≤ length out.old) × (at < length out.old) }
     ensures { Put out.old at (values_text values.now) out.new result }

@@ -26,6 +26,7 @@ pub fn decode(line: &[u8]) -> Result<Word, Refusal>
 }
 
 // The value of a whole three.
+#[tactic(auto, using(crate::proofs::Threes::three_bounds, crate::proofs::Threes::value_read), unfolding(crate::specs::Three::three_of, letters::specs::Choice::pick))]
 fn value_in(bytes: &[u8]) -> Option<u16>
     ensures { result ≡ value_in bytes.now }
 {
