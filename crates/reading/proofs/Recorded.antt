@@ -18,11 +18,11 @@ use Rattle.std.specs.declared.result.Result.TheVariants.{Ok}
 use Rattle.rows.proofs.Complete.{first}
 use Rattle.syllables.proofs.Parted.{parted}
 use Rattle.reading.specs.Reading.{ReadRight}
-use Rattle.reading.specs.Records.{medial_weight_by, bytes_by, no_bytes, HasRecord, NoRecord}
+use Rattle.reading.specs.Records.{bytes_by, no_bytes, HasRecord, NoRecord}
 use Rattle.reading.specs.declared.row.Reading.{Reading}
 
 pub bytes_packed : (s : Syllable) → T (is_syllable s) → bytes_by (packed s) ≡ record_of s
-unfolding record_of bytes_by medial_weight_by
+unfolding record_of bytes_by
 bytes_packed (syllable h m v f t) i =
     let p = parted h m v f t i in
     rw (p.head, p.medials, p.vowel, p.tall, p.letter, p.second_letter, p.link, p.tone, medial_written m)

@@ -1,8 +1,8 @@
 -- The record of a syllable by number (document 01, "Syllable records", and document 02, E5), by the formula alone.
 -- Assumes nothing.
-use Rattle.std.specs.Prelude.{◌≡◌, List, [], ◌∷◌, ℕ, ◌≤◌, ◌<◌, length, get_or, replicate, Result, Ok, Err, Option, Some, None}
+use Rattle.std.specs.Prelude.{◌≡◌, List, [], ◌∷◌, ℕ, ◌≤◌, ◌<◌, length, get_or, replicate, Result, Ok, Err, Option, Some, None, unwrap_or}
 use Rattle.formula.specs.Limits.{record_size}
-use Rattle.letters.specs.Weights.{medial_set_weight, weight_or}
+use Rattle.letters.specs.Weights.{medial_set_weight}
 use Rattle.formula.specs.Syllable.{bare}
 use Rattle.formula.specs.Row.{Row, Gives}
 use Rattle.formula.specs.Record.{record_of}
@@ -59,8 +59,8 @@ abbrev pub RecordRight : List ℕ → ℕ → Result (Option (List ℕ)) Refusal
 RecordRight word number given = RecordAnswers word number (record_outcome_of given) (bytes_in given)
 
 -- the weight of a set of medials; inner contracts cite what follows
-unfoldable pub medial_weight_by : ℕ → ℕ
-medial_weight_by set = weight_or (medial_set_weight set) 0
+abbrev pub medial_weight_by : ℕ → ℕ
+medial_weight_by set = unwrap_or (medial_set_weight set) 0
 
 -- the bytes of a packed syllable
 unfoldable pub bytes_by : ℕ → List ℕ

@@ -15,6 +15,7 @@ fn medial_weight(set: u8) -> u8
 }
 
 // The record of a packed syllable.
+#[tactic(auto, unfolding(crate::specs::Records::bytes_by))]
 pub fn bytes_of(packed: u64) -> [u8; Word::RECORD]
     ensures { result ≡ bytes_by packed }
 {

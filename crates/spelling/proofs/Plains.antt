@@ -25,7 +25,7 @@ use Rattle.syllable_record.specs.Decode.{syllable_of}
 use Rattle.syllable_text.specs.Part.{head_after, part_after}
 use Rattle.syllable_record.proofs.Decoded.{read}
 use Rattle.syllable_text.proofs.Texts.{medial_short, vowel_short, final_short, tone_short}
-use Rattle.spelling.specs.Plain.{plain_of, plain_link, plain_bytes, spelled_by}
+use Rattle.spelling.specs.Plain.{plain_of, plain_bytes, spelled_by}
 
 -- a plain final asks for no more than the final does
 plain_closed : (h : ℕ) (m : MedialGroup) (v : Vowel) (f : Final) (t : ToneMark) (c : ℕ) → T (is_final_letter c) → is_no_final f ≡ false
@@ -55,7 +55,7 @@ plain_part (syllable h m v great_sa t) = refl
 
 -- its record has the letter's number and a plain link
 plain_record : (s : Syllable) → plain_bytes (record_of s) ≡ record_of (plain_of s)
-unfolding record_of plain_link pick
+unfolding record_of
 plain_record (syllable h m v no_final t) = refl
 plain_record (syllable h m v (plain c) t) = refl
 plain_record (syllable h m v (plain_pair c d) t) = refl

@@ -1,7 +1,6 @@
 -- A syllable with its final made plain, and how a packed syllable is spelled. The laws and the inner contracts cite it.
 -- Assumes nothing.
-use Rattle.std.specs.Prelude.{List, map, ℕ, ltb, get_or, set}
-use Rattle.letters.specs.Choice.{pick}
+use Rattle.std.specs.Prelude.{List, map, ℕ, min, get_or, set}
 use Rattle.formula.specs.Syllable.{Final, no_final, plain, plain_pair, stacked, kinzi, great_sa, Syllable, syllable, part}
 use Rattle.formula.specs.Record.{link_place}
 use Rattle.reading.specs.Records.{bytes_by}
@@ -21,8 +20,8 @@ abbrev pub plain_of : Syllable → Syllable
 plain_of (syllable h m v f t) = syllable h m v (plain_final f) t
 
 -- the link of a plain final where there is a final
-unfoldable pub plain_link : ℕ → ℕ
-plain_link link = pick (ltb 1 link) 1 link
+abbrev pub plain_link : ℕ → ℕ
+plain_link link = min link 1
 
 -- the record with a plain link
 abbrev pub plain_bytes : List ℕ → List ℕ

@@ -5,11 +5,13 @@ ghost use Rattle.std.specs.Prelude.{◌≡◌, ◌≤◌, length};
 ghost use Rattle.formula.specs.Limits.{limit};
 ghost use Rattle.refusals.specs.Outcome.{outcome_by};
 ghost use Rattle.reading.specs.Records.{bytes_by};
-ghost use Rattle.spelling.specs.Plain.{plain_link, plain_bytes, spelled_by};
+ghost use Rattle.spelling.specs.Plain.{plain_bytes, spelled_by};
 ghost use Rattle.spelling.specs.Put.{SpelledSize, SyllableRoom, SyllablePut, Room, SyllablesPut};
 ghost use Rattle.spelling.specs.Spell.{lists, spelled_told, SpellRight};
 
 use formula::Word;
+use reading::read::read;
+use reading::records::bytes_of;
 use refusals::Refusal;
 use syllable_text::part::{part_size, put_part};
 
@@ -20,19 +22,12 @@ pub struct Spelled {
     pub syllables: usize,
 }
 
-// The link of a final that is spelled: plain, where there is one.
-fn plain_link(link: u8) -> u8
-    ensures { result ≡ plain_link link }
-{
-    link.min(1)
-}
-
-// The record of a packed syllable whose final is made plain.
+// The record of a packed syllable whose final is made plain, where there is one.
 fn plain_record(packed: u64) -> [u8; Word::RECORD]
     ensures { result ≡ plain_bytes (bytes_by packed) }
 {
-    let mut bytes = reading::records::bytes_of(packed);
-    bytes[Word::LINK] = plain_link(bytes[Word::LINK]);
+    let mut bytes = bytes_of(packed);
+    bytes[Word::LINK] = bytes[Word::LINK].min(1);
     bytes
 }
 
@@ -83,7 +78,7 @@ fn put(syllables: &[u64], values: &mut [u16], starts: &mut [u16])
 pub fn spell(word: &[u16], values: &mut [u16], starts: &mut [u16]) -> Result<Spelled, Refusal>
     ensures { SpellRight word.now (lists values.old starts.old) (lists values.new starts.new) (outcome_by spelled_told result) }
 {
-    let reading = reading::read::read(word)?;
+    let reading = read(word)?;
     let syllables = reading.row();
     let count = syllables.len();
     let size = measure(syllables);
