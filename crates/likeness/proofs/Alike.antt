@@ -1,55 +1,79 @@
--- Two skeletons in the order of their values: they are equal exactly where they are the same.
+-- Two skeletons are told alike where they are the same, value by value.
 -- Assumes nothing.
-use mathlib.Core.Path.{◌≡◌, refl, sym, ap, subst, ◌∙◌}
-use mathlib.Core.Bool.{Bool, true, false}
-use mathlib.Core.List.{List}
-use Prim.Native.Nat.{ℕ}
-use lib.Dec.{T}
-use lib.ListN.{take}
-use Rattle.letters.specs.Weights.{bit_if}
-use Rattle.letters.proofs.Tests.{is_true, is_false}
-use Rattle.formula.proofs.Lists.{same_list, same_list_equal, same_list_refl}
-use Rattle.refusals.specs.Pair.{pair_outcome_of}
+use mathlib.Core.Path.{◌≡◌, refl, ap, sym, ◌∙◌}
+use mathlib.Core.Bool.{Bool, ◌&&◌}
+use mathlib.Core.List.{List, [], ◌∷◌}
+use Prim.Native.Nat.{ℕ, ◌≤◌}
+use native.Mathlib.Omega.{arith}
+use lib.Dec.{eqb}
+use Rattle.refusals.specs.Refusal.{number_of, place_of}
+use lib.ListN.{length, take}
+use lib.Seq.{length-take-le}
+use Rattle.std.specs.Cmp.Lexicographic.{pointwise}
+use Rattle.formula.specs.Lists.{same_list}
+use Rattle.refusals.specs.Outcome.{outcome_of}
+use Rattle.refusals.specs.declared.Refusal.{Refusal}
 use Rattle.std.specs.declared.result.Result.{Result}
+use Rattle.std.specs.declared.result.Result.TheVariants.{Ok, Err}
+use Rattle.std.specs.Result.{MatchResult}
+use Rattle.refusals.specs.Pair.{pair_outcome_by}
 use Rattle.refusals.specs.declared.PairRefusal.{PairRefusal}
-use Rattle.weighing.specs.Order.{order_values}
-use Rattle.std.specs.declared.cmp.Ordering.{Ordering}
-use Rattle.std.specs.declared.cmp.Ordering.TheVariants.{Less, Equal, Greater}
-use Rattle.weighing.proofs.Lexicographic.{less_not_equal, greater_not_equal}
-use Rattle.weighing.proofs.Laws.{values_are_ordered}
-use Rattle.labelling.specs.Labelling.{skeleton}
-use Rattle.labelling.proofs.Given.{Given}
-use Rattle.likeness.specs.Likeness.{Likened, LookAlikeAnswers, likeness_of}
+use Rattle.refusals.specs.declared.PairRefusal.TheVariants.{First, Second}
+use Rattle.labelling.specs.Labelling.{LabelRefusedWith, SkeletonRight, skeleton}
+use Rattle.labelling.proofs.Given.{unwritten, Given, told_given, told_refused}
+use Rattle.likeness.specs.Likeness.{alike_number, Likened, LookAlikeAnswers}
 
--- the same exactly where the order says that they are equal
-same_apart : (a b : List ℕ) (o : Ordering) → order_values a b ≡ o → (o ≡ Equal → ⊥) → same_list a b ≡ false
-same_apart a b o e other =
-    is_false (same_list a b)
-    (λ (t : T (same_list a b)). other (sym e ∙ ap (order_values a) (sym (same_list_equal a b t)) ∙ values_are_ordered.alike a))
+-- the library's equality of two lists is ours
+lists_same : (xs ys : List ℕ) → pointwise eqb xs ys ≡ same_list xs ys
+lists_same [] [] = refl
+lists_same [] (y ∷ ys) = refl
+lists_same (x ∷ xs) [] = refl
+lists_same (x ∷ xs) (y ∷ ys) = ap (λ (b : Bool). eqb x y && b) (lists_same xs ys)
 
-same_level : (a b : List ℕ) → order_values a b ≡ Equal → same_list a b ≡ true
-same_level a b e = is_true (same_list a b) (subst (λ (l : List ℕ). T (same_list a l)) (values_are_ordered.identical a b e) (same_list_refl a))
+module _ {word before after : List ℕ} (answer : Result ℕ Refusal) (right : SkeletonRight word before after (outcome_of answer)) (n : ℕ) (e : answer ≡ Ok n) where
+  pub given_fits : n ≤ length after
+  given_fits = (told_given answer right n e).fits
+
+  pub given_taken : n ≡ length (take n after)
+  given_taken = sym (length-take-le n after given_fits)
+
+-- the list that is lent has room for every skeleton
+module _ (word after : List ℕ) (answer : Result ℕ Refusal) (right : SkeletonRight word unwritten after (outcome_of answer)) where
+  label_refused : (refusal : Refusal) → answer ≡ Err refusal → LabelRefusedWith word (number_of refusal) (place_of refusal)
+  label_refused refusal e = told_refused answer right (omega arith) refusal e
+
+  pub label_given : (n : ℕ) → answer ≡ Ok n → Given word unwritten after n
+  label_given n e = told_given answer right n e
+
+-- what is told of a word that is refused
+module _ (first second : List ℕ) (told : Result Bool PairRefusal) where
+  pub first_refused : (after : List ℕ) (answer : Result ℕ Refusal) → SkeletonRight first unwritten after (outcome_of answer)
+      → MatchResult answer (λ _. ⊥) (λ refusal. told ≡ Err (First refusal)) → LookAlikeAnswers first second (pair_outcome_by alike_number told)
+  first_refused after (Ok n) right h = absurd h
+  first_refused after (Err refusal) right h = rw h (label_refused first after (Err refusal) right refusal refl)
+
+  pub second_refused : (after final : List ℕ) (n : ℕ) (answer : Result ℕ Refusal) → Given first unwritten after n
+      → SkeletonRight second unwritten final (outcome_of answer)
+      → MatchResult answer (λ _. ⊥) (λ refusal. told ≡ Err (Second refusal)) → LookAlikeAnswers first second (pair_outcome_by alike_number told)
+  second_refused after final n (Ok k) g right h = absurd h
+  second_refused after final n (Err refusal) g right h =
+      rw h
+      (record {
+        first_count = g.count;
+        first_passes = g.label;
+        second_refused = label_refused second final (Err refusal) right refusal refl;
+      })
 
 module _ {first second start begin one other : List ℕ} {m n : ℕ} (f : Given first start one m) (g : Given second begin other n) where
-  likened : (k : ℕ) (b : Bool) → same_list (skeleton first) (skeleton second) ≡ b → k ≡ bit_if b 1 → Likened first second k
-  likened k b e h =
+  pub likened : (alike : Bool) → alike ≡ pointwise eqb (take m one) (take n other) → Likened first second (alike_number alike)
+  likened alike e =
       record {
         first_count = f.count;
         first_label = f.label;
         second_count = g.count;
         second_label = g.label;
-        told = h ∙ ap (λ (t : Bool). bit_if t 1) (sym e);
+        told =
+            ap alike_number
+            (e ∙ ap (λ (l : List ℕ). pointwise eqb l (take n other)) f.front ∙ ap (pointwise eqb (skeleton first)) g.front
+            ∙ lists_same (skeleton first) (skeleton second));
       }
-
-  by_skeletons : order_values (take m one) (take n other) ≡ order_values (skeleton first) (skeleton second)
-  by_skeletons = ap (λ (l : List ℕ). order_values l (take n other)) f.front ∙ ap (order_values (skeleton first)) g.front
-
-  pub likeness_right : (o : Ordering) → o ≡ order_values (take m one) (take n other) → (answer : Result ℕ PairRefusal) → answer ≡ likeness_of o
-      → LookAlikeAnswers first second (pair_outcome_of answer)
-  likeness_right o e answer a =
-      subst (λ (p : Result ℕ PairRefusal). LookAlikeAnswers first second (pair_outcome_of p)) (sym a) (go o (sym (e ∙ by_skeletons)))
-    where
-      go : (p : Ordering) → order_values (skeleton first) (skeleton second) ≡ p → LookAlikeAnswers first second (pair_outcome_of (likeness_of p))
-      go Less d = likened 0 false (same_apart _ _ Less d less_not_equal) refl
-      go Equal d = likened 1 true (same_level _ _ d) refl
-      go Greater d = likened 0 false (same_apart _ _ Greater d greater_not_equal) refl

@@ -1,16 +1,18 @@
 -- The promise on two labels determines its answer: of each word there is one, and what is told of two is an equation.
 -- Assumes nothing.
-use mathlib.Core.Path.{◌≡◌, sym, ◌∙◌}
+use mathlib.Core.Path.{◌≡◌, refl, sym, ◌∙◌}
 use mathlib.Core.List.{List}
+use mathlib.Core.Bool.{Bool, true, false}
 use Prim.Native.Nat.{ℕ}
-use Rattle.refusals.specs.Pair.{PairOutcome, pair_outcome_of}
+use native.Mathlib.Omega.{arith}
+use Rattle.refusals.specs.Pair.{PairOutcome, pair_outcome_by}
 use Rattle.std.specs.declared.result.Result.{Result}
 use Rattle.refusals.specs.declared.PairRefusal.{PairRefusal}
 use Rattle.refusals.proofs.Laws.{paired_once}
 use Rattle.refusals.proofs.Pairs.{BothPass, pair_once}
 use Rattle.labelling.specs.Labelling.{IsLabel, LabelRefusedWith}
 use Rattle.labelling.proofs.Determined.{label_refused_alike, label_not_refused}
-use Rattle.likeness.specs.Likeness.{Likened, LookAlikeAnswers}
+use Rattle.likeness.specs.Likeness.{alike_number, Likened, LookAlikeAnswers}
 
 module _ (first second : List ℕ) where
   both_labels : (k : ℕ) → Likened first second k → BothPass IsLabel first second
@@ -27,6 +29,14 @@ module _ (first second : List ℕ) where
 pub look_alike_once : (first second : List ℕ) (a b : PairOutcome) → LookAlikeAnswers first second a → LookAlikeAnswers first second b → a ≡ b
 look_alike_once = pair_once IsLabel LabelRefusedWith Likened label_refused_alike label_not_refused both_labels likened_once
 
-pub look_alike_determined : (first second : List ℕ) (a b : Result ℕ PairRefusal) → LookAlikeAnswers first second (pair_outcome_of a)
-    → LookAlikeAnswers first second (pair_outcome_of b) → a ≡ b
-look_alike_determined first second a b r s = paired_once a b (look_alike_once first second (pair_outcome_of a) (pair_outcome_of b) r s)
+alike_numbered : (a b : Bool) → alike_number a ≡ alike_number b → a ≡ b
+alike_numbered true true e = refl
+alike_numbered true false e = let z : ⊥ = omega arith in absurd z
+alike_numbered false true e = let z : ⊥ = omega arith in absurd z
+alike_numbered false false e = refl
+
+pub look_alike_determined : (first second : List ℕ) (a b : Result Bool PairRefusal) → LookAlikeAnswers first second (pair_outcome_by alike_number a)
+    → LookAlikeAnswers first second (pair_outcome_by alike_number b) → a ≡ b
+look_alike_determined first second a b r s =
+    paired_once alike_number alike_numbered a b
+    (look_alike_once first second (pair_outcome_by alike_number a) (pair_outcome_by alike_number b) r s)
