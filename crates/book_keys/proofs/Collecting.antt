@@ -19,6 +19,7 @@ use Rattle.entries.specs.Entries.{Entry, word_at}
 use Rattle.entries.specs.Map.{counted, live_count, live_ones}
 use Rattle.entries.specs.Book.{IsBook, Opened}
 use Rattle.entries.proofs.Agree.{only}
+use Rattle.entries.proofs.Records.{Framed}
 use Rattle.entries.proofs.Walk.{Walk, walk_start, Turn, turn, walk_seen}
 use Rattle.entries.proofs.Live.{live_count_lem, live_append}
 use Rattle.book_keys.specs.Filing.{row_of, filed_key, key_room, AllKeyed, start_of, most_live, with_keys, FiledRight}
@@ -91,6 +92,9 @@ module _ (b : List ℕ) (free : ℕ) (keys_before starts_before_lem keys starts 
   pub collect_long : length starts ≡ length starts_before_lem
   collect_long = ap length c.starts_are ∙ length-sets starts_before_lem 0 (live_starts c.seen)
 
+  pub collect_frame : at < free → Framed b at
+  collect_frame h = (at_record h).stands.frame
+
   module _ (t : Turn b at free c.list c.seen c.rest) where
     pub turn_readable : Readable (word_at b at)
     turn_readable = here_readable b at free c.list c.seen t.entry t.behind t.stands
@@ -104,7 +108,7 @@ module _ (b : List ℕ) (free : ℕ) (keys_before starts_before_lem keys starts 
         ∙ ap (λ (u : Bool). live_starts c.seen ++ pick u (at ∷ []) []) e
 
     -- where it is live, there is room for its start
-    pub collect_fits : get_or b (at + 1) 0 ≡ 0x57 → most_live ≤ length starts_before_lem → live < length starts
+    collect_fits : get_or b (at + 1) 0 ≡ 0x57 → most_live ≤ length starts_before_lem → live < length starts
     collect_fits m room =
         let here_live : t.entry.live ≡ true = ap (λ (x : Entry). x.live) (sym t.stands.is) ∙ eq-eqb (get_or b (at + 1) 0) 0x57 m in
         let ahead : live_count c.rest ≡ suc (live_count t.behind) =
@@ -146,6 +150,10 @@ module _ (b : List ℕ) (free : ℕ) (keys_before starts_before_lem keys starts 
           starts_are = c.starts_are ∙ ap (sets starts_before_lem 0) (sym e);
           keys_are = c.keys_are ∙ ap (with_keys b keys_before) (sym e);
         }
+
+  -- the same where the record at the place is not named
+  pub collect_more : at < free → get_or b (at + 1) 0 ≡ 0x57 → most_live ≤ length starts_before_lem → live < length starts
+  collect_more h m room = collect_fits (at_record h) m room
 
   -- all are passed
   pub collect_end : length keys_before ≡ key_room → most_live ≤ length starts_before_lem → free ≤ at → FiledRight b keys_before starts_before_lem keys starts live

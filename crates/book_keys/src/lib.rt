@@ -14,8 +14,6 @@ ghost use Rattle.book_keys.specs.Filing.{row_of, filed_key, key_room, most_live,
 use book_frame::{HEAD, has_mark, values_of};
 use formula::Word;
 use keying::fill::fill;
-use memory::casts::{count_byte, wide};
-use memory::copies::put_all;
 use refusals::Refusal;
 
 // The bytes for the keys of a book: those of the record at a start stand from 6 times the start on.
@@ -45,22 +43,14 @@ pub fn weights_at(keys: &[u8], start: u16) -> &[u8]
     }
 }
 
-// A start in 16 bits.
-fn start_of(at: usize) -> u16
-    requires { at < book_limit }
-    ensures { result ≡ at }
-{
-    at as u16
-}
-
 // Puts the number of syllables and the used bytes of a key at a place.
 fn put_key(keys: &mut [u8], from: usize, key: &[u8], count: usize)
     requires { (count ≤ limit) × (used_bytes count ≤ length key.now) × (from + (1 + used_bytes count) ≤ length keys.old) × (length keys.old ≡ key_room) }
     ensures { keys.new ≡ sets keys.old from (count ∷ take (used_bytes count) key.now) }
 {
-    keys[from] = count_byte(count);
+    keys[from] = count as u8;
     let used = Word::WEIGHTS * count;
-    put_all(&key[..used], keys, from + 1);
+    keys[from + 1..from + 1 + used].copy_from_slice(&key[..used]);
 }
 
 // Files the key of the record at a place, whose word is readable.
@@ -68,11 +58,10 @@ fn file_key(book: &[u8], at: usize, keys: &mut [u8])
     requires { (length book.now ≤ book_limit) × (length keys.old ≡ key_room) × T (is_framed book.now at) × Readable (word_at book.now at) }
     ensures { keys.new ≡ sets keys.old (used_bytes at) (filed_key (row_of (word_at book.now at))) }
 {
-    let count = wide(book[at + 2]);
+    let count = usize::from(book[at + 2]);
     let values = values_of(book, at + HEAD, count);
     let mut key = [0; Word::KEY];
-    let answer = fill(&values[..count], &mut key);
-    if let Ok(number) = answer {
+    if let Ok(number) = fill(&values[..count], &mut key) {
         put_key(keys, Word::WEIGHTS * at, &key, number);
     }
 }
@@ -88,14 +77,15 @@ pub fn file_records(
     ensures { FiledRight book.now keys.old starts.old keys.new starts.new result }
 {
     let mut live = 0;
+    // No library's step over the records: how long each is stands in it.
     let mut at = 0;
     while at < free {
         if has_mark(book, at, b"MW") {
             file_key(book, at, keys);
-            starts[live] = start_of(at);
+            starts[live] = at as u16;
             live += 1;
         }
-        at += HEAD + wide(book[at + 2]);
+        at += HEAD + usize::from(book[at + 2]);
     }
     live
 }

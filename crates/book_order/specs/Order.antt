@@ -1,6 +1,6 @@
 -- Document 01, "The word book": which of two records stands before the other in word order.
 -- Assumes nothing.
-use Rattle.std.specs.Prelude.{◌≡◌, Bool, true, false, ◌⊎◌, List, ℕ, ◌+◌, get_or, take, drop}
+use Rattle.std.specs.Prelude.{Bool, true, false, List, ℕ, ◌+◌, get_or, take, drop}
 use Rattle.weighing.specs.Order.{Filed, filed, in_turn, order_values, order}
 use Rattle.std.specs.declared.cmp.Ordering.{Ordering}
 use Rattle.std.specs.declared.cmp.Ordering.TheVariants.{Less, Equal, Greater}
@@ -16,10 +16,6 @@ abbrev pub is_less : Ordering → Bool
 is_less Less = true
 is_less Equal = false
 is_less Greater = false
-
--- a first comparison finds no difference, or it is the order
-abbrev pub Decides : Ordering → Ordering → Type 0
-Decides first whole = (first ≡ Equal) ⊎ (first ≡ whole)
 
 -- "before it in word order"
 unfoldable pub before : Entry → Entry → Bool

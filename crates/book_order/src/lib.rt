@@ -5,7 +5,7 @@ ghost use Rattle.std.specs.Prelude.{◌≡◌};
 ghost use Rattle.weighing.specs.Order.{order_values, front_of, order};
 ghost use Rattle.entries.specs.Entries.{entry_at};
 ghost use Rattle.book_keys.specs.Filing.{HasKey};
-ghost use Rattle.book_order.specs.Order.{file_of, bytes_at, filed_order, Decides};
+ghost use Rattle.book_order.specs.Order.{file_of, bytes_at, filed_order};
 
 use book_frame::HEAD;
 use book_keys::{part, weights_at};
@@ -30,25 +30,27 @@ fn front(bytes: &[u8; 8]) -> u64
     u64::from_be_bytes(*bytes)
 }
 
-// The order of two keys by their first eight bytes, where both have as many; else as if they were equal.
-fn order_fronts(first: &[u8], second: &[u8]) -> Ordering
-    ensures { Decides result (order_values first.now second.now) }
+// The order of eight bytes and eight others.
+fn order_fronts(first: &[u8; 8], second: &[u8; 8]) -> Ordering
+    ensures { result ≡ order_values first.now second.now }
 {
-    match (first.first_chunk(), second.first_chunk()) {
-        (Some(one), Some(other)) => front(one).cmp(&front(other)),
-        _ => Ordering::Equal,
-    }
+    front(first).cmp(&front(second))
 }
 
-// The order of two keys, by their first eight bytes at once where these decide.
+// The order of two keys: where both have eight bytes or more, by these at once, and then by what is left.
 fn order_keys(first: &[u8], second: &[u8]) -> Ordering
     ensures { result ≡ order_values first.now second.now }
 {
-    let order = order_fronts(first, second);
-    if order.is_ne() {
-        return order;
+    match (first.split_first_chunk(), second.split_first_chunk()) {
+        (Some((one, first_rest)), Some((other, second_rest))) => {
+            let order = order_fronts(one, other);
+            if order.is_ne() {
+                return order;
+            }
+            first_rest.cmp(second_rest)
+        }
+        _ => first.cmp(second),
     }
-    first.cmp(second)
 }
 
 // The order of the records at two starts: by the weights of their keys, and where these are the same by the values of their words.

@@ -10,7 +10,7 @@ use Rattle.formula.specs.Limits.{weight_count}
 use Rattle.keying.specs.Filled.{FillRight}
 use Rattle.entries.specs.Limits.{head_size}
 use Rattle.entries.specs.Entries.{value_of, word_at}
-use Rattle.entries.proofs.Records.{Framed, framed_true}
+use Rattle.entries.proofs.Records.{framed_true}
 use Rattle.book_keys.specs.Filing.{row_of}
 use Rattle.book_keys.proofs.Rows.{filed_key_length, key_within}
 use Rattle.book_keys.proofs.Words.{not_refused, filled_few, filled_room, filled_count, filled_key}
@@ -18,78 +18,61 @@ use Rattle.book_keys.proofs.file_key.Goals as goal
 
 pub overflow_add-at : goal.overflow_add-at
 overflow_add-at c =
-    let frame : Framed c.args.book.now c.args.at =
-    framed_true _ _ c.requires.2 in
-    let f = frame in omega (arith, f.room, c.requires.0)
+    omega (arith, (framed_true _ _ c.requires.2).room, c.requires.0)
 
 pub bounds-book-at : goal.bounds-book-at
 bounds-book-at c =
-    let frame : Framed c.args.book.now c.args.at =
-    framed_true _ _ c.requires.2 in
-    let f = frame in omega (arith, f.room, c.requires.0)
+    omega (arith, (framed_true _ _ c.requires.2).room, c.requires.0)
 
 pub overflow_add-at-2 : goal.overflow_add-at-2
 overflow_add-at-2 c =
-    let frame : Framed c.args.book.now c.args.at =
-    framed_true _ _ c.requires.2 in
-    let f = frame in omega (arith, f.room, c.requires.0)
+    omega (arith, (framed_true _ _ c.requires.2).room, c.requires.0)
 
 pub values_of-values-requires : goal.values_of-values-requires
 values_of-values-requires c =
-    let frame : Framed c.args.book.now c.args.at =
-    framed_true _ _ c.requires.2 in
-    let f = frame in
-    (omega (arith, f.short, c.wide-count.ensures.0), omega (arith, f.room, c.wide-count.ensures.0))
+    let f = framed_true _ _ c.requires.2 in
+    (omega (arith, f.short, c.from-count.ensures), omega (arith, f.room, c.from-count.ensures))
 
 pub slice_bounds-values-end : goal.slice_bounds-values-end
 slice_bounds-values-end c =
-    let frame : Framed c.args.book.now c.args.at =
-    framed_true _ _ c.requires.2 in
-    let f = frame in omega (arith, f.short, c.wide-count.ensures.0, c.values_of-values.ensures.1)
+    omega (arith, (framed_true _ _ c.requires.2).short, c.from-count.ensures, c.values_of-values.ensures.1)
 
 pub slice_bounds-fill-end : goal.slice_bounds-fill-end
 slice_bounds-fill-end c =
-    let frame : Framed c.args.book.now c.args.at =
-    framed_true _ _ c.requires.2 in
-    let f = frame in
     sym
-    (length-take-le c.wide-count.result c.values_of-values.result
-    (omega (arith, f.short, c.wide-count.ensures.0, c.values_of-values.ensures.1)))
+    (length-take-le c.from-count.result c.values_of-values.result
+    (omega (arith, (framed_true _ _ c.requires.2).short, c.from-count.ensures, c.values_of-values.ensures.1)))
 
 pub overflow_mul-at : goal.overflow_mul-at
 overflow_mul-at c =
-    let frame : Framed c.args.book.now c.args.at =
-    framed_true _ _ c.requires.2 in
-    let f = frame in omega (arith, f.room, c.requires.0)
+    omega (arith, (framed_true _ _ c.requires.2).room, c.requires.0)
 
 pub put_key-requires : goal.put_key-requires
 put_key-requires c =
-    let frame : Framed c.args.book.now c.args.at =
-    framed_true _ _ c.requires.2 in
-    let filled : FillRight (word_at c.args.book.now c.args.at) c.fill-answer.result c.fill-answer.new.bytes =
-    let e : take c.wide-count.result c.values_of-values.result ≡ (word_at c.args.book.now c.args.at) =
-    c.values_of-values.ensures.0 ∙ ap (λ (n : ℕ). map value_of (take n (drop (c.args.at + head_size) c.args.book.now))) c.wide-count.ensures.0 in
-    subst (λ (l : List ℕ). FillRight l c.fill-answer.result c.fill-answer.new.bytes) e c.fill-answer.ensures in
-    let k = (key_within c.args.book.now c.args.at c.requires.0 frame c.requires.3).1 in (
-      filled_few (word_at c.args.book.now c.args.at) c.requires.3 c.fill-answer.result _ filled c.in-Ok.number c.in-Ok.is,
-      filled_room (word_at c.args.book.now c.args.at) c.requires.3 c.fill-answer.result _ filled c.in-Ok.number c.in-Ok.is,
-      omega (arith, c.requires.1, filed_key_length (row_of (word_at c.args.book.now c.args.at)), filled_count (word_at c.args.book.now c.args.at) c.requires.3 c.fill-answer.result _ filled c.in-Ok.number c.in-Ok.is),
+    let filled : FillRight (word_at c.args.book.now c.args.at) c.fill.result c.fill.new.bytes =
+    let e : take c.from-count.result c.values_of-values.result ≡ (word_at c.args.book.now c.args.at) =
+    c.values_of-values.ensures.0 ∙ ap (λ (n : ℕ). map value_of (take n (drop (c.args.at + head_size) c.args.book.now))) c.from-count.ensures in
+    subst (λ (l : List ℕ). FillRight l c.fill.result c.fill.new.bytes) e c.fill.ensures in
+    let k = (key_within c.args.book.now c.args.at c.requires.0 (framed_true _ _ c.requires.2) c.requires.3).1 in (
+      filled_few (word_at c.args.book.now c.args.at) c.requires.3 c.fill.result _ filled c.in-Ok.number c.in-Ok.is,
+      filled_room (word_at c.args.book.now c.args.at) c.requires.3 c.fill.result _ filled c.in-Ok.number c.in-Ok.is,
+      omega (arith, c.requires.1, filed_key_length (row_of (word_at c.args.book.now c.args.at)), filled_count (word_at c.args.book.now c.args.at) c.requires.3 c.fill.result _ filled c.in-Ok.number c.in-Ok.is),
       c.requires.1,
     )
 
 pub returns-in-Ok : goal.returns-in-Ok
 returns-in-Ok c =
-    let filled : FillRight (word_at c.args.book.now c.args.at) c.fill-answer.result c.fill-answer.new.bytes =
-    let e : take c.wide-count.result c.values_of-values.result ≡ (word_at c.args.book.now c.args.at) =
-    c.values_of-values.ensures.0 ∙ ap (λ (n : ℕ). map value_of (take n (drop (c.args.at + head_size) c.args.book.now))) c.wide-count.ensures.0 in
-    subst (λ (l : List ℕ). FillRight l c.fill-answer.result c.fill-answer.new.bytes) e c.fill-answer.ensures in
+    let filled : FillRight (word_at c.args.book.now c.args.at) c.fill.result c.fill.new.bytes =
+    let e : take c.from-count.result c.values_of-values.result ≡ (word_at c.args.book.now c.args.at) =
+    c.values_of-values.ensures.0 ∙ ap (λ (n : ℕ). map value_of (take n (drop (c.args.at + head_size) c.args.book.now))) c.from-count.ensures in
+    subst (λ (l : List ℕ). FillRight l c.fill.result c.fill.new.bytes) e c.fill.ensures in
     c.put_key.ensures
-    ∙ ap (sets c.args.keys.now (weight_count * c.args.at)) (filled_key (word_at c.args.book.now c.args.at) c.requires.3 c.fill-answer.result _ filled c.in-Ok.number c.in-Ok.is)
+    ∙ ap (sets c.args.keys.now (weight_count * c.args.at)) (filled_key (word_at c.args.book.now c.args.at) c.requires.3 c.fill.result _ filled c.in-Ok.number c.in-Ok.is)
 
 pub returns-in_default : goal.returns-in_default
 returns-in_default c =
-    let filled : FillRight (word_at c.args.book.now c.args.at) c.fill-answer.result c.fill-answer.new.bytes =
-    let e : take c.wide-count.result c.values_of-values.result ≡ (word_at c.args.book.now c.args.at) =
-    c.values_of-values.ensures.0 ∙ ap (λ (n : ℕ). map value_of (take n (drop (c.args.at + head_size) c.args.book.now))) c.wide-count.ensures.0 in
-    subst (λ (l : List ℕ). FillRight l c.fill-answer.result c.fill-answer.new.bytes) e c.fill-answer.ensures in
-    absurd (not_refused (word_at c.args.book.now c.args.at) c.requires.3 c.fill-answer.result _ filled c.in_default.field-0 c.in_default.is)
+    let filled : FillRight (word_at c.args.book.now c.args.at) c.fill.result c.fill.new.bytes =
+    let e : take c.from-count.result c.values_of-values.result ≡ (word_at c.args.book.now c.args.at) =
+    c.values_of-values.ensures.0 ∙ ap (λ (n : ℕ). map value_of (take n (drop (c.args.at + head_size) c.args.book.now))) c.from-count.ensures in
+    subst (λ (l : List ℕ). FillRight l c.fill.result c.fill.new.bytes) e c.fill.ensures in
+    absurd (not_refused (word_at c.args.book.now c.args.at) c.requires.3 c.fill.result _ filled c.in_default.field-0 c.in_default.is)

@@ -1,14 +1,14 @@
 -- `book_keys::file_records` meets its contract. The invariant: the live records among those that are passed are filed. The measure is what is left
 -- before the free bytes. Assumes nothing.
-use mathlib.Core.Path.{◌≡◌, ap}
-use Prim.Native.Nat.{◌+◌, ◌<◌}
+use mathlib.Core.Path.{◌≡◌, refl}
+use Prim.Native.Nat.{◌+◌}
 use native.Mathlib.Omega.{arith}
-use lib.ListN.{length, get_or, set}
+use lib.ListN.{get_or}
 use Rattle.entries.specs.Limits.{head_size}
 use Rattle.entries.proofs.Records.{framed_is}
 use Rattle.entries.proofs.Walk.{Turn}
 use Rattle.book_frame.proofs.Marks.{mark_met, mark_missed}
-use Rattle.book_keys.proofs.Collecting.{collect_start, collect_as, at_record, collect_room, collect_long, turn_readable, collect_fits}
+use Rattle.book_keys.proofs.Collecting.{collect_start, collect_as, at_record, collect_room, collect_long, turn_readable, collect_frame, collect_more}
 use Rattle.book_keys.proofs.Collecting.{collect_live, collect_removed, collect_end}
 use Rattle.book_keys.proofs.file_records.Goals as goal
 use Rattle.book_keys.proofs.file_records.Goals.{then-has_mark, else-has_mark}
@@ -18,9 +18,7 @@ loop-at-init c = collect_start _ _ _ _ c.requires.0
 
 pub has_mark-requires : goal.has_mark-requires
 has_mark-requires c =
-    let at_turn : Turn c.args.book.now c.loop-at.at c.args.free c.loop-at.invariant.list c.loop-at.invariant.seen c.loop-at.invariant.rest =
-    at_record _ _ _ _ _ _ _ _ c.loop-at.invariant c.loop-at-test.true in
-    let f = at_turn.stands.frame in omega (arith, f.room)
+    omega (arith, (collect_frame _ _ _ _ _ _ _ _ c.loop-at.invariant c.loop-at-test.true).room)
 
 pub file_key-requires : goal.file_key-requires
 file_key-requires c =
@@ -34,70 +32,40 @@ file_key-requires c =
       turn_readable _ _ _ _ _ _ _ _ i t,
     )
 
-pub start_of-requires : goal.start_of-requires
-start_of-requires c =
-    let at_turn : Turn c.args.book.now c.loop-at.at c.args.free c.loop-at.invariant.list c.loop-at.invariant.seen c.loop-at.invariant.rest =
-    at_record _ _ _ _ _ _ _ _ c.loop-at.invariant c.loop-at-test.true in
-    let low : c.loop-at.at < 16377 =
-    let f = at_turn.stands.frame in omega (arith, f.room, f.some, c.loop-at.invariant.walk.is_book.short) in
-    let l = low in omega arith
-
 pub offset_bounds-starts-live : goal.offset_bounds-starts-live
 offset_bounds-starts-live c =
-    let at_turn : Turn c.args.book.now c.loop-at.at c.args.free c.loop-at.invariant.list c.loop-at.invariant.seen c.loop-at.invariant.rest =
-    at_record _ _ _ _ _ _ _ _ c.loop-at.invariant c.loop-at-test.true in
-    let fits : c.loop-at.live < length c.loop-at.starts =
-    let live = (mark_met (get_or c.args.book.now c.loop-at.at 0) _ 0x4D 0x57 _ c.has_mark.ensures c.if-has_mark.true).1 in
-    collect_fits _ _ _ _ _ _ _ _ c.loop-at.invariant at_turn live c.requires.2 in
-    let l = fits in
-    omega (arith, collect_long _ _ _ _ _ _ _ _ c.loop-at.invariant)
+    omega (
+      arith,
+      collect_more _ _ _ _ _ _ _ _ c.loop-at.invariant c.loop-at-test.true
+          (mark_met (get_or c.args.book.now c.loop-at.at 0) _ 0x4D 0x57 _ c.has_mark.ensures c.if-has_mark.true).1 c.requires.2,
+      collect_long _ _ _ _ _ _ _ _ c.loop-at.invariant,
+    )
 
 pub bounds-starts-live : goal.bounds-starts-live
 bounds-starts-live c =
-    let at_turn : Turn c.args.book.now c.loop-at.at c.args.free c.loop-at.invariant.list c.loop-at.invariant.seen c.loop-at.invariant.rest =
-    at_record _ _ _ _ _ _ _ _ c.loop-at.invariant c.loop-at-test.true in
-    let fits : c.loop-at.live < length c.loop-at.starts =
-    let live = (mark_met (get_or c.args.book.now c.loop-at.at 0) _ 0x4D 0x57 _ c.has_mark.ensures c.if-has_mark.true).1 in
-    collect_fits _ _ _ _ _ _ _ _ c.loop-at.invariant at_turn live c.requires.2 in
-    fits
+    collect_more _ _ _ _ _ _ _ _ c.loop-at.invariant c.loop-at-test.true
+    (mark_met (get_or c.args.book.now c.loop-at.at 0) _ 0x4D 0x57 _ c.has_mark.ensures c.if-has_mark.true).1 c.requires.2
 
 pub overflow_add-live : goal.overflow_add-live
 overflow_add-live c =
-    let at_turn : Turn c.args.book.now c.loop-at.at c.args.free c.loop-at.invariant.list c.loop-at.invariant.seen c.loop-at.invariant.rest =
-    at_record _ _ _ _ _ _ _ _ c.loop-at.invariant c.loop-at-test.true in
-    let fits : c.loop-at.live < length c.loop-at.starts =
-    let live = (mark_met (get_or c.args.book.now c.loop-at.at 0) _ 0x4D 0x57 _ c.has_mark.ensures c.if-has_mark.true).1 in
-    collect_fits _ _ _ _ _ _ _ _ c.loop-at.invariant at_turn live c.requires.2 in
-    let l = fits in
-    omega (arith, collect_long _ _ _ _ _ _ _ _ c.loop-at.invariant)
+    omega (
+      arith,
+      collect_more _ _ _ _ _ _ _ _ c.loop-at.invariant c.loop-at-test.true
+          (mark_met (get_or c.args.book.now c.loop-at.at 0) _ 0x4D 0x57 _ c.has_mark.ensures c.if-has_mark.true).1 c.requires.2,
+      collect_long _ _ _ _ _ _ _ _ c.loop-at.invariant,
+    )
 
 pub overflow_add-at : goal.overflow_add-at
 overflow_add-at c =
-    let at_turn : Turn c.args.book.now c.loop-at.at c.args.free c.loop-at.invariant.list c.loop-at.invariant.seen c.loop-at.invariant.rest =
-    at_record _ _ _ _ _ _ _ _ c.loop-at.invariant c.loop-at-test.true in
-    let low : c.loop-at.at < 16377 =
-    let f = at_turn.stands.frame in omega (arith, f.room, f.some, c.loop-at.invariant.walk.is_book.short) in
-    let l = low in omega arith
+    let f = collect_frame _ _ _ _ _ _ _ _ c.loop-at.invariant c.loop-at-test.true in omega (arith, f.room, f.some, c.loop-at.invariant.walk.is_book.short)
 
 pub bounds-book-at : goal.bounds-book-at
 bounds-book-at c =
-    let at_turn : Turn c.args.book.now c.loop-at.at c.args.free c.loop-at.invariant.list c.loop-at.invariant.seen c.loop-at.invariant.rest =
-    at_record _ _ _ _ _ _ _ _ c.loop-at.invariant c.loop-at-test.true in
-    let f = at_turn.stands.frame in omega (arith, f.room)
-
-pub overflow_add-at-in-loop-at : goal.overflow_add-at-in-loop-at
-overflow_add-at-in-loop-at c = omega (arith, c.wide.ensures.1)
+    omega (arith, (collect_frame _ _ _ _ _ _ _ _ c.loop-at.invariant c.loop-at-test.true).room)
 
 pub overflow_add-at-in-loop-at-2 : goal.overflow_add-at-in-loop-at-2
 overflow_add-at-in-loop-at-2 c =
-    let at_turn : Turn c.args.book.now c.loop-at.at c.args.free c.loop-at.invariant.list c.loop-at.invariant.seen c.loop-at.invariant.rest =
-    at_record _ _ _ _ _ _ _ _ c.loop-at.invariant c.loop-at-test.true in
-    let low : c.loop-at.at < 16377 =
-    let f = at_turn.stands.frame in omega (arith, f.room, f.some, c.loop-at.invariant.walk.is_book.short) in
-    let l = low in omega (arith, c.wide.ensures.1)
-
-pub loop-at-smaller : goal.loop-at-smaller
-loop-at-smaller c = omega (arith, c.loop-at-test.true)
+    let f = collect_frame _ _ _ _ _ _ _ _ c.loop-at.invariant c.loop-at-test.true in omega (arith, f.room, f.some, c.loop-at.invariant.walk.is_book.short, c.from.ensures)
 
 pub loop-at-preserved : goal.loop-at-preserved
 loop-at-preserved c =
@@ -105,21 +73,18 @@ loop-at-preserved c =
     at_record _ _ _ _ _ _ _ _ c.loop-at.invariant c.loop-at-test.true in
     let l = c.loop-at in
     let t = at_turn in
-    let e : l.at + (head_size + c.wide.result) ≡ l.at + head_size + get_or c.args.book.now (l.at + 2) 0 = omega (arith, c.wide.ensures.0) in
+    let e : l.at + (head_size + c.from.result) ≡ l.at + head_size + get_or c.args.book.now (l.at + 2) 0 = omega (arith, c.from.ensures) in
     elim c.if-has_mark.branch [
       | then-has_mark w ↦
           collect_as _ _ _ _ _ _ _ _ _ _ _ _ w.keys-is w.starts-is w.live-is e
           (collect_live _ _ _ _ _ _ _ _ l.invariant t
           (mark_met (get_or c.args.book.now l.at 0) _ 0x4D 0x57 _ c.has_mark.ensures w.if-has_mark.true).1 _ _ w.file_key.ensures
-          (ap (set l.starts l.live) w.start_of.ensures))
+          refl)
       | else-has_mark w ↦
           collect_as _ _ _ _ _ _ _ _ _ _ _ _ w.keys-is w.starts-is w.live-is e
           (collect_removed _ _ _ _ _ _ _ _ l.invariant t
           (λ live. mark_missed (get_or c.args.book.now l.at 0) _ 0x4D 0x57 _ c.has_mark.ensures w.if-has_mark.false t.stands.frame.first live))
     ]
-
-pub shape_of-starts : goal.shape_of-starts
-shape_of-starts c = collect_long _ _ _ _ _ _ _ _ c.loop-at.invariant
 
 pub returns : goal.returns
 returns c =
