@@ -7,7 +7,7 @@ ghost use Rattle.book_keys.specs.Filing.{row_of};
 ghost use Rattle.book_fitting.specs.Fitting.{fits_key};
 ghost use Rattle.prefix_search.specs.Prefix.{PrefixRight, ListsPassing};
 
-use book_check::open::{Opening, open_book};
+use book_check::open::open_book;
 use formula::Word;
 use keying::fill::fill;
 use refusals::Refusal;
@@ -17,10 +17,8 @@ use sorting::records::sort_records;
 fn find_key(book: &[u8], prefix: &[u8], starts: &mut [u16]) -> Result<usize, Refusal>
     ensures { ListsPassing book.now (fits_key prefix.now) starts.old starts.new (outcome_of result) }
 {
-    match open_book(book) {
-        Opening::Wrong(place) => Err(Refusal::NotABook(place)),
-        Opening::Book { live: _, free } => sort_records(book, free, prefix, starts),
-    }
+    let opening = open_book(book)?;
+    sort_records(book, opening.free, prefix, starts)
 }
 
 // Puts the starts of the live records that begin with the syllables of a readable word, in word order, at the front of `starts`.
@@ -29,11 +27,7 @@ pub fn find_prefix(book: &[u8], word: &[u16], starts: &mut [u16]) -> Result<usiz
     ensures { PrefixRight book.now (row_of word.now) starts.old starts.new (outcome_of result) }
 {
     let mut key = [0; Word::KEY];
-    match fill(word, &mut key) {
-        Err(refusal) => Err(refusal),
-        Ok(syllables) => {
-            let used = Word::WEIGHTS * syllables;
-            find_key(book, &key[..used], starts)
-        }
-    }
+    let syllables = fill(word, &mut key)?;
+    let used = Word::WEIGHTS * syllables;
+    find_key(book, &key[..used], starts)
 }

@@ -6,10 +6,10 @@ use mathlib.Core.List.{List, [], ◌∷◌, ◌++◌}
 use mathlib.Core.Option.{Option}
 use Prim.Native.Nat.{ℕ, ◌+◌, ◌≤◌, ◌<◌}
 use native.Mathlib.Omega.{arith}
-use lib.ListN.{length, get_or, take, drop, length-append}
+use lib.ListN.{length, get_or, take, drop, replicate, length-append, length-replicate}
 use lib.Seq.{take_at}
 use Rattle.refusals.specs.Outcome.{Outcome, refuses}
-use Rattle.refusals.specs.Output.{Puts, too_short}
+use Rattle.refusals.specs.Output.{Puts, refused, too_short}
 use Rattle.refusals.proofs.Putting.{puts_writes, puts_room}
 use Rattle.entries.specs.Limits.{head_size}
 use Rattle.entries.specs.Entries.{Entry, entry_at, Entries, entries}
@@ -19,12 +19,17 @@ use Rattle.entries.specs.Outcome.{finds}
 use Rattle.entries.proofs.Records.{end_length}
 use Rattle.entries.proofs.Agree.{opened_is}
 use Rattle.entries.proofs.Walk.{free_within}
-use Rattle.book_check.specs.Opening.{opening_of}
-use Rattle.book_check.specs.declared.open.Opening.TheVariants.{Book}
+use Rattle.book_check.specs.Opening.{opening_of, NoBook}
+use Rattle.refusals.specs.Refusal.{number_of, place_of}
+use Rattle.std.specs.Prelude.{Result, Ok}
+use Rattle.refusals.specs.declared.Refusal.{Refusal}
+use Rattle.book_check.specs.declared.open.Opening.{Opening}
+use Rattle.book_keys.specs.Filing.{most_live}
+use Rattle.book_keys.proofs.Live.{live_few}
 use Rattle.book_fitting.specs.Fitting.{fits_key}
 use Rattle.sorting.specs.Passing.{PutsPassing}
 use Rattle.ranking.specs.Rank.{rank_of_entry, rank_of, starts_in_order, Among}
-use Rattle.ranking.specs.Whole.{NotABook, BookOf, OrderRight}
+use Rattle.ranking.specs.Whole.{NotABook, not_a_book, BookOf, OrderRight}
 use Rattle.ranking.proofs.InOrder.{all_in_order, starts_count, entry_there, none_there}
 use Rattle.ranking.proofs.Laws.{rank_below}
 
@@ -36,10 +41,27 @@ among_within at seen (x ∷ list) g e (inl p) =
     omega (arith, g.0, end_length (at + size x) list)
 among_within at seen (x ∷ list) g e (inr m) = among_within (at + size x) (seen ++ (x ∷ [])) list g.3 e m
 
+-- a buffer that is no book
+pub no_book : {bytes : List ℕ} {refusal : Refusal} (starts : List ℕ) → NoBook bytes refusal → OrderRight bytes starts starts (refuses (number_of refusal) (place_of refusal))
+no_book {bytes} starts n = subst (λ (r : Refusal). OrderRight bytes starts starts (refuses (number_of r) (place_of r))) (sym n.is) (refused (not_a_book n.no_book) refl)
+
 -- a book, opened, with the number of its live records
-module _ {bytes : List ℕ} {live free : ℕ} (o : Opened bytes free) (answer : Book live free ≡ opening_of (entries bytes)) where
+module _ {bytes : List ℕ} {opening : Opening} (o : Opened bytes opening.free) (answer : Ok opening ≡ opening_of (entries bytes)) where
+  abbrev live : ℕ
+  live = opening.live
+
+  abbrev free : ℕ
+  free = opening.free
+
   pub live_is : live ≡ live_count o.list
-  live_is = let e : Book live free ≡ Book (live_count o.list) free = answer ∙ ap opening_of (opened_is bytes free o) in cc
+  live_is =
+      let e : ◌≡◌ {A = Result Opening Refusal} (Ok opening) (Ok (record { live = live_count o.list; free = free })) = answer ∙ ap opening_of (opened_is bytes free o) in
+      let same : ◌≡◌ {A = Opening} opening (record { live = live_count o.list; free = free }) = cc in
+      ap (λ (x : Opening). x.live) same
+
+  -- a list of as many as a book can have has room for their starts
+  pub live_room : live ≤ length {A = ℕ} (replicate most_live 0)
+  live_room = omega (arith, live_is, live_few _ o.list o.is_book, length-replicate {A = ℕ} most_live 0)
 
   pub too_high : (number : ℕ) → live ≤ number → refuses 15 live ≡ rank_of (entries bytes) number
   too_high number h =
