@@ -13,7 +13,7 @@ use lib.ListN.{length, get_or, take, drop}
 use Rattle.letters.proofs.Tests.{pick_true, pick_false}
 use Rattle.refusals.specs.Outcome.{Outcome, accepts_both, absent, refuses}
 use Rattle.entries.specs.Limits.{head_size}
-use Rattle.entries.specs.Entries.{Entry, value_of, word_at, entry_at, Entries, wrong, entries}
+use Rattle.entries.specs.Entries.{Entry, value_of, word_at, entry_at, Entries, entries}
 use Rattle.entries.specs.Book.{Opened}
 use Rattle.entries.proofs.Records.{Framed, length_word}
 use Rattle.entries.proofs.Agree.{opened_is}
@@ -70,11 +70,3 @@ module _ (b : List ℕ) (free : ℕ) (o : Opened b free) (start : ℕ) (before :
   word_missing s =
       let e = s.entry o.list o.is_book ∙ pick_false false (some (entry_at b start)) none refl in
       record { answer = told_of none e; output = output_of none e }
-
-pub word_of_no_book : (b : List ℕ) (start place : ℕ) (before : List ℕ) → entries b ≡ wrong place
-    → WordRight b start before before (refuses 11 place)
-word_of_no_book b start place before e =
-    record {
-      answer = sym (ap (λ (y : Entries). word_of_record y start (length before)) e);
-      output = sym (ap (λ (y : Entries). output_of_record y start before) e);
-    }

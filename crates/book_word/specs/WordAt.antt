@@ -6,6 +6,7 @@ use Rattle.letters.specs.Choice.{pick}
 use Rattle.refusals.specs.Outcome.{Outcome, accepts_both, absent, refuses}
 use Rattle.entries.specs.Entries.{Entry, entry_at, is_framed, Entries, book, wrong, entries}
 use Rattle.entries.specs.Book.{IsBook}
+use Rattle.book_word.specs.declared.RecordTold.{RecordTold}
 
 -- the entry, live or removed, that starts at a place
 unfoldable pub entry_starting : List Entry → ℕ → Option Entry
@@ -16,6 +17,10 @@ entry_starting (entry ∷ entries) start = pick (eqb entry.start start) (some en
 abbrev pub marked_count : Bool → ℕ → ℕ
 marked_count true count = count + 256
 marked_count false count = count
+
+-- what is told of a record comes to two numbers: its stock number, and the one for how many values its word has and whether it is live
+abbrev pub record_told : RecordTold → Outcome
+record_told told = accepts_both told.stock (marked_count told.live told.count)
 
 -- what is told of an entry: its stock number, how many values its word has, and whether it is live
 abbrev pub entry_told : Entry → Outcome

@@ -2,20 +2,25 @@
 #![tactic(auto)]
 
 ghost use Rattle.std.specs.Prelude.{◌≤◌, T, length};
-ghost use Rattle.refusals.specs.Outcome.{reply_outcome};
+ghost use Rattle.refusals.specs.Outcome.{outcome_by, tells_if_there};
 ghost use Rattle.entries.specs.Limits.{book_limit};
 ghost use Rattle.entries.specs.Entries.{is_framed, entry_at};
 ghost use Rattle.entries.specs.Book.{Opened};
-ghost use Rattle.book_word.specs.WordAt.{StartRight, ToldRight, WordRight};
+ghost use Rattle.book_word.specs.WordAt.{record_told, StartRight, ToldRight, WordRight};
 
-use book_check::open::{Opening, open_book};
-use book_frame::{HEAD, copy_values, has_mark};
+use book_check::open::open_book;
+use book_check::record::Record;
+use book_frame::{HEAD, copy_values};
 use lookup::stock_at;
-use memory::casts::wide;
-use refusals::{Refusal, Reply};
+use refusals::Refusal;
 
-// What the number of a word's values is told with besides where its record is live. No word has so many.
-const LIVE_MARK: usize = 256;
+// What is told of a record: its stock number, how many values its word has, and whether it is live.
+#[derive(Clone, Copy)]
+pub struct RecordTold {
+    pub stock: u32,
+    pub count: usize,
+    pub live: bool,
+}
 
 // Whether a record of a book starts at a place.
 fn is_start(book: &[u8], free: usize, start: usize) -> bool
@@ -27,41 +32,34 @@ fn is_start(book: &[u8], free: usize, start: usize) -> bool
         if at == start {
             return true;
         }
-        at += HEAD + wide(book[at + 2]);
+        at += Record::at(book, at).size;
     }
     false
 }
 
 // Writes the word of the record at a place to the front of `output`, where there is room for it, and tells of the record.
-fn tell_record(book: &[u8], at: usize, output: &mut [u16]) -> Result<Reply, Refusal>
+fn tell_record(book: &[u8], at: usize, output: &mut [u16]) -> Result<RecordTold, Refusal>
     requires { (length book.now ≤ book_limit) × T (is_framed book.now at) }
-    ensures { ToldRight (entry_at book.now at) output.old output.new (reply_outcome result) }
+    ensures { ToldRight (entry_at book.now at) output.old output.new (outcome_by record_told result) }
 {
-    let count = wide(book[at + 2]);
+    let count = usize::from(book[at + 2]);
     if output.len() < count {
         return Err(Refusal::OutputTooShort(count));
     }
     copy_values(book, at + HEAD, count, output);
-    let stock = stock_at(book, at) as usize;
-    if has_mark(book, at, b"MW") {
-        let marked = count + LIVE_MARK;
-        return Ok(Reply::Two(stock, marked));
-    }
-    Ok(Reply::Two(stock, count))
+    let stock = stock_at(book, at);
+    let live = Record::at(book, at).live;
+    Ok(RecordTold { stock, count, live })
 }
 
-// Writes the word of the record that starts at `start` to the front of `output`; tells the record's stock number, and how many values its word has,
-// with 256 more where it is live.
-pub fn word_at(book: &[u8], start: usize, output: &mut [u16]) -> Result<Reply, Refusal>
-    ensures { WordRight book.now start output.old output.new (reply_outcome result) }
+// Writes the word of the record that starts at `start` to the front of `output`, and tells of the record, if there is one.
+pub fn word_at(book: &[u8], start: usize, output: &mut [u16]) -> Result<Option<RecordTold>, Refusal>
+    ensures { WordRight book.now start output.old output.new (outcome_by (tells_if_there record_told) result) }
 {
-    match open_book(book) {
-        Opening::Wrong(place) => Err(Refusal::NotABook(place)),
-        Opening::Book { live: _, free } => {
-            if is_start(book, free, start) {
-                return tell_record(book, start, output);
-            }
-            Ok(Reply::Nothing)
-        }
+    let opening = open_book(book)?;
+    if !is_start(book, opening.free, start) {
+        return Ok(None);
     }
+    let told = tell_record(book, start, output)?;
+    Ok(Some(told))
 }
