@@ -9,7 +9,7 @@ ghost use Rattle.tidying.specs.Tidy.{TidyRight};
 ghost use Rattle.lookup.specs.Look.{found_told};
 ghost use Rattle.ranking.specs.Rank.{rank_of};
 ghost use Rattle.ranking.specs.Whole.{OrderRight};
-ghost use Rattle.book_word.specs.WordAt.{record_told, WordRight};
+ghost use Rattle.book_word.specs.WordAt.{record_told, FewTold, WordRight};
 
 use book_check::open::open_book;
 use book_word::RecordTold;
@@ -47,7 +47,8 @@ pub fn order(book: &[u8], starts: &mut [u16]) -> Result<usize, Refusal>
 
 // Writes the word of the record that starts at `start` to the front of `output`, and tells of the record, if there is one.
 pub fn word_at(book: &[u8], start: usize, output: &mut [u16]) -> Result<Option<RecordTold>, Refusal>
-    ensures { WordRight book.now start output.old output.new (outcome_by (tells_if_there record_told) result) }
+    ensures right { WordRight book.now start output.old output.new (outcome_by (tells_if_there record_told) result) }
+    ensures few { FewTold result }
 {
     book_word::word_at(book, start, output)
 }

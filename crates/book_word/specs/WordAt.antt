@@ -1,8 +1,12 @@
 -- The word of the record that starts at a place: what is told of the record, and each value of the output afterwards.
 -- Assumes nothing.
-use Rattle.std.specs.Prelude.{◌≡◌, Bool, true, false, List, [], ◌∷◌, ◌++◌, ℕ, ◌+◌, T, eqb, leb, length, drop}
+use Rattle.std.specs.Prelude.{◌≡◌, Bool, true, false, List, [], ◌∷◌, ◌++◌, ℕ, ◌+◌, ◌≤◌, T, eqb, leb, length, drop}
 use Rattle.std.proofs.Math.Option.{Option, none, some}
+use Rattle.std.specs.Prelude.{Result, Ok, Err, Some, None}
+use Rattle.std.specs.declared.option.Option.{Option as Perhaps}
 use Rattle.letters.specs.Choice.{pick}
+use Rattle.formula.specs.Limits.{limit}
+use Rattle.refusals.specs.declared.Refusal.{Refusal}
 use Rattle.refusals.specs.Outcome.{Outcome, accepts_both, absent, refuses}
 use Rattle.entries.specs.Entries.{Entry, entry_at, is_framed, Entries, book, wrong, entries}
 use Rattle.entries.specs.Book.{IsBook}
@@ -21,6 +25,15 @@ marked_count false count = count
 -- what is told of a record comes to two numbers: its stock number, and the one for how many values its word has and whether it is live
 abbrev pub record_told : RecordTold → Outcome
 record_told told = accepts_both told.stock (marked_count told.live told.count)
+
+-- a word has no more values than a word may have, so the one number tells both
+abbrev pub Few : RecordTold → Type 0
+Few told = told.count ≤ limit
+
+abbrev pub FewTold : Result (Perhaps RecordTold) Refusal → Type 0
+FewTold (Ok (Some told)) = Few told
+FewTold (Ok None) = Unit {0}
+FewTold (Err refusal) = Unit {0}
 
 -- what is told of an entry: its stock number, how many values its word has, and whether it is live
 abbrev pub entry_told : Entry → Outcome

@@ -1,12 +1,12 @@
 // The record that starts at a place of a book: its word, its stock number, and whether it is live.
 #![tactic(auto)]
 
-ghost use Rattle.std.specs.Prelude.{◌≤◌, T, length};
+ghost use Rattle.std.specs.Prelude.{◌≤◌, T, length, IfOk};
 ghost use Rattle.refusals.specs.Outcome.{outcome_by, tells_if_there};
 ghost use Rattle.entries.specs.Limits.{book_limit};
 ghost use Rattle.entries.specs.Entries.{is_framed, entry_at};
 ghost use Rattle.entries.specs.Book.{Opened};
-ghost use Rattle.book_word.specs.WordAt.{record_told, StartRight, ToldRight, WordRight};
+ghost use Rattle.book_word.specs.WordAt.{record_told, Few, FewTold, StartRight, ToldRight, WordRight};
 
 use book_check::open::open_book;
 use book_check::record::Record;
@@ -40,7 +40,8 @@ fn is_start(book: &[u8], free: usize, start: usize) -> bool
 // Writes the word of the record at a place to the front of `output`, where there is room for it, and tells of the record.
 fn tell_record(book: &[u8], at: usize, output: &mut [u16]) -> Result<RecordTold, Refusal>
     requires { (length book.now ≤ book_limit) × T (is_framed book.now at) }
-    ensures { ToldRight (entry_at book.now at) output.old output.new (outcome_by record_told result) }
+    ensures right { ToldRight (entry_at book.now at) output.old output.new (outcome_by record_told result) }
+    ensures few { IfOk result Few }
 {
     let count = usize::from(book[at + 2]);
     if output.len() < count {
@@ -54,7 +55,8 @@ fn tell_record(book: &[u8], at: usize, output: &mut [u16]) -> Result<RecordTold,
 
 // Writes the word of the record that starts at `start` to the front of `output`, and tells of the record, if there is one.
 pub fn word_at(book: &[u8], start: usize, output: &mut [u16]) -> Result<Option<RecordTold>, Refusal>
-    ensures { WordRight book.now start output.old output.new (outcome_by (tells_if_there record_told) result) }
+    ensures right { WordRight book.now start output.old output.new (outcome_by (tells_if_there record_told) result) }
+    ensures few { FewTold result }
 {
     let opening = open_book(book)?;
     if !is_start(book, opening.free, start) {

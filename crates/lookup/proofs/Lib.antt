@@ -1,2 +1,3 @@
 pub mod Words
 pub mod Walk
+pub mod Told

@@ -1,3 +1,3 @@
 pub mod Plans
 pub mod Behind
-pub mod Previewed
+pub mod Told

@@ -2,8 +2,7 @@
 use Rattle.std.specs.Prelude.{Bool, false, ℕ, eqb}
 use Rattle.std.specs.Prelude.{Result, Ok, Err}
 use Rattle.refusals.specs.declared.Refusal.{Refusal}
-use Rattle.refusals.specs.Refusal.{number_of, place_of}
-use Rattle.refusals.specs.Outcome.{Outcome, accepts, accepts_both, absent, refuses}
+use Rattle.refusals.specs.Outcome.{Outcome, accepts, accepts_both, absent, refuses, outcome_by}
 use Rattle.planning.specs.declared.Added.{Added}
 use Rattle.planning.specs.Plan.{added_told}
 
@@ -31,7 +30,16 @@ tidies_of (refuses number place) = false
 abbrev pub preview_of : Outcome → PreviewOutcome
 preview_of answer = record { answer = answer; start = start_of answer; tidies = tidies_of answer }
 
--- what a preview comes to: it gives the answer of add, in which stands what is told beside it
+-- a preview gives the answer of add; the start in it, or 0 where add refuses
+abbrev pub start_shown : Result Added Refusal → ℕ
+start_shown (Ok added) = added.start
+start_shown (Err refusal) = 0
+
+-- whether add would tidy; it would not where it refuses
+abbrev pub tidies_shown : Result Added Refusal → Bool
+tidies_shown (Ok added) = added.tidied
+tidies_shown (Err refusal) = false
+
+-- what a preview comes to
 abbrev pub preview_outcome : Result Added Refusal → PreviewOutcome
-preview_outcome (Ok added) = record { answer = added_told added; start = added.start; tidies = added.tidied }
-preview_outcome (Err refusal) = record { answer = refuses (number_of refusal) (place_of refusal); start = 0; tidies = false }
+preview_outcome preview = record { answer = outcome_by added_told preview; start = start_shown preview; tidies = tidies_shown preview }

@@ -15,11 +15,10 @@ use Rattle.letters.specs.Choice.{pick}
 use Rattle.letters.proofs.Tests.{is_true, pick_true, pick_false}
 use Rattle.formula.specs.Limits.{limit}
 use Rattle.formula.proofs.Lists.{same_list}
-use Rattle.refusals.specs.Outcome.{Outcome, accepts, accepts_both, reply_outcome}
+use Rattle.refusals.specs.Outcome.{Outcome, accepts, accepts_both, outcome_by, tells_if_there}
 use Rattle.std.specs.declared.result.Result.{Result}
-use Rattle.refusals.specs.declared.Reply.{Reply}
+use Rattle.std.specs.declared.option.Option.{Option as Perhaps}
 use Rattle.refusals.specs.declared.Refusal.{Refusal}
-use Rattle.refusals.proofs.Laws.{reply_once}
 use Rattle.storage.specs.Stored.{stored_form}
 use Rattle.entries.specs.Entries.{Entry, Entries, book, wrong, entries}
 use Rattle.entries.specs.Book.{size, GoodEntry, GoodAfter, IsBook}
@@ -31,15 +30,17 @@ use Rattle.entries.proofs.Bytes.{Bytes}
 use Rattle.ranking.specs.Rank.{Among}
 use Rattle.ranking.specs.Whole.{OrderRight}
 use Rattle.ranking.proofs.Whole.{order_only}
-use Rattle.book_word.specs.WordAt.{entry_starting, marked_count, entry_told, word_of_entry, word_of_record, output_of_entry, output_of_record, WordRight}
+use Rattle.book_word.specs.declared.RecordTold.{RecordTold}
+use Rattle.book_word.proofs.Told.{word_once}
+use Rattle.book_word.specs.WordAt.{record_told, FewTold, entry_starting, marked_count, entry_told, word_of_entry, word_of_record, output_of_entry, output_of_record, WordRight}
 use Rattle.wordbook.specs.Calls.{CallAnswers, word_refused, word_stored, RemovePromise}
 use Rattle.wordbook.proofs.Laws.{remove_makes_book}
 
 -- one answer only, with one output
-pub word_determined : (bytes : List ℕ) (start : ℕ) (before after final : List ℕ) (first second : Result Reply Refusal)
-    → WordRight bytes start before after (reply_outcome first) → WordRight bytes start before final (reply_outcome second)
-    → (first ≡ second) × (after ≡ final)
-word_determined bytes start before after final first second p q = (reply_once first second (p.answer ∙ sym q.answer), p.output ∙ sym q.output)
+pub word_determined : (bytes : List ℕ) (start : ℕ) (before after final : List ℕ) (first second : Result (Perhaps RecordTold) Refusal)
+    → FewTold first → FewTold second → WordRight bytes start before after (outcome_by (tells_if_there record_told) first)
+    → WordRight bytes start before final (outcome_by (tells_if_there record_told) second) → (first ≡ second) × (after ≡ final)
+word_determined bytes start before after final first second few small p q = (word_once first second few small (p.answer ∙ sym q.answer), p.output ∙ sym q.output)
 
 -- what is told of an entry says whether it is live: no word has as many values as live adds
 pub told_once : (e f : Entry) → GoodEntry e → GoodEntry f → entry_told e ≡ entry_told f

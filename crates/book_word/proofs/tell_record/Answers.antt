@@ -13,8 +13,8 @@ overflow_add-at c = let f = framed_true _ _ c.requires.1 in omega (arith, f.room
 pub bounds-book-at : goal.bounds-book-at
 bounds-book-at c = let f = framed_true _ _ c.requires.1 in omega (arith, f.room)
 
-pub returns-then-output-count : goal.returns-then-output-count
-returns-then-output-count c =
+pub returns-then-output-count-clause-right : goal.returns-then-output-count-clause-right
+returns-then-output-count-clause-right c =
     told_short c.args.book.now c.args.at (framed_true _ _ c.requires.1) c.from-count.result c.from-count.ensures c.args.output.now c.if-output-count.true
 
 pub overflow_add-at-2 : goal.overflow_add-at-2
@@ -29,8 +29,11 @@ stock_at-stock-requires c = let f = framed_true _ _ c.requires.1 in (c.requires.
 pub at-live-requires : goal.at-live-requires
 at-live-requires c = let f = framed_true _ _ c.requires.1 in (c.requires.0, omega (arith, f.room))
 
-pub returns : goal.returns
-returns c =
+pub returns-clause-few : goal.returns-clause-few
+returns-clause-few c = let f = framed_true _ _ c.requires.1 in omega (arith, f.short, c.from-count.ensures)
+
+pub returns-clause-right : goal.returns-clause-right
+returns-clause-right c =
     told_whole c.args.book.now c.args.at (framed_true _ _ c.requires.1) c.from-count.result c.from-count.ensures c.args.output.now _ _ c.if-output-count.false
     c.copy_values.ensures
     (λ i. accepts_both (c.stock_at-stock.ensures i) (marked_count (c.at-live.ensures.live i) c.from-count.result))

@@ -1,5 +1,6 @@
 -- `wordbook::remove` meets its contract: the word's refusal, with no byte changed, or what removing its stored form answers and writes.
 -- Assumes nothing.
+use Rattle.std.proofs.lemmas.Result.{err_from_is_err_and}
 use mathlib.Core.Path.{refl, sym, subst}
 use mathlib.Core.List.{List}
 use Prim.Native.Nat.{ℕ}
@@ -17,26 +18,20 @@ use Rattle.wordbook.proofs.remove.Goals as goal
 
 pub slice_bounds-values-end : goal.slice_bounds-values-end
 slice_bounds-values-end c =
-    let form : FormAt c.args.word.now (zeros limit) c.enter.new.values c.in-Ok.count =
-    entered_form _ (zeros limit) _ _ c.enter.ensures _ c.in-Ok.is in
-    form_fits form
+    form_fits c.in_ok-count.ensures
 
 pub slice_bounds-remove-end : goal.slice_bounds-remove-end
 slice_bounds-remove-end c =
-    let form : FormAt c.args.word.now (zeros limit) c.enter.new.values c.in-Ok.count =
-    entered_form _ (zeros limit) _ _ c.enter.ensures _ c.in-Ok.is in
-    sym (length-take-le _ _ (form_fits form))
+    sym (length-take-le _ _ (form_fits c.in_ok-count.ensures))
 
-pub returns-in-Err : goal.returns-in-Err
-returns-in-Err c =
-    record { answers = word_refused (entered_refused _ (zeros limit) _ _ c.enter.ensures _ c.in-Err.is); bytes = refl }
+pub returns-in_err-count : goal.returns-in_err-count
+returns-in_err-count c =
+    let p = err_from_is_err_and c.from_residual.result c.from_residual.ensures.1 in rw (p.1, p.2) (record { answers = word_refused c.in_err-count.ensures.refused; bytes = refl })
 
-pub returns-in-Ok : goal.returns-in-Ok
-returns-in-Ok c =
-    let form : FormAt c.args.word.now (zeros limit) c.enter.new.values c.in-Ok.count =
-    entered_form _ (zeros limit) _ _ c.enter.ensures _ c.in-Ok.is in
+pub returns : goal.returns
+returns c =
     let s = c.args in
-    let h = form in
+    let h = c.in_ok-count.ensures in
     let outcome = outcome_of c.remove.result in
     let r : RemoveRight (stored_form s.word.now) s.book.now c.remove.new.book outcome =
     subst (λ (w : List ℕ). RemoveRight w s.book.now c.remove.new.book outcome) (form_front h) c.remove.ensures in
