@@ -9,14 +9,13 @@ use Rattle.key_text.proofs.Decimal.{decimal_short}
 use Rattle.memory.specs.Put.{Put}
 use Rattle.memory.proofs.Putting.{put_after, put_front}
 use Rattle.answer_text.specs.Answer.{AnswerPut}
-use Rattle.line_printing.specs.Printed.{Answers, printed, printed_limit, LinePut}
-use Rattle.line_printing.specs.declared.Task.{Task}
+use Rattle.line_printing.specs.Printed.{printed, printed_limit, LinePut}
 
-pub line_written : {task : Task} {line a b c d e : List ℕ} {i j k l : ℕ} (number : ℕ) → number < 2 ^ 64 → printed_limit ≤ length a
-    → Put a 0 (decimal_of number) b i → Put b i (0x20 ∷ []) c j → AnswerPut (Answers task line) c j d k → Put d k (0x0A ∷ []) e l
-    → LinePut task a number line e l
+pub line_written : {Answers : List ℕ → List ℕ → Type 0} {line a b c d e : List ℕ} {i j k l : ℕ} (number : ℕ) → number < 2 ^ 64 → printed_limit ≤ length a
+    → Put a 0 (decimal_of number) b i → Put b i (0x20 ∷ []) c j → AnswerPut (Answers line) c j d k → Put d k (0x0A ∷ []) e l
+    → LinePut Answers a number line e l
 unfolding printed
-line_written {task} {line} {a} {b} {c} {d} {e} {i} {j} {k} {l} number fits room p q r s = record {
+line_written {Answers} {line} {a} {b} {c} {d} {e} {i} {j} {k} {l} number fits room p q r s = record {
   text = r.text;
   right = r.right;
   written =

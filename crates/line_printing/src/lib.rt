@@ -1,9 +1,13 @@
 // What is printed for a line: its number, and the answer to what is asked of it.
 #![tactic(auto)]
 
-ghost use Rattle.std.specs.Prelude.{◌+◌, ◌≤◌, length};
+ghost use Rattle.std.specs.Prelude.{List, ℕ, ◌+◌, ◌≤◌, length};
 ghost use Rattle.answer_text.specs.Answer.{answer_text_limit, AnswerPut};
-ghost use Rattle.line_printing.specs.Printed.{Answers, printed_limit, LinePut};
+ghost use Rattle.printing.specs.Output.{WordText};
+ghost use Rattle.printing.proofs.Answers.{word_kept};
+ghost use Rattle.label_printing.specs.Output.{LabelText};
+ghost use Rattle.label_printing.proofs.Labels.{label_kept};
+ghost use Rattle.line_printing.specs.Printed.{Keeps, printed_limit, LinePut};
 
 use answer_text::ANSWER_TEXT_LIMIT;
 use key_text::{DECIMAL_LIMIT, put, put_decimal};
@@ -13,31 +17,53 @@ use printing::put_word;
 // The most bytes that are printed for a line: its number with a space, the answer, and 0A.
 pub const PRINTED_LIMIT: usize = DECIMAL_LIMIT + 1 + ANSWER_TEXT_LIMIT + 1;
 
-// What is asked of each line of a list: the key of its word, or the skeleton of its label.
-#[derive(Clone, Copy)]
-pub enum Task {
-    Words,
-    Labels,
+// What is asked of each line of a list.
+pub trait Task {
+    // What may be printed for a line behind its number.
+    ghost Answers: { List ℕ → List ℕ → Type 0 };
+
+    // What follows the number of a line.
+    fn put_answer(out: &mut [u8], at: usize, line: &[u8]) -> usize
+        requires { at + answer_text_limit ≤ length out.old }
+        ensures { AnswerPut (Answers line.now) out.old at out.new result };
+
+    // The first bytes of a line that is too long are answered as the line.
+    ghost kept: { Keeps Answers };
 }
 
-// What follows the number of a line.
-fn put_answer(out: &mut [u8], at: usize, line: &[u8], task: Task) -> usize
-    requires { at + answer_text_limit ≤ length out.old }
-    ensures { AnswerPut (Answers task line.now) out.old at out.new result }
-{
-    match task {
-        Task::Words => put_word(out, at, line),
-        Task::Labels => put_label(out, at, line),
+// The key of the word of a line.
+pub struct WordKeys;
+
+impl Task for WordKeys {
+    ghost Answers = { WordText };
+
+    ghost kept = { λ most over line text. word_kept most over line };
+
+    fn put_answer(out: &mut [u8], at: usize, line: &[u8]) -> usize {
+        put_word(out, at, line)
+    }
+}
+
+// The skeleton of the label of a line.
+pub struct LabelSkeletons;
+
+impl Task for LabelSkeletons {
+    ghost Answers = { LabelText };
+
+    ghost kept = { λ most over line text. label_kept most over line };
+
+    fn put_answer(out: &mut [u8], at: usize, line: &[u8]) -> usize {
+        put_label(out, at, line)
     }
 }
 
 // Writes what is printed for a line of this number to the front of the output, and answers how many bytes that is.
-pub fn put_line(out: &mut [u8], number: u64, line: &[u8], task: Task) -> usize
+pub fn put_line<T: Task>(out: &mut [u8], number: u64, line: &[u8]) -> usize
     requires { printed_limit ≤ length out.old }
-    ensures { LinePut task out.old number line.now out.new result }
+    ensures { LinePut T.Answers out.old number line.now out.new result }
 {
     let numbered = put_decimal(out, 0, number);
     let spaced = put(out, numbered, b' ');
-    let answered = put_answer(out, spaced, line, task);
+    let answered = T::put_answer(out, spaced, line);
     put(out, answered, b'\n')
 }

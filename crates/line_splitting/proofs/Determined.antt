@@ -11,13 +11,14 @@ use Rattle.collation.specs.declared.key.Key.{Key}
 use Rattle.collation.proofs.Determined.{key_determined}
 use Rattle.labelling.proofs.Determined.{label_refused_alike, label_not_refused}
 use Rattle.answer_text.specs.Answer.{refused_text}
-use Rattle.printing.specs.Output.{answer_text, KeyOfLine, of_values, line_refused}
+use Rattle.printing.specs.Output.{answer_text, KeyOfLine, of_values, line_refused, WordText}
 use Rattle.label_printing.specs.Output.{WordLabelText, is_label, no_label, LabelText, of_word}
 use Rattle.label_printing.specs.Output as labels
-use Rattle.line_printing.specs.Printed.{Answers}
-use Rattle.line_printing.specs.declared.Task.{Task}
-use Rattle.line_printing.specs.declared.Task.TheVariants.{Words, Labels}
 use Rattle.line_splitting.specs.Taken.{Prints, none, more}
+
+-- a line has one answer
+abbrev pub Once : (List ℕ → List ℕ → Type 0) → Type 0
+Once Answers = (line first second : List ℕ) → Answers line first → Answers line second → first ≡ second
 
 key_once : (line : List ℕ) (a b : Key) → KeyOfLine line a → KeyOfLine line b → a ≡ b
 key_once line a b (of_values {word = v} d r) (of_values {word = w} e s) =
@@ -39,7 +40,7 @@ word_label_once word first second (no_label {number = n} {place = p} r f) (is_la
 word_label_once word first second (no_label {number = n} {place = p} r e) (no_label {number = m} {place = q} s f) =
     e ∙ refused_text_once n p m q (label_refused_alike word n p m q r s) ∙ sym f
 
-label_text_once : (line first second : List ℕ) → LabelText line first → LabelText line second → first ≡ second
+pub label_text_once : Once LabelText
 label_text_once line first second (of_word {word = v} d t) (of_word {word = w} e u) =
     word_label_once w first second (subst (λ (x : List ℕ). WordLabelText x first) (decodes_alike line v w d e) t) u
 label_text_once line first second (of_word {word = v} d t) (labels.line_refused {number = n} {place = p} l e) = absurd (decoded_not_refused line v n p d l)
@@ -47,17 +48,15 @@ label_text_once line first second (labels.line_refused {number = n} {place = p} 
 label_text_once line first second (labels.line_refused {number = n} {place = p} l e) (labels.line_refused {number = m} {place = q} k f) =
     e ∙ refused_text_once n p m q (line_refused_alike line n p m q l k) ∙ sym f
 
--- a line has one answer, whatever is asked
-pub answers_determined : (task : Task) (line first second : List ℕ) → Answers task line first → Answers task line second → first ≡ second
-answers_determined Words line first second a b =
+pub word_text_once : Once WordText
+word_text_once line first second a b =
     a.is ∙ ap (λ (key : Key). answer_text key.answer key.bytes) (key_once line a.key b.key a.right.right b.right.right) ∙ sym b.is
-answers_determined Labels line first second a b = label_text_once line first second a b
 
 -- what is printed for lines is one text
-pub prints_determined : {task : Task} {number : ℕ} {lines : List (List ℕ)} {first second : List ℕ} → Prints task number lines first → Prints task number lines second
+pub prints_determined : {Answers : List ℕ → List ℕ → Type 0} → Once Answers → {number : ℕ} {lines : List (List ℕ)} {first second : List ℕ} → Prints Answers number lines first → Prints Answers number lines second
     → first ≡ second
-prints_determined none none = refl
-prints_determined {task} {number} (more {line = line} {rest = rest} text right p) (more {rest = other} also wrong q) =
-    let one : text ≡ also = answers_determined task line text also right wrong in
-    let behind : rest ≡ other = prints_determined p q in
+prints_determined once none none = refl
+prints_determined once (more {line = line} {rest = rest} text right p) (more {rest = other} also wrong q) =
+    let one : text ≡ also = once line text also right wrong in
+    let behind : rest ≡ other = prints_determined once p q in
     rw (one, behind)

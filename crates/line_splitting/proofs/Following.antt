@@ -6,7 +6,6 @@ use Prim.Native.Nat.{ℕ, ◌+◌}
 use native.Mathlib.Omega.{arith}
 use lib.ListN.{length, length-append}
 use lib.Seq.{slice}
-use Rattle.line_printing.specs.declared.Task.{Task}
 use Rattle.line_splitting.specs.Lines.{Cut, cut_from}
 use Rattle.line_splitting.specs.Taken.{Prints, none, Taken}
 use Rattle.line_splitting.specs.Following.{ended_in, Follows, Goes, Passes}
@@ -15,8 +14,8 @@ use Rattle.line_splitting.proofs.Cutting.{joined, cut_append, cut_none}
 use Rattle.line_splitting.proofs.Taking.{prints_append}
 
 -- before the first byte
-pub follows_none : (task : Task) (pending : List ℕ) → Follows task [] pending 0 0 []
-follows_none task pending = record {
+pub follows_none : (Answers : List ℕ → List ℕ → Type 0) (pending : List ℕ) → Follows Answers [] pending 0 0 []
+follows_none Answers pending = record {
   prints = rw (cut_none []) none;
   count = rw (cut_none []) refl;
   open_line = rw (cut_none []) (record { count = refl; bytes = refl });
@@ -33,8 +32,8 @@ ended_append bytes first second =
     ∙ ap (λ (cut : Cut). ended_in bytes first ++ (cut_from cut.open_line second).ended) (sym (cut_append [] bytes first))
 
 -- the last line that ended has the number of the one before a piece and as many more as end in it
-pub follows_count : {task : Task} {bytes text pending text_after pending_after : List ℕ} {held number held_after number_after : ℕ} (piece : List ℕ)
-    → Follows task bytes pending held number text → Follows task (bytes ++ piece) pending_after held_after number_after text_after
+pub follows_count : {Answers : List ℕ → List ℕ → Type 0} {bytes text pending text_after pending_after : List ℕ} {held number held_after number_after : ℕ} (piece : List ℕ)
+    → Follows Answers bytes pending held number text → Follows Answers (bytes ++ piece) pending_after held_after number_after text_after
     → number_after ≡ number + length (ended_in bytes piece)
 follows_count {bytes = bytes} piece f g =
     g.count
@@ -43,15 +42,15 @@ follows_count {bytes = bytes} piece f g =
     ∙ ap (λ (n : ℕ). n + length (ended_in bytes piece)) (sym f.count)
 
 -- a piece whose lines were taken
-pub follows_more : {task : Task} {bytes text chunk pending out pending_after out_after : List ℕ} {progress after : Progress}
-    → Follows task bytes pending progress.held progress.number text → Taken task chunk pending out progress pending_after out_after after
-    → Goes task bytes (slice progress.at after.at chunk) text out progress pending_after out_after after
-follows_more {task} {bytes} {text} {chunk} {pending} {out} {pending_after} {out_after} {progress} {after} f taken =
+pub follows_more : {Answers : List ℕ → List ℕ → Type 0} {bytes text chunk pending out pending_after out_after : List ℕ} {progress after : Progress}
+    → Follows Answers bytes pending progress.held progress.number text → Taken Answers chunk pending out progress pending_after out_after after
+    → Goes Answers bytes (slice progress.at after.at chunk) text out progress pending_after out_after after
+follows_more {Answers} {bytes} {text} {chunk} {pending} {out} {pending_after} {out_after} {progress} {after} f taken =
     let p = taken.printed (cut_from [] bytes).open_line f.open_line in
     let e : cut_from [] (bytes ++ slice progress.at after.at chunk) ≡ joined (cut_from [] bytes) p.cut = cut_append [] bytes (slice progress.at after.at chunk) ∙ ap (joined (cut_from [] bytes)) p.follows in
     record {
       more = p.text;
-      prints = subst⁻¹ (λ (cut : Cut). Prints task (progress.number + 1) cut.ended p.text) p.follows p.prints;
+      prints = subst⁻¹ (λ (cut : Cut). Prints Answers (progress.number + 1) cut.ended p.text) p.follows p.prints;
       put = p.put;
       follows = record {
         prints = rw e (prints_append (progress.number + 1) (omega (arith, f.count)) f.prints p.prints);
@@ -60,9 +59,9 @@ follows_more {task} {bytes} {text} {chunk} {pending} {out} {pending_after} {out_
       };
     }
 
-pub taken_passes : {task : Task} {chunk pending out pending_after out_after : List ℕ} {progress after : Progress} → Taken task chunk pending out progress pending_after out_after after
-    → Passes task chunk pending out progress pending_after out_after after
-taken_passes {task} {chunk} {pending} {out} {pending_after} {out_after} {progress} {after} taken = record {
+pub taken_passes : {Answers : List ℕ → List ℕ → Type 0} {chunk pending out pending_after out_after : List ℕ} {progress after : Progress} → Taken Answers chunk pending out progress pending_after out_after after
+    → Passes Answers chunk pending out progress pending_after out_after after
+taken_passes {Answers} {chunk} {pending} {out} {pending_after} {out_after} {progress} {after} taken = record {
   further = taken.further;
   within = taken.within;
   fits = taken.fits;

@@ -10,18 +10,16 @@ use lib.ListN.{length, take, drop, length-append, length-take, length-drop, take
 use lib.Seq.{sets-eq, slice, slice_empty, take_all, take-take, take-add, length-take-le, drop_at, drop-drop, drop-append-le, drop-length}
 use borrow.Rule.Slice.PartMut.{mid_of, put_mid, Post-is}
 use Rattle.memory.specs.Put.{Put, Written}
-use Rattle.line_printing.specs.Printed.{Answers, LinePut, printed, printed_limit}
-use Rattle.line_printing.specs.declared.Task.{Task}
+use Rattle.line_printing.specs.Printed.{Keeps, LinePut, printed, printed_limit}
 use Rattle.line_splitting.specs.Taken.{held_limit, Held, Holds, EndFound, Prints, none, more, Ready, Printed, Taken}
 use Rattle.line_splitting.specs.declared.Progress.{Progress}
 use Rattle.memory.proofs.Putting.{put_nothing, put_after}
 use Rattle.line_splitting.proofs.Cutting.{joined, cut_append, still, cut_none, plain_ends}
-use Rattle.line_printing.proofs.Kept.{line_kept}
 
-pub prints_append : {task : Task} {number : ℕ} {lines further : List (List ℕ)} {text rest : List ℕ} (next : ℕ) → next ≡ number + length lines
-    → Prints task number lines text → Prints task next further rest → Prints task number (lines ++ further) (text ++ rest)
-prints_append {task} {number} {lines} {further} {text} {rest} next e none q = subst (λ (n : ℕ). Prints task n further rest) (e ∙ add-zero number) q
-prints_append {task} {number} {lines} {further} {text} {rest} next e (more one right p) q =
+pub prints_append : {Answers : List ℕ → List ℕ → Type 0} {number : ℕ} {lines further : List (List ℕ)} {text rest : List ℕ} (next : ℕ) → next ≡ number + length lines
+    → Prints Answers number lines text → Prints Answers next further rest → Prints Answers number (lines ++ further) (text ++ rest)
+prints_append {Answers} {number} {lines} {further} {text} {rest} next e none q = subst (λ (n : ℕ). Prints Answers n further rest) (e ∙ add-zero number) q
+prints_append {Answers} {number} {lines} {further} {text} {rest} next e (more one right p) q =
     rw append_assoc (more one right (prints_append next (omega arith) p q))
 
 pub slice_join : (l : List ℕ) (a b c : ℕ) → a ≤ b → b ≤ c → c ≤ length l → slice a c l ≡ slice a b l ++ slice b c l
@@ -60,17 +58,17 @@ module _ (out : List ℕ) (used : ℕ) (text after : List ℕ) (count : ℕ) (h 
       }
 
 -- one line, of which the first bytes were answered
-pub prints_one : (task : Task) (number : ℕ) (line pending : List ℕ) (held : ℕ) (text : List ℕ) → Held pending held line → Answers task (take held pending) text
-    → Prints task number (line ∷ []) (printed number text)
-prints_one task number line pending held text h right =
-    subst (Prints task number (line ∷ [])) (append-nil (printed number text))
-    (more text (line_kept task held_limit (omega arith) line text (rw h.bytes at right)) none)
+pub prints_one : (Answers : List ℕ → List ℕ → Type 0) → Keeps Answers → (number : ℕ) (line pending : List ℕ) (held : ℕ) (text : List ℕ) → Held pending held line → Answers (take held pending) text
+    → Prints Answers number (line ∷ []) (printed number text)
+prints_one Answers kept number line pending held text h right =
+    subst (Prints Answers number (line ∷ [])) (append-nil (printed number text))
+    (more text (kept held_limit (omega arith) line text (rw h.bytes at right)) none)
 
 -- lines between two places, and lines from there on
-pub printed_more : {task : Task} {line chunk out pending_after out_after pending_last out_last : List ℕ} {start middle last : Progress}
-    → start.at ≤ middle.at → middle.at ≤ last.at → last.at ≤ length chunk → (p : Printed task line chunk out start pending_after out_after middle)
-    → Printed task p.cut.open_line chunk out_after middle pending_last out_last last → Printed task line chunk out start pending_last out_last last
-printed_more {task} {line} {chunk} {out} {pending_after} {out_after} {pending_last} {out_last} {start} {middle} {last} h k w p q = record {
+pub printed_more : {Answers : List ℕ → List ℕ → Type 0} {line chunk out pending_after out_after pending_last out_last : List ℕ} {start middle last : Progress}
+    → start.at ≤ middle.at → middle.at ≤ last.at → last.at ≤ length chunk → (p : Printed Answers line chunk out start pending_after out_after middle)
+    → Printed Answers p.cut.open_line chunk out_after middle pending_last out_last last → Printed Answers line chunk out start pending_last out_last last
+printed_more {Answers} {line} {chunk} {out} {pending_after} {out_after} {pending_last} {out_last} {start} {middle} {last} h k w p q = record {
   text = p.text ++ q.text;
   cut = joined p.cut q.cut;
   follows =
@@ -82,10 +80,10 @@ printed_more {task} {line} {chunk} {out} {pending_after} {out_after} {pending_la
 }
 
 -- a chunk that ends within a line: all of it is held
-pub taken_open : (task : Task) (chunk pending out : List ℕ) (progress : Progress) (pending_after : List ℕ) (end held : ℕ) → Ready chunk pending out progress
+pub taken_open : (Answers : List ℕ → List ℕ → Type 0) (chunk pending out : List ℕ) (progress : Progress) (pending_after : List ℕ) (end held : ℕ) → Ready chunk pending out progress
     → EndFound chunk progress.at end → Holds pending progress.held (mid_of progress.at (end - progress.at) chunk) pending_after held → end ≡ length chunk
-    → Taken task chunk pending out progress pending_after out (record { at = end; held = held; number = progress.number; used = progress.used })
-taken_open task chunk pending out progress pending_after end held ready found holds whole = record {
+    → Taken Answers chunk pending out progress pending_after out (record { at = end; held = held; number = progress.number; used = progress.used })
+taken_open Answers chunk pending out progress pending_after end held ready found holds whole = record {
   forward = found.forward;
   further = λ h. omega arith;
   within = found.within;
@@ -104,13 +102,13 @@ taken_open task chunk pending out progress pending_after end held ready found ho
 }
 
 -- a line that ends in the chunk: it is printed, and the next one is open
-pub taken_ended : (task : Task) (chunk pending out : List ℕ) (progress : Progress) (pending_after rest : List ℕ) (end held count : ℕ) → Ready chunk pending out progress
+pub taken_ended : (Answers : List ℕ → List ℕ → Type 0) → Keeps Answers → (chunk pending out : List ℕ) (progress : Progress) (pending_after rest : List ℕ) (end held count : ℕ) → Ready chunk pending out progress
     → EndFound chunk progress.at end → Holds pending progress.held (mid_of progress.at (end - progress.at) chunk) pending_after held → end < length chunk
     → length rest ≡ length (mid_of progress.used (length out - progress.used) out)
-    → LinePut task (mid_of progress.used (length out - progress.used) out) (progress.number + 1) (take held pending_after) rest count
-    → Taken task chunk pending out progress pending_after (put_mid progress.used (length out - progress.used) out rest)
+    → LinePut Answers (mid_of progress.used (length out - progress.used) out) (progress.number + 1) (take held pending_after) rest count
+    → Taken Answers chunk pending out progress pending_after (put_mid progress.used (length out - progress.used) out rest)
     (record { at = end + 1; held = 0; number = progress.number + 1; used = progress.used + count })
-taken_ended task chunk pending out progress pending_after rest end held count ready found holds inside same line_put = record {
+taken_ended Answers kept chunk pending out progress pending_after rest end held count ready found holds inside same line_put = record {
   forward = omega (arith, found.forward);
   further = λ h. omega (arith, found.forward);
   within = omega arith;
@@ -122,7 +120,7 @@ taken_ended task chunk pending out progress pending_after rest end held count re
     cut = record { ended = (line ++ slice progress.at end chunk) ∷ []; open_line = [] };
     follows = plain_ends chunk progress.at end found.forward inside found.none (found.there inside) line;
     prints =
-        prints_one task (progress.number + 1) (line ++ slice progress.at end chunk) pending_after held line_put.text
+        prints_one Answers kept (progress.number + 1) (line ++ slice progress.at end chunk) pending_after held line_put.text
         (rw (part_slice chunk progress.at end found.forward found.within) at (holds.held line l)) line_put.right;
     put = part_put out progress.used _ rest count (omega (arith, ready.room)) same line_put.written;
     number = omega arith;
@@ -131,7 +129,7 @@ taken_ended task chunk pending out progress pending_after rest end held count re
 }
 
 -- how far the loop over a chunk is
-pub record Along (task : Task) (chunk : List ℕ) (pending : List ℕ) (out : List ℕ) (start : Progress) (pending_after : List ℕ) (out_after : List ℕ) (reached : Progress) : Type 0 where
+pub record Along (Answers : List ℕ → List ℕ → Type 0) (chunk : List ℕ) (pending : List ℕ) (out : List ℕ) (start : Progress) (pending_after : List ℕ) (out_after : List ℕ) (reached : Progress) : Type 0 where
   pub forward : start.at ≤ reached.at
   pub within : reached.at ≤ length chunk
   pub fits : reached.held ≤ held_limit
@@ -140,10 +138,10 @@ pub record Along (task : Task) (chunk : List ℕ) (pending : List ℕ) (out : Li
   pub moved : reached.at ≡ start.at → reached.used ≡ start.used
   pub same_pending : length pending_after ≡ length pending
   pub same_out : length out_after ≡ length out
-  pub along : (line : List ℕ) → Held pending start.held line → Printed task line chunk out start pending_after out_after reached
+  pub along : (line : List ℕ) → Held pending start.held line → Printed Answers line chunk out start pending_after out_after reached
 
-pub along_none : (task : Task) (chunk pending out : List ℕ) (start : Progress) → Ready chunk pending out start → Along task chunk pending out start pending out start
-along_none task chunk pending out start ready = record {
+pub along_none : (Answers : List ℕ → List ℕ → Type 0) (chunk pending out : List ℕ) (start : Progress) → Ready chunk pending out start → Along Answers chunk pending out start pending out start
+along_none Answers chunk pending out start ready = record {
   forward = omega arith;
   within = ready.place;
   fits = ready.held;
@@ -163,7 +161,7 @@ along_none task chunk pending out start ready = record {
   };
 }
 
-module _ {task : Task} {chunk pending out pending_after out_after : List ℕ} {start reached : Progress} (ready : Ready chunk pending out start) (a : Along task chunk pending out start pending_after out_after reached) where
+module _ {Answers : List ℕ → List ℕ → Type 0} {chunk pending out pending_after out_after : List ℕ} {start reached : Progress} (ready : Ready chunk pending out start) (a : Along Answers chunk pending out start pending_after out_after reached) where
   pub along_ready : reached.used + printed_limit ≤ length out_after → Ready chunk pending_after out_after reached
   along_ready room = record {
     place = a.within;
@@ -173,8 +171,8 @@ module _ {task : Task} {chunk pending out pending_after out_after : List ℕ} {s
     numbers = omega (arith, ready.numbers, a.fewer, a.forward);
   }
 
-  pub along_more : {pending_last out_last : List ℕ} {last : Progress} → reached.at < length chunk → Taken task chunk pending_after out_after reached pending_last out_last last
-      → length pending_last ≡ length pending_after → length out_last ≡ length out_after → Along task chunk pending out start pending_last out_last last
+  pub along_more : {pending_last out_last : List ℕ} {last : Progress} → reached.at < length chunk → Taken Answers chunk pending_after out_after reached pending_last out_last last
+      → length pending_last ≡ length pending_after → length out_last ≡ length out_after → Along Answers chunk pending out start pending_last out_last last
   along_more {pending_last} {out_last} {last} inside taken same_pending same_out =
       let further : reached.at < last.at = taken.further inside in
       record {
@@ -191,7 +189,7 @@ module _ {task : Task} {chunk pending out pending_after out_after : List ℕ} {s
             printed_more a.forward taken.forward taken.within before (taken.printed before.cut.open_line before.held);
       }
 
-  pub along_taken : (reached.at < length chunk → length out_after < reached.used + printed_limit) → Taken task chunk pending out start pending_after out_after reached
+  pub along_taken : (reached.at < length chunk → length out_after < reached.used + printed_limit) → Taken Answers chunk pending out start pending_after out_after reached
   along_taken full = record {
     forward = a.forward;
     further = λ h. go (dec_lt start.at reached.at) h;

@@ -7,7 +7,6 @@ use lib.ListN.{take}
 use Rattle.letters.specs.Choice.{pick}
 use Rattle.key_text.specs.Text.{digit_of, decimal_of}
 use Rattle.line_printing.specs.Printed.{printed}
-use Rattle.line_printing.specs.declared.Task.{Task}
 use Rattle.line_splitting.specs.Lines.{cut_from, lines_of}
 use Rattle.line_splitting.specs.Taken.{Prints, more}
 use Rattle.line_splitting.specs.Following.{Follows}
@@ -30,9 +29,9 @@ unfolding inputs cut_from pick
 inputs_cut = refl
 
 -- "line number from 1": what is printed for a first line, here an empty one, begins with "1 "
-pub first_numbered : (task : Task) (pending text : List ℕ) (held number : ℕ) → Follows task (0x0A ∷ []) pending held number text → take 2 text ≡ 0x31 ∷ 0x20 ∷ []
+pub first_numbered : (Answers : List ℕ → List ℕ → Type 0) (pending text : List ℕ) (held number : ℕ) → Follows Answers (0x0A ∷ []) pending held number text → take 2 text ≡ 0x31 ∷ 0x20 ∷ []
 unfolding cut_from pick printed decimal_of digit_of
-first_numbered task pending text held number f = go f.prints
+first_numbered Answers pending text held number f = go f.prints
   where
-    go : {printed_text : List ℕ} → Prints task 1 ([] ∷ []) printed_text → take 2 printed_text ≡ 0x31 ∷ 0x20 ∷ []
+    go : {printed_text : List ℕ} → Prints Answers 1 ([] ∷ []) printed_text → take 2 printed_text ≡ 0x31 ∷ 0x20 ∷ []
     go (more answer right rest) = refl

@@ -4,8 +4,7 @@ use Rattle.std.specs.Prelude.{◌≡◌, List, [], ◌∷◌, ◌++◌, ℕ, suc
 use Rattle.std.proofs.Math.Seq.{slice}
 use Rattle.formula.specs.Limits.{line_limit}
 use Rattle.memory.specs.Put.{Put}
-use Rattle.line_printing.specs.Printed.{Answers, printed, printed_limit}
-use Rattle.line_printing.specs.declared.Task.{Task}
+use Rattle.line_printing.specs.Printed.{printed, printed_limit}
 use Rattle.line_splitting.specs.Lines.{Cut, cut_from}
 use Rattle.line_splitting.specs.declared.Progress.{Progress}
 
@@ -31,10 +30,10 @@ pub record EndFound (chunk : List ℕ) (from : ℕ) (end : ℕ) : Type 0 where
   pub there : end < length chunk → get_or chunk end 0 ≡ 0x0A
 
 -- what is printed for lines, one after the other, where the first has this number
-pub data Prints (task : Task) : ℕ → List (List ℕ) → List ℕ → Type 0 where
-  none : {number : ℕ} → Prints task number [] []
-  more : {number : ℕ} {line : List ℕ} {lines : List (List ℕ)} {rest : List ℕ} (text : List ℕ) → Answers task line text
-      → Prints task (number + 1) lines rest → Prints task number (line ∷ lines) (printed number text ++ rest)
+pub data Prints (Answers : List ℕ → List ℕ → Type 0) : ℕ → List (List ℕ) → List ℕ → Type 0 where
+  none : {number : ℕ} → Prints Answers number [] []
+  more : {number : ℕ} {line : List ℕ} {lines : List (List ℕ)} {rest : List ℕ} (text : List ℕ) → Answers line text
+      → Prints Answers (number + 1) lines rest → Prints Answers number (line ∷ lines) (printed number text ++ rest)
 
 -- what a run needs before it takes a line: the bytes that are held fit, the output has room for a line, and the line numbers do not run out
 pub record Ready (chunk : List ℕ) (pending : List ℕ) (out : List ℕ) (progress : Progress) : Type 0 where
@@ -45,21 +44,21 @@ pub record Ready (chunk : List ℕ) (pending : List ℕ) (out : List ℕ) (progr
   pub numbers : progress.number + length chunk < 2 ^ 64 + progress.at
 
 -- the lines that ended between two places of a chunk are printed, and what is held is that of the line that is open then
-pub record Printed (task : Task) (line : List ℕ) (chunk : List ℕ) (out : List ℕ) (progress : Progress) (pending_after : List ℕ) (out_after : List ℕ) (progress_after : Progress) : Type 0 where
+pub record Printed (Answers : List ℕ → List ℕ → Type 0) (line : List ℕ) (chunk : List ℕ) (out : List ℕ) (progress : Progress) (pending_after : List ℕ) (out_after : List ℕ) (progress_after : Progress) : Type 0 where
   pub text : List ℕ
   pub cut : Cut
   pub follows : cut_from line (slice progress.at progress_after.at chunk) ≡ cut
-  pub prints : Prints task (progress.number + 1) cut.ended text
+  pub prints : Prints Answers (progress.number + 1) cut.ended text
   pub put : Put out progress.used text out_after progress_after.used
   pub number : progress_after.number ≡ progress.number + length cut.ended
   pub held : Held pending_after progress_after.held cut.open_line
 
 -- the promise of taking lines, whatever line is open
-pub record Taken (task : Task) (chunk : List ℕ) (pending : List ℕ) (out : List ℕ) (progress : Progress) (pending_after : List ℕ) (out_after : List ℕ) (progress_after : Progress) : Type 0 where
+pub record Taken (Answers : List ℕ → List ℕ → Type 0) (chunk : List ℕ) (pending : List ℕ) (out : List ℕ) (progress : Progress) (pending_after : List ℕ) (out_after : List ℕ) (progress_after : Progress) : Type 0 where
   pub forward : progress.at ≤ progress_after.at
   pub further : progress.at < length chunk → progress.at < progress_after.at
   pub within : progress_after.at ≤ length chunk
   pub fits : progress_after.held ≤ held_limit
   pub room : progress_after.used ≤ length out
   pub fewer : progress_after.number + progress.at ≤ progress.number + progress_after.at
-  pub printed : (line : List ℕ) → Held pending progress.held line → Printed task line chunk out progress pending_after out_after progress_after
+  pub printed : (line : List ℕ) → Held pending progress.held line → Printed Answers line chunk out progress pending_after out_after progress_after

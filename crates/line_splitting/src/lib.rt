@@ -50,15 +50,14 @@ fn hold(pending: &mut [u8], held: usize, part: &[u8]) -> usize
 }
 
 // Takes the open line to its end or to the chunk's, and prints it where it ended.
-fn take_line(
+fn take_line<T: Task>(
     chunk: &[u8],
     pending: &mut [u8],
     out: &mut [u8],
     progress: Progress,
-    task: Task,
 ) -> Progress
     requires { Ready chunk.now pending.old out.old progress }
-    ensures { Taken task chunk.now pending.old out.old progress pending.new out.new result }
+    ensures { Taken T.Answers chunk.now pending.old out.old progress pending.new out.new result }
 {
     let at = progress.at;
     let number = progress.number;
@@ -73,7 +72,7 @@ fn take_line(
             used,
         };
     }
-    let printed = put_line(&mut out[used..], number + 1, &pending[..held], task);
+    let printed = put_line::<T>(&mut out[used..], number + 1, &pending[..held]);
     Progress {
         at: end + 1,
         held: 0,
@@ -83,19 +82,18 @@ fn take_line(
 }
 
 // Takes lines from a place of the chunk until the chunk is used up or the output has no room for one more.
-pub fn pass_chunk(
+pub fn pass_chunk<T: Task>(
     chunk: &[u8],
     pending: &mut [u8],
     out: &mut [u8],
     progress: Progress,
-    task: Task,
 ) -> Progress
     requires { Ready chunk.now pending.old out.old progress }
-    ensures { Passes task chunk.now pending.old out.old progress pending.new out.new result }
+    ensures { Passes T.Answers chunk.now pending.old out.old progress pending.new out.new result }
 {
     let mut reached = progress;
     while reached.at < chunk.len() && reached.used + PRINTED_LIMIT <= out.len() {
-        reached = take_line(chunk, pending, out, reached, task);
+        reached = take_line::<T>(chunk, pending, out, reached);
     }
     reached
 }

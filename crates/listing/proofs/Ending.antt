@@ -9,8 +9,7 @@ use lib.ListN.{length, take, drop, length-append}
 use lib.Seq.{sets-eq}
 use Rattle.memory.specs.Put.{Put, Written}
 use Rattle.memory.proofs.Putting.{put_nothing}
-use Rattle.line_printing.specs.Printed.{LinePut, printed}
-use Rattle.line_printing.specs.declared.Task.{Task}
+use Rattle.line_printing.specs.Printed.{Keeps, LinePut, printed}
 use Rattle.line_splitting.specs.Lines.{cut_from, last_line}
 use Rattle.line_splitting.specs.Taken.{Held, none}
 use Rattle.line_splitting.specs.Following.{Follows}
@@ -41,20 +40,20 @@ written_put {before} {text} {after} {used} same w =
       next = front;
     }
 
-module _ {task : Task} {bytes text pending : List ℕ} {held number : ℕ} (f : Follows task bytes pending held number text) (out : List ℕ) where
-  pub comes_none : held ≡ 0 → Comes task bytes text out 0 out 0
+module _ {Answers : List ℕ → List ℕ → Type 0} {bytes text pending : List ℕ} {held number : ℕ} (f : Follows Answers bytes pending held number text) (out : List ℕ) where
+  pub comes_none : held ≡ 0 → Comes Answers bytes text out 0 out 0
   comes_none empty = record {
     last = [];
     put = put_nothing out 0;
     prints = prints_append (number + 1) (omega (arith, f.count)) f.prints (rw (last_none pending (cut_from [] bytes).open_line (rw empty at f.open_line)) none);
   }
 
-  pub comes_line : {out_after : List ℕ} {ready : ℕ} → (held ≡ 0 → ⊥) → length out_after ≡ length out
-      → LinePut task out (number + 1) (take held pending) out_after ready → Comes task bytes text out 0 out_after ready
-  comes_line {out_after} {ready} nonzero same line_put = record {
+  pub comes_line : Keeps Answers → {out_after : List ℕ} {ready : ℕ} → (held ≡ 0 → ⊥) → length out_after ≡ length out
+      → LinePut Answers out (number + 1) (take held pending) out_after ready → Comes Answers bytes text out 0 out_after ready
+  comes_line kept {out_after} {ready} nonzero same line_put = record {
     last = printed (number + 1) line_put.text;
     put = written_put same line_put.written;
     prints =
         prints_append (number + 1) (omega (arith, f.count)) f.prints
-        (rw (last_one pending (cut_from [] bytes).open_line held nonzero f.open_line) (prints_one task (number + 1) (cut_from [] bytes).open_line pending held line_put.text f.open_line line_put.right));
+        (rw (last_one pending (cut_from [] bytes).open_line held nonzero f.open_line) (prints_one Answers kept (number + 1) (cut_from [] bytes).open_line pending held line_put.text f.open_line line_put.right));
   }

@@ -7,7 +7,6 @@ use native.Mathlib.Nat.{suc-mul, mul-le-mul_right}
 use native.Mathlib.Omega.{arith}
 use lib.ListN.{length, take, drop, take-append-drop, length-append}
 use lib.Seq.{slice, take_all, take-take, length-take-le}
-use Rattle.line_printing.specs.declared.Task.{Task}
 use Rattle.line_splitting.specs.Taken.{held_limit, none, Ready}
 use Rattle.line_splitting.specs.Following.{Follows, Passes}
 use Rattle.line_splitting.specs.declared.Progress.{Progress}
@@ -24,9 +23,9 @@ opening current = record { at = 0; held = current.held; number = current.number;
 abbrev pub open_at : Progress → OpenLine
 open_at reached = record { held = reached.held; number = reached.number }
 
-answered_none : {task : Task} {bytes text pending : List ℕ} {current : OpenLine} → Follows task bytes pending current.held current.number text
-    → Answered task bytes [] text current pending current 0
-answered_none {task} {bytes} {text} f = record {
+answered_none : {Answers : List ℕ → List ℕ → Type 0} {bytes text pending : List ℕ} {current : OpenLine} → Follows Answers bytes pending current.held current.number text
+    → Answered Answers bytes [] text current pending current 0
+answered_none {Answers} {bytes} {text} f = record {
   ended = record { text = []; prints = rw (ended_none bytes) none; count = refl };
   follows = rw (append-nil bytes, append-nil text) f;
 }
@@ -35,11 +34,11 @@ take_further : (l : List ℕ) (from to : ℕ) → from ≤ to → take from l ++
 take_further l from to h = ap (λ (m : List ℕ). m ++ drop from (take to l)) (sym (take-take from to l h)) ∙ take-append-drop from (take to l)
 
 -- one more part of a chunk, from an empty output on: what is ready then is printed for the lines that end in it
-answered_more : {task : Task} {bytes text chunk pending pending_now out Pending_next out_next : List ℕ} {current : OpenLine} {reached next : Progress} {taken : ℕ} (size : ℕ)
-    → reached.at ≤ next.at → reached.used ≡ 0 → size ≡ taken + next.used → Follows task bytes pending current.held current.number text
-    → Answered task bytes (take reached.at chunk) text current pending_now (open_at reached) taken
-    → Passes task chunk pending_now out reached Pending_next out_next next
-    → Answered task bytes (take next.at chunk) text current Pending_next (open_at next) size
+answered_more : {Answers : List ℕ → List ℕ → Type 0} {bytes text chunk pending pending_now out Pending_next out_next : List ℕ} {current : OpenLine} {reached next : Progress} {taken : ℕ} (size : ℕ)
+    → reached.at ≤ next.at → reached.used ≡ 0 → size ≡ taken + next.used → Follows Answers bytes pending current.held current.number text
+    → Answered Answers bytes (take reached.at chunk) text current pending_now (open_at reached) taken
+    → Passes Answers chunk pending_now out reached Pending_next out_next next
+    → Answered Answers bytes (take next.at chunk) text current Pending_next (open_at next) size
 answered_more {bytes = bytes} {text} {chunk} {reached = reached} {next} size h empty total f a passes =
     let goes = passes.goes _ _ a.follows in
     let piece = slice reached.at next.at chunk in
@@ -62,7 +61,7 @@ counted_more at next taken used size h k l =
     omega (arith, suc-mul at size)
 
 -- how far a chunk is, and how many bytes the writes took: no more than the output holds, for each byte that was passed
-pub record Passing (task : Task) (chunk : List ℕ) (pending : List ℕ) (out : List ℕ) (start : Progress) (pending_now : List ℕ) (out_now : List ℕ) (reached : Progress) (taken : ℕ) : Type 0 where
+pub record Passing (Answers : List ℕ → List ℕ → Type 0) (chunk : List ℕ) (pending : List ℕ) (out : List ℕ) (start : Progress) (pending_now : List ℕ) (out_now : List ℕ) (reached : Progress) (taken : ℕ) : Type 0 where
   pub within : reached.at ≤ length chunk
   pub held : reached.held ≤ held_limit
   pub empty : reached.used ≡ 0
@@ -70,12 +69,12 @@ pub record Passing (task : Task) (chunk : List ℕ) (pending : List ℕ) (out : 
   pub counted : taken ≤ reached.at * length out
   pub same_pending : length pending_now ≡ length pending
   pub same_out : length out_now ≡ length out
-  pub answered : (bytes text : List ℕ) → Follows task bytes pending start.held start.number text
-      → Answered task bytes (take reached.at chunk) text (open_at start) pending_now (open_at reached) taken
+  pub answered : (bytes text : List ℕ) → Follows Answers bytes pending start.held start.number text
+      → Answered Answers bytes (take reached.at chunk) text (open_at start) pending_now (open_at reached) taken
 
-pub passing_none : {task : Task} {chunk pending out : List ℕ} {current : OpenLine} → ChunkReady chunk pending out current
-    → Passing task chunk pending out (opening current) pending out (opening current) 0
-passing_none {task} {chunk} {pending} {out} {current} ready = record {
+pub passing_none : {Answers : List ℕ → List ℕ → Type 0} {chunk pending out : List ℕ} {current : OpenLine} → ChunkReady chunk pending out current
+    → Passing Answers chunk pending out (opening current) pending out (opening current) 0
+passing_none {Answers} {chunk} {pending} {out} {current} ready = record {
   within = omega arith;
   held = ready.held;
   empty = refl;
@@ -86,8 +85,8 @@ passing_none {task} {chunk} {pending} {out} {current} ready = record {
   answered = λ bytes text f. answered_none f;
 }
 
-module _ {task : Task} {chunk pending out pending_now out_now : List ℕ} {current : OpenLine} {reached : Progress} {taken : ℕ}
-    (ready : ChunkReady chunk pending out current) (p : Passing task chunk pending out (opening current) pending_now out_now reached taken) where
+module _ {Answers : List ℕ → List ℕ → Type 0} {chunk pending out pending_now out_now : List ℕ} {current : OpenLine} {reached : Progress} {taken : ℕ}
+    (ready : ChunkReady chunk pending out current) (p : Passing Answers chunk pending out (opening current) pending_now out_now reached taken) where
   pub passing_ready : Ready chunk pending_now out_now reached
   passing_ready = record {
     place = p.within;
@@ -98,7 +97,7 @@ module _ {task : Task} {chunk pending out pending_now out_now : List ℕ} {curre
   }
 
   -- lines are passed, and some of what is ready is written
-  module _ {Pending_next out_next : List ℕ} {next : Progress} (passes : Passes task chunk pending_now out_now reached Pending_next out_next next)
+  module _ {Pending_next out_next : List ℕ} {next : Progress} (passes : Passes Answers chunk pending_now out_now reached Pending_next out_next next)
       (inside : reached.at < length chunk) (written : ℕ) where
     passing_counted : written ≤ next.used → taken + written ≤ next.at * length out
     passing_counted some =
@@ -109,15 +108,15 @@ module _ {task : Task} {chunk pending out pending_now out_now : List ℕ} {curre
         let most : next.at * length out ≤ length chunk * length out = mul-le-mul_right (length out) passes.within in
         omega (arith, passing_counted some, ready.countable)
 
-    passing_answered : (size : ℕ) → size ≡ taken + next.used → (bytes text : List ℕ) → Follows task bytes pending current.held current.number text
-        → Answered task bytes (take next.at chunk) text current Pending_next (open_at next) size
+    passing_answered : (size : ℕ) → size ≡ taken + next.used → (bytes text : List ℕ) → Follows Answers bytes pending current.held current.number text
+        → Answered Answers bytes (take next.at chunk) text current Pending_next (open_at next) size
     passing_answered size total bytes text f =
         let further : reached.at < next.at = passes.further inside in
         answered_more size (omega arith) p.empty total f (p.answered bytes text f) passes
 
     -- all of it
     pub passing_more : (used : ℕ) → written ≡ next.used → length Pending_next ≡ length pending_now → length out_next ≡ length out_now → used ≡ 0
-        → Passing task chunk pending out (opening current) Pending_next out_next (record { at = next.at; held = next.held; number = next.number; used = used })
+        → Passing Answers chunk pending out (opening current) Pending_next out_next (record { at = next.at; held = next.held; number = next.number; used = used })
         (taken + written)
     passing_more used all same_pending same_out empty =
         let further : reached.at < next.at = passes.further inside in
@@ -133,7 +132,7 @@ module _ {task : Task} {chunk pending out pending_now out_now : List ℕ} {curre
         }
 
     -- all but so many bytes
-    pub passing_short : (missing : ℕ) → 0 < missing → written + missing ≡ next.used → Short task chunk pending current (taken + written) missing
+    pub passing_short : (missing : ℕ) → 0 < missing → written + missing ≡ next.used → Short Answers chunk pending current (taken + written) missing
     passing_short missing some parts = record {
       place = next.at;
       within = passes.within;
@@ -141,7 +140,7 @@ module _ {task : Task} {chunk pending out pending_now out_now : List ℕ} {curre
       answered = λ bytes text f. (passing_answered (taken + written + missing) (omega arith) bytes text f).ended;
     }
 
-  pub passing_whole : length chunk ≤ reached.at → Onward task chunk pending current pending_now (open_at reached) taken
+  pub passing_whole : length chunk ≤ reached.at → Onward Answers chunk pending current pending_now (open_at reached) taken
   passing_whole over = record {
     held = p.held;
     numbers = omega (arith, p.fewer, p.within);
@@ -153,7 +152,7 @@ abbrev buffer_size : ℕ
 buffer_size = 65536
 
 -- between two reads: each of the calls that are left brings no more lines than a chunk has bytes, and what was printed follows the bytes so far
-pub record Going (task : Task) (chunk : List ℕ) (pending : List ℕ) (out : List ℕ) (current : OpenLine) (calls : ℕ) : Type 0 where
+pub record Going (Answers : List ℕ → List ℕ → Type 0) (chunk : List ℕ) (pending : List ℕ) (out : List ℕ) (current : OpenLine) (calls : ℕ) : Type 0 where
   pub chunk_size : buffer_size ≡ length chunk
   pub pending_size : held_limit ≡ length pending
   pub out_size : buffer_size ≡ length out
@@ -161,9 +160,9 @@ pub record Going (task : Task) (chunk : List ℕ) (pending : List ℕ) (out : Li
   pub numbers : current.number + buffer_size * calls < 2 ^ 63
   pub bytes : List ℕ
   pub text : List ℕ
-  pub follows : Follows task bytes pending current.held current.number text
+  pub follows : Follows Answers bytes pending current.held current.number text
 
-module _ {task : Task} {chunk pending out : List ℕ} {current : OpenLine} {calls : ℕ} (going : Going task chunk pending out current calls) where
+module _ {Answers : List ℕ → List ℕ → Type 0} {chunk pending out : List ℕ} {current : OpenLine} {calls : ℕ} (going : Going Answers chunk pending out current calls) where
   pub going_end : EndReady pending out current
   going_end = record {
     fits = omega (arith, going.held, going.pending_size);
@@ -181,8 +180,8 @@ module _ {task : Task} {chunk pending out : List ℕ} {current : OpenLine} {call
       countable = rw (← going.out_size) (omega (arith, length-take-le count chunk_next within, going.chunk_size));
     }
 
-    pub going_on : {Pending_next out_next : List ℕ} {next : OpenLine} {taken : ℕ} → 0 < calls → Onward task (take count chunk_next) pending current Pending_next next taken
-        → length Pending_next ≡ length pending → length out_next ≡ length out → Going task chunk_next Pending_next out_next next (calls - 1)
+    pub going_on : {Pending_next out_next : List ℕ} {next : OpenLine} {taken : ℕ} → 0 < calls → Onward Answers (take count chunk_next) pending current Pending_next next taken
+        → length Pending_next ≡ length pending → length out_next ≡ length out → Going Answers chunk_next Pending_next out_next next (calls - 1)
     going_on {Pending_next} {out_next} {next} {taken} left onward same_pending same_out =
         let answered = onward.answered going.bytes going.text going.follows in
         record {

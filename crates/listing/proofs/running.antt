@@ -1,3 +1,3 @@
 -- The laws of the module `running` that name its private types.
 -- Assumes nothing.
-mod Transfers
+mod Reading

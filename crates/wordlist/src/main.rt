@@ -1,8 +1,8 @@
 // Reads words from standard input, a line each, and prints for each its number with the key of the word, or why it is refused.
 #![tactic(auto)]
 
-use line_printing::Task;
+use line_printing::WordKeys;
 
 fn main(rt: HostRuntime) {
-    listing::running::run(&rt, Task::Words);
+    listing::running::run::<WordKeys>(&rt);
 }

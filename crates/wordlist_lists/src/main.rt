@@ -1,8 +1,8 @@
 // The program over word lists made by another implementation, which also made what it must print.
 #![tactic(auto)]
 
-use line_printing::Task;
+use line_printing::WordKeys;
 
 fn main(rt: HostRuntime) {
-    listing::running::run(&rt, Task::Words);
+    listing::running::run::<WordKeys>(&rt);
 }

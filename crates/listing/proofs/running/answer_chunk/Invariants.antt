@@ -4,7 +4,7 @@ use Rattle.listing.proofs.Passing.{Passing}
 use Rattle.listing.proofs.running.answer_chunk.Given as goal
 
 abbrev pub invariant-loop-reached : goal.invariant-loop-reached
-invariant-loop-reached l = Passing l.task l.chunk l.initial.pending l.initial.out l.initial.reached l.pending l.out l.reached l.taken
+invariant-loop-reached g l = Passing g.T.Task.Answers l.chunk l.initial.pending l.initial.out l.initial.reached l.pending l.out l.reached l.taken
 
 abbrev pub decreases-loop-reached : goal.decreases-loop-reached
-decreases-loop-reached l = length l.chunk - l.reached.at
+decreases-loop-reached g l = length l.chunk - l.reached.at

@@ -1,9 +1,6 @@
-use Prim.Native.Nat.{◌≤◌}
-use lib.ListN.{length}
+use Rattle.std.proofs.Common.{◌≤◌, length}
 use Rattle.listing.proofs.running.write_whole.Given as goal
 
-abbrev pub invariant-loop-done : goal.invariant-loop-done
-invariant-loop-done l = l.done ≤ length l.bytes
-
-abbrev pub decreases-loop-done : goal.decreases-loop-done
-decreases-loop-done l = l.calls
+-- no more bytes are taken than there are
+abbrev pub invariant-loop : goal.invariant-loop
+invariant-loop l = l.done ≤ length l.bytes
