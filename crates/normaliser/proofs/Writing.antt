@@ -1,11 +1,10 @@
 -- A word that passes the tests stands for its stored form, and what is held of that is put out.
 -- Assumes nothing.
 use mathlib.Core.Path.{◌≡◌, refl, sym, ◌∙◌}
-use mathlib.Core.List.{List, [], ◌∷◌}
-use Prim.Native.Nat.{ℕ, zero, suc, ◌<◌, ◌≤◌}
+use mathlib.Core.List.{List}
+use Prim.Native.Nat.{ℕ, ◌<◌, ◌≤◌}
 use lib.ListN.{length, take}
-use Rattle.std.specs.Prelude.{Option, Some, None, slice_get}
-use Rattle.std.proofs.Math.Option as option
+use Rattle.std.specs.Prelude.{Option, Some, None, MatchOption, slice_get}
 use Rattle.std.proofs.Math.Option.{none, some}
 use Rattle.std.proofs.Math.ListN.{get_elem?}
 use Rattle.formula.specs.Held.{word_of}
@@ -20,6 +19,7 @@ use Rattle.recogniser.specs.Answer.{Admissible, Readable}
 use Rattle.storage.specs.Stored.{stored_form}
 use Rattle.storage.proofs.Rows.{gives_stored}
 use Rattle.typed_places.specs.Typed.{typed_places}
+use Rattle.typed_places.proofs.Laws.{element_answered}
 use Rattle.normaliser.specs.Admission.{Unadmitted}
 use Rattle.normaliser.specs.Form.{FormRight}
 use Rattle.normaliser.specs.Normal.{StoreRefusedWith, Stores, HoldsForm, NormaliseRight}
@@ -61,20 +61,11 @@ module _ (word before : List ℕ) where
     row_put readable p =
         put_values (length readable.row) (readable_stores word readable) word (sym (gives_stored readable.row word readable.gives)) p
 
--- what stands at a place of a list, or that nothing does, in the library's words and in ours
-abbrev Same : Option ℕ → option.Option ℕ → Type 0
-Same None q = q ≡ none
-Same (Some p) q = q ≡ some p
-
-by_place : (xs : List ℕ) (i : ℕ) → Same (slice_get xs i) (get_elem? xs i)
-by_place [] i = refl
-by_place (x ∷ xs) zero = refl
-by_place (x ∷ xs) (suc i) = by_place xs i
-
 -- the typed place of a value is told where there is one
 pub place_told : (word : List ℕ) (place : ℕ) → Admissible word → TypedAnswers word place (tells_if_there accepts (slice_get (typed_places word) place))
-place_told word place a = go (slice_get (typed_places word) place) (by_place (typed_places word) place)
+place_told word place a = go (slice_get (typed_places word) place) (element_answered (typed_places word) place)
   where
-    go : (o : Option ℕ) → Same o (get_elem? (typed_places word) place) → TypedAnswers word place (tells_if_there accepts o)
+    go : (o : Option ℕ) → MatchOption o (get_elem? (typed_places word) place ≡ none) (λ p. get_elem? (typed_places word) place ≡ some p)
+        → TypedAnswers word place (tells_if_there accepts o)
     go (Some p) e = record { admissible = a; typed = e }
     go None e = record { admissible = a; nothing = e }
