@@ -18,7 +18,7 @@ use refusals::Refusal;
 #[derive(Clone, Copy)]
 pub struct RecordTold {
     pub stock: u32,
-    pub count: usize,
+    pub count: u8,
     pub live: bool,
 }
 
@@ -43,11 +43,12 @@ fn tell_record(book: &[u8], at: usize, output: &mut [u16]) -> Result<RecordTold,
     ensures right { ToldRight (entry_at book.now at) output.old output.new (outcome_by record_told result) }
     ensures few { IfOk result Few }
 {
-    let count = usize::from(book[at + 2]);
-    if output.len() < count {
-        return Err(Refusal::OutputTooShort(count));
+    let count = book[at + 2];
+    let size = usize::from(count);
+    if output.len() < size {
+        return Err(Refusal::OutputTooShort(size));
     }
-    copy_values(book, at + HEAD, count, output);
+    copy_values(book, at + HEAD, size, output);
     let stock = stock_at(book, at);
     let live = Record::at(book, at).live;
     Ok(RecordTold { stock, count, live })

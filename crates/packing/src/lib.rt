@@ -11,9 +11,11 @@ ghost use Rattle.collation.specs.Comparison.{order_number};
 ghost use Rattle.likeness.specs.Likeness.{alike_number};
 ghost use Rattle.lookup.specs.Look.{found_told};
 ghost use Rattle.planning.specs.Plan.{added_told};
+ghost use Rattle.book_word.specs.WordAt.{record_told};
 ghost use Rattle.packing.specs.Packing.{answer, pack};
 ghost use Rattle.packing.specs.Answers.{outcome_numbers, pair_numbers};
 
+use book_word::RecordTold;
 use lookup::Found;
 use planning::Added;
 use reading::parts::Part;
@@ -94,6 +96,17 @@ impl Pack for Added {
 
     fn pack(self) -> u64 {
         both(self.start, usize::from(self.tidied))
+    }
+}
+
+// The stock number of a record, and how many values its word has, with 256 more where the record is live: no word has so many.
+impl Pack for RecordTold {
+    ghost outcome = { record_told };
+
+    fn pack(self) -> u64 {
+        let count = usize::from(self.count);
+        let marked = if self.live { count + 256 } else { count };
+        both(self.stock as usize, marked)
     }
 }
 
