@@ -50,6 +50,6 @@ pub fn medial_weight(set: u8) -> Option<u8>
     if set >= 16 {
         return None;
     }
-    let weight = MEDIAL_WEIGHTS[set as usize];
+    let weight = MEDIAL_WEIGHTS[usize::from(set)];
     (weight != FORBIDDEN).then_some(weight)
 }

@@ -46,4 +46,5 @@ pub returns : goal.returns
 unfolding table entry same right pick
 returns c =
     let set = c.args.set in
-    c.then_some.ensures ∙ same_equal (entry (get_or table set 0)) (medial_set_weight set) (at right table tt set (search rules))
+    c.then_some.ensures ∙ ap (λ (k : ℕ). entry (get_or table k 0)) c.from.ensures
+    ∙ same_equal (entry (get_or table set 0)) (medial_set_weight set) (at right table tt set (search rules))
