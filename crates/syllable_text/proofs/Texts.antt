@@ -22,11 +22,11 @@ ya_ra_short neither = omega arith
 ya_ra_short ya = omega arith
 ya_ra_short ra = omega arith
 
-medial_short : (m : MedialGroup) → length (medial_text m) ≤ 3
+pub medial_short : (m : MedialGroup) → length (medial_text m) ≤ 3
 medial_short (group y w h) =
     simp length-append (omega (arith, ya_ra_short y, optional_short w 0x103D, optional_short h 0x103E))
 
-vowel_short : (v : Vowel) → length (vowel_text v) ≤ 3
+pub vowel_short : (v : Vowel) → length (vowel_text v) ≤ 3
 vowel_short no_vowel = omega arith
 vowel_short (vowel_aa tall) = omega arith
 vowel_short vowel_i = omega arith
@@ -41,7 +41,7 @@ vowel_short vowel_am = omega arith
 vowel_short vowel_i_u = omega arith
 vowel_short vowel_u_am = omega arith
 
-final_short : (f : Final) → length (final_text f) ≤ 4
+pub final_short : (f : Final) → length (final_text f) ≤ 4
 final_short no_final = omega arith
 final_short (plain c) = omega arith
 final_short (plain_pair c d) = omega arith
@@ -49,7 +49,7 @@ final_short (stacked c) = omega arith
 final_short kinzi = omega arith
 final_short great_sa = omega arith
 
-tone_short : (t : ToneMark) → length (tone_text t) ≤ 1
+pub tone_short : (t : ToneMark) → length (tone_text t) ≤ 1
 tone_short no_tone = omega arith
 tone_short dot = omega arith
 tone_short visarga = omega arith
