@@ -11,6 +11,7 @@ use transitions::classes::begins;
 use transitions::tables::{Rules, gain, next, rules_of};
 
 // The values before `at` are read, and the one at `at` is refused, unless it is the end.
+// Two arrays: one of pairs is no plainer, since a reading takes the syllables alone.
 #[derive(Clone, Copy)]
 pub struct Scan {
     pub at: usize,
@@ -45,6 +46,7 @@ pub fn scan_word(word: &[u16]) -> Scan
             let count = window.count;
             let finished = count.saturating_sub(1);
             syllables[finished] = closed_by(x, window.last);
+            // A cast: `try_from` is no plainer, since it would want an arm for a place past the limit, which no word has.
             starts[count] = at as u8;
         }
         window = window_after(window, change, gain(state, rules), x);

@@ -58,6 +58,7 @@ fn put_syllable(
     requires { SyllableRoom packed number at values.old starts.old }
     ensures { SyllablePut packed number at (lists values.old starts.old) (lists values.new starts.new) result }
 {
+    // A cast: `try_from` is no plainer, since it would want an arm for a place past 190, which no spelled word has.
     starts[number] = at as u16;
     put_part(values, at, 0, plain_record(packed))
 }

@@ -7,6 +7,7 @@ fn part(packed: u64, unit: u64, many: u64) -> u8
     requires { (0 < unit) × (0 < many) × (many ≤ 256) }
     ensures { result ≡ packed / unit % many }
 {
+    // A cast: `try_from` is no plainer, since it would want an arm for a part that is too large, which none is.
     (packed / unit % many) as u8
 }
 
