@@ -35,6 +35,7 @@ pub record NoPart (word : List ℕ) (number : ℕ) : Type 0 where
 abbrev pub part_told : Part → Outcome
 part_told part = accepts_both part.place part.size
 
+-- what an outcome says of the part asked for
 abbrev pub PartAnswers : List ℕ → ℕ → Outcome → Type 0
 PartAnswers word number (accepts size) = ⊥
 PartAnswers word number (accepts_both place size) = HasPart word number place size
