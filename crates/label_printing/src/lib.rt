@@ -14,6 +14,7 @@ use lines::decode;
 use skeletons::LIMIT;
 
 // What follows the number of a line that is a label.
+#[tactic(auto, using(memory::proofs::Putting::put_after, crate::proofs::Labels::skeleton_text_short), unfolding(crate::specs::Output::skeleton_text))]
 fn put_skeleton(out: &mut [u8], at: usize, values: &[u16]) -> usize
     requires { (at + answer_text_limit ≤ length out.old) × (length values.now ≤ skeleton_limit) }
     ensures { PutWithin answer_text_limit out.old at (skeleton_text values.now) out.new result }
