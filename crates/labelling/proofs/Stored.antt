@@ -14,7 +14,10 @@ use Rattle.refusals.specs.declared.Refusal.{Refusal}
 use Rattle.std.specs.declared.result.Result.{Result}
 use Rattle.std.specs.declared.result.Result.TheVariants.{Ok, Err}
 use Rattle.refusals.proofs.Putting.{puts_writes}
-use Rattle.recogniser.specs.Answer.{Reads, Readable}
+use Rattle.std.specs.Result.{result_unwrap_or}
+use Rattle.recogniser.specs.Answer.{Answers, Reads, Readable}
+use Rattle.recogniser.proofs.Answered.{refused_no_row}
+use Rattle.normaliser.proofs.Storing.{reads_stores}
 use Rattle.storage.specs.Stored.{stored_form}
 use Rattle.storage.proofs.Rows.{gives_stored}
 use Rattle.normaliser.specs.Normal.{StoreRefusedWith, Stores, NormaliseRight}
@@ -92,15 +95,56 @@ module _ (word after : List ℕ) (count : ℕ) (f : Formed word after count) whe
   pub formed_stores : (n : ℕ) → Reads (take count after) n → Stores word n
   formed_stores n r = record { admissible = f.stores.admissible; reads = subst (λ (l : List ℕ). Reads l n) f.front r }
 
-module _ {word before after : List ℕ} (answer : Result ℕ Refusal) (right : NormaliseRight word before after (outcome_of answer)) where
-  pub formed : (n : ℕ) → answer ≡ Ok n → Formed word after n
-  formed n e =
-      let f = fronted (StoreRefusedWith word) (Stores word) (stored_form word) before after n (subst (λ (w : Result ℕ Refusal). NormaliseRight word before after (outcome_of w)) e right) in
+-- a row of syllables is its own stored form
+module _ (word : List ℕ) (n : ℕ) (r : Reads word n) where
+  pub row_answers : (o : Outcome) → o ≡ label_of word n → LabelAnswers word o
+  row_answers = answers_by word word n (reads_stores word n r) (own_form word n r)
+
+  pub row_puts : (before after : List ℕ) (o : Outcome) → FormPut word n before after o → SkeletonRight word before after o
+  row_puts = puts_by word word n (reads_stores word n r) (own_form word n r)
+
+-- and any other word is normalised
+module _ (word before after : List ℕ) where
+  pub formed : (count : ℕ) → NormaliseRight word before after (accepts count) → Formed word after count
+  formed count right =
+      let f = fronted (StoreRefusedWith word) (Stores word) (stored_form word) before after count right in
       record { syllables = f.thing; stores = f.stands; front = f.front; fits = f.fits }
 
   -- and where it is refused, it is no word
-  pub not_formed : limit ≤ length before → (refusal : Refusal) → answer ≡ Err refusal → LabelRefusedWith word (number_of refusal) (place_of refusal)
-  not_formed room refusal e =
+  pub not_formed : limit ≤ length before → (number place : ℕ) → NormaliseRight word before after (refuses number place) → LabelRefusedWith word number place
+  not_formed room number place right =
       no_word
-      (only_refused (StoreRefusedWith word) (Stores word) (stored_form word) before after (λ n s. let short = s.reads.admissible.short in omega arith)
-      (number_of refusal) (place_of refusal) (subst (λ (w : Result ℕ Refusal). NormaliseRight word before after (outcome_of w)) e right))
+      (only_refused (StoreRefusedWith word) (Stores word) (stored_form word) before after (λ n s. let short = s.reads.admissible.short in omega arith) number
+      place right)
+
+module _ (word after : List ℕ) (count : ℕ) (f : Formed word after count) (n : ℕ) (r : Reads (take count after) n) where
+  pub form_answers : (o : Outcome) → o ≡ label_of (take count after) n → LabelAnswers word o
+  form_answers = answers_by word (take count after) n (formed_stores word after count f n r) f.front
+
+  pub form_puts : (before final : List ℕ) (o : Outcome) → FormPut (take count after) n before final o → SkeletonRight word before final o
+  form_puts = puts_by word (take count after) n (formed_stores word after count f n r) f.front
+
+-- a row is read, and never refused
+pub row_counted : (row : List ℕ) (answer : Result ℕ Refusal) → Readable row → Answers row (outcome_of answer) → Reads row (result_unwrap_or answer 0)
+row_counted row (Ok n) r reads = reads
+row_counted row (Err refusal) r w = absurd (refused_no_row row (number_of refusal) (place_of refusal) w r.admissible r.row r.gives)
+
+-- what the rules answer of a row of so many syllables, and whether its skeleton is put
+module _ (form : List ℕ) (n : ℕ) (before : List ℕ) where
+  pub rules_break : (number place : ℕ) → refuses number place ≡ label_of form n → FormPut form n before before (refuses number place)
+  rules_break number place e = breaks (sym e) refl
+
+  module _ (r : Reads form n) (k : ℕ) (e : accepts k ≡ label_of form n) where
+    accepted : label_of form n ≡ accepts n
+    accepted = accepted_count form n k (sym e)
+
+    pub rules_short : length (skeleton_of form) ≤ skeleton_limit
+    rules_short = form_short form n r accepted
+
+    pub form_written : length (skeleton_of form) ≤ length before → (after : List ℕ) (size : ℕ) → Written before (skeleton_of form) after size
+        → FormPut form n before after (accepts size)
+    form_written h after size w = meets accepted (written_puts (skeleton_of form) before after size w h)
+
+    pub form_unwritten : (size : ℕ) → size ≡ length (skeleton_of form) → length before < length (skeleton_of form)
+        → FormPut form n before before (refuses 5 size)
+    form_unwritten size same h = meets accepted (short_puts (skeleton_of form) before size same h)

@@ -16,33 +16,25 @@ use refusals::Refusal;
 use skeletons::LIMIT;
 
 // How many syllables a row has.
+#[tactic(auto, using(crate::proofs::Stored::row_counted))]
 fn count_syllables(row: &[u16]) -> usize
     requires { Readable row.now }
     ensures { Reads row.now result }
 {
-    match answer_of(row) {
-        Ok(syllables) => syllables,
-        Err(_) => 0,
-    }
+    answer_of(row).unwrap_or(0)
 }
 
 // Whether a word is a label: how many syllables it has, or why it is refused.
 pub fn label(word: &[u16]) -> Result<usize, Refusal>
     ensures { LabelAnswers word.now (outcome_of result) }
 {
-    let read = answer_of(word);
-    if let Ok(syllables) = read {
+    if let Ok(syllables) = answer_of(word) {
         return answer_by_rules(word, syllables);
     }
     let mut values = [0; Word::LIMIT];
-    let stored = normalise(word, &mut values);
-    match stored {
-        Err(refusal) => Err(refusal),
-        Ok(count) => {
-            let syllables = count_syllables(&values[..count]);
-            answer_by_rules(&values[..count], syllables)
-        }
-    }
+    let count = normalise(word, &mut values)?;
+    let form = &values[..count];
+    answer_by_rules(form, count_syllables(form))
 }
 
 // Whether a list of so many values has room for the skeleton of a stored form. None is longer than the limit, so that most need not be measured.
@@ -57,14 +49,12 @@ fn has_room(form: &[u16], room: usize) -> bool
 }
 
 // Writes the skeleton of a row of so many syllables to the front of the output, where the rules accept it and there is room.
+#[tactic(auto, using(crate::proofs::Stored::rules_break))]
 fn put_skeleton(form: &[u16], syllables: usize, output: &mut [u16]) -> Result<usize, Refusal>
     requires { Reads form.now syllables }
     ensures { FormPut form.now syllables output.old output.new (outcome_of result) }
 {
-    let answer = answer_by_rules(form, syllables);
-    if let Err(refusal) = answer {
-        return Err(refusal);
-    }
+    answer_by_rules(form, syllables)?;
     if has_room(form, output.len()) {
         return Ok(skeletons::put(form, output));
     }
@@ -75,17 +65,11 @@ fn put_skeleton(form: &[u16], syllables: usize, output: &mut [u16]) -> Result<us
 pub fn skeleton(word: &[u16], output: &mut [u16]) -> Result<usize, Refusal>
     ensures { SkeletonRight word.now output.old output.new (outcome_of result) }
 {
-    let read = answer_of(word);
-    if let Ok(syllables) = read {
+    if let Ok(syllables) = answer_of(word) {
         return put_skeleton(word, syllables, output);
     }
     let mut values = [0; Word::LIMIT];
-    let stored = normalise(word, &mut values);
-    match stored {
-        Err(refusal) => Err(refusal),
-        Ok(count) => {
-            let syllables = count_syllables(&values[..count]);
-            put_skeleton(&values[..count], syllables, output)
-        }
-    }
+    let count = normalise(word, &mut values)?;
+    let form = &values[..count];
+    put_skeleton(form, count_syllables(form), output)
 }

@@ -1,62 +1,13 @@
 -- `labelling::label` meets its contract: a row is tested as it is handed in, and any other word is normalised first.
 -- Assumes nothing.
-use Prim.Native.Nat.{ℕ}
-use mathlib.Core.Path.{sym, subst}
-use native.Mathlib.Omega.{arith}
-use lib.Seq.{length-take-le}
-use Rattle.refusals.specs.Outcome.{outcome_of}
-use Rattle.std.specs.declared.result.Result.{Result}
-use Rattle.refusals.specs.declared.Refusal.{Refusal}
-use Rattle.recogniser.specs.Answer.{Reads, Answers}
-use Rattle.normaliser.proofs.Storing.{reads_stores}
-use Rattle.labelling.proofs.Stored.{own_form, answers_by, Formed, formed_readable, formed_stores, formed, not_formed}
+use Rattle.labelling.proofs.Stored.{row_answers, formed, formed_readable, form_answers}
 use Rattle.labelling.proofs.label.Goals as goal
 
 pub returns-in-Ok : goal.returns-in-Ok
-returns-in-Ok c =
-    let reads : Reads c.args.word.now c.in-Ok.syllables =
-    subst (λ (w : Result ℕ Refusal). Answers c.args.word.now (outcome_of w)) c.in-Ok.is c.answer_of-read.ensures in
-    let r = reads in
-    answers_by _ _ _ (reads_stores _ _ r) (own_form _ _ r) (outcome_of c.answer_by_rules.result) c.answer_by_rules.ensures
+returns-in-Ok c = row_answers _ _ c.in-Ok.ensures _ c.answer_by_rules.ensures
 
-pub slice_bounds-values-end : goal.slice_bounds-values-end
-slice_bounds-values-end c =
-    let stored : Formed c.args.word.now c.normalise-stored.new.output c.in-Ok-stored.count =
-    formed c.normalise-stored.result c.normalise-stored.ensures c.in-Ok-stored.count c.in-Ok-stored.is in
-    stored.fits
+pub count_syllables-requires : goal.count_syllables-requires
+count_syllables-requires c = formed_readable _ _ _ (formed _ _ _ _ c.in_ok-count.ensures)
 
-pub slice_bounds-count_syllables-end : goal.slice_bounds-count_syllables-end
-slice_bounds-count_syllables-end c =
-    let stored : Formed c.args.word.now c.normalise-stored.new.output c.in-Ok-stored.count =
-    formed c.normalise-stored.result c.normalise-stored.ensures c.in-Ok-stored.count c.in-Ok-stored.is in
-    sym (length-take-le _ _ stored.fits)
-
-pub count_syllables-syllables-requires : goal.count_syllables-syllables-requires
-count_syllables-syllables-requires c =
-    let stored : Formed c.args.word.now c.normalise-stored.new.output c.in-Ok-stored.count =
-    formed c.normalise-stored.result c.normalise-stored.ensures c.in-Ok-stored.count c.in-Ok-stored.is in
-    formed_readable _ _ _ stored
-
-pub slice_bounds-values-end-in-Ok-stored : goal.slice_bounds-values-end-in-Ok-stored
-slice_bounds-values-end-in-Ok-stored c =
-    let stored : Formed c.args.word.now c.normalise-stored.new.output c.in-Ok-stored.count =
-    formed c.normalise-stored.result c.normalise-stored.ensures c.in-Ok-stored.count c.in-Ok-stored.is in
-    stored.fits
-
-pub slice_bounds-answer_by_rules-end : goal.slice_bounds-answer_by_rules-end
-slice_bounds-answer_by_rules-end c =
-    let stored : Formed c.args.word.now c.normalise-stored.new.output c.in-Ok-stored.count =
-    formed c.normalise-stored.result c.normalise-stored.ensures c.in-Ok-stored.count c.in-Ok-stored.is in
-    sym (length-take-le _ _ stored.fits)
-
-pub returns-in-Err : goal.returns-in-Err
-returns-in-Err c =
-    not_formed c.normalise-stored.result c.normalise-stored.ensures (omega arith) c.in-Err.refusal c.in-Err.is
-
-pub returns-in-Ok-stored : goal.returns-in-Ok-stored
-returns-in-Ok-stored c =
-    let stored : Formed c.args.word.now c.normalise-stored.new.output c.in-Ok-stored.count =
-    formed c.normalise-stored.result c.normalise-stored.ensures c.in-Ok-stored.count c.in-Ok-stored.is in
-    let f = stored in
-    answers_by _ _ _ (formed_stores _ _ _ f c.count_syllables-syllables.result c.count_syllables-syllables.ensures) f.front
-    (outcome_of c.answer_by_rules-in-Ok-stored.result) c.answer_by_rules-in-Ok-stored.ensures
+pub returns : goal.returns
+returns c = form_answers _ _ _ (formed _ _ _ _ c.in_ok-count.ensures) _ c.count_syllables.ensures _ c.answer_by_rules-2.ensures
