@@ -11,11 +11,12 @@ use lib.ListN.{length, get_or, take}
 use Rattle.rows.specs.Machine.{step, run}
 use Rattle.rows.proofs.Viable.{goes_on}
 use Rattle.states.specs.State.{waiting, state_of, state_number, state_count}
-use Rattle.transitions.specs.Tables.{entry_of, gain_of}
+use Rattle.formula.specs.Limits.{limit}
+use Rattle.transitions.specs.Tables.{rules_of, next_by, entry_of, gain_of}
 use Rattle.states.proofs.Known.{waiting_is}
 use Rattle.states.proofs.Tested.{state_small}
 use Rattle.states.proofs.Lengths.{makes_length}
-use Rattle.transitions.proofs.Entered.{Moves, Enters, enters}
+use Rattle.transitions.proofs.Entered.{next_entry, Moves, Enters, enters}
 use Rattle.recogniser.specs.Concluded.{Halted}
 use Rattle.recogniser.specs.Walked.{Walked, WalkStopped}
 use Rattle.recogniser.proofs.Kept.{kept_right, count_bound}
@@ -62,6 +63,23 @@ module _ (word : List ℕ) (at state count : ℕ) (w : Walked word at state coun
       walk_on =
           let l = counted in
           record { kept = moved.after; came = moved_on; state_is = moved.state_is; count_is = omega (arith, w.count_is) }
+
+-- one turn of the pass, by the entry that the tables give
+module _ (word : List ℕ) (at state count : ℕ) (w : Walked word at state count) (inside : at < length word) (entry : ℕ)
+    (e : entry ≡ next_by state (rules_of (get_or word at 0))) where
+  entry_is : entry ≡ entry_of state (get_or word at 0)
+  entry_is = e ∙ next_entry state (get_or word at 0) (state_bound word at state count w)
+
+  pub turn_stopped : length word ≤ limit → entry ≡ 96 → WalkStopped word at state count
+  turn_stopped short q =
+      record { short = short; within = omega arith; walked = w; refused = λ _. walk_refused word at state count w entry entry_is q }
+
+  module _ (q : entry ≡ 96 → ⊥) where
+    pub turn_left : 1 ≤ count + entry / 32
+    turn_left = some_left word at state count w entry entry_is inside q
+
+    pub turn_walked : Walked word (at + 1) (entry % 32) (count + entry / 32 - 1)
+    turn_walked = walk_on word at state count w entry entry_is inside q
 
 pub walk_halted : (word : List ℕ) (at state count : ℕ) → WalkStopped word at state count → Halted word at (eqb state (state_number waiting)) count
 walk_halted word at state count s =

@@ -21,23 +21,26 @@ pub struct Walk {
     pub count: usize,
 }
 
+#[tactic(auto, using(crate::proofs::Walking::walk_start, crate::proofs::Walking::turn_walked))]
 pub(crate) fn walk_word(word: &[u16]) -> Walk
     requires { length word.now ≤ limit }
     ensures { WalkStopped word.now result.at result.state result.count }
 {
     let mut state = 0;
     let mut count = 0;
-    let mut at = 0;
-    while at < word.len() {
-        let entry = next(state, rules_of(word[at]));
+    for (at, &x) in word.iter().enumerate() {
+        let entry = next(state, rules_of(x));
         if entry == Rules::REFUSED {
             return Walk { at, state, count };
         }
-        state = (entry % 32) as usize;
-        count = count + (entry / 32) as usize - 1;
-        at += 1;
+        state = usize::from(entry % 32);
+        count = count + usize::from(entry / 32) - 1;
     }
-    Walk { at, state, count }
+    Walk {
+        at: word.len(),
+        state,
+        count,
+    }
 }
 
 // The answer where a walk over the word has stopped.
