@@ -59,9 +59,7 @@ pub fn fill(word: &[u16], bytes: &mut [u8; Word::KEY]) -> Result<usize, Refusal>
     let medials = medial_weights();
     let mut window = Word::unread();
     let mut state = 0;
-    let mut at = 0;
-    while at < word.len() {
-        let x = word[at];
+    for (at, &x) in word.iter().enumerate() {
         let rules = rules_of(x);
         let entry = next(state, rules);
         if entry == Rules::REFUSED {
@@ -69,10 +67,9 @@ pub fn fill(word: &[u16], bytes: &mut [u8; Word::KEY]) -> Result<usize, Refusal>
             return answer_at(word, at, state, window.count);
         }
         window = advance(bytes, window, entry / 32, gain(state, rules), x, &medials);
-        state = (entry % 32) as usize;
-        at += 1;
+        state = usize::from(entry % 32);
     }
-    let answer = answer_at(word, at, state, window.count);
+    let answer = answer_at(word, word.len(), state, window.count);
     if let Ok(_) = answer {
         put_last(bytes, window.count, window.last, &medials);
         return answer;
