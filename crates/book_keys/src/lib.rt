@@ -9,12 +9,11 @@ ghost use Rattle.weighing.specs.Keys.{used_bytes};
 ghost use Rattle.entries.specs.Limits.{book_limit};
 ghost use Rattle.entries.specs.Entries.{word_at, is_framed};
 ghost use Rattle.entries.specs.Book.{Opened};
-ghost use Rattle.book_keys.specs.Filing.{row_of, filed_key, key_room, most_live, weights_at, FiledRight};
+ghost use Rattle.book_keys.specs.Filing.{row_of, filed_key, most_live, weights_at, FiledRight};
 
 use book_frame::{HEAD, has_mark, values_of};
 use formula::Word;
 use keying::fill::fill;
-use refusals::Refusal;
 
 // The bytes for the keys of a book: those of the record at a start stand from 6 times the start on.
 pub const KEY_ROOM: usize = 98304;
@@ -44,8 +43,8 @@ pub fn weights_at(keys: &[u8], start: u16) -> &[u8]
 }
 
 // Puts the number of syllables and the used bytes of a key at a place.
-fn put_key(keys: &mut [u8], from: usize, key: &[u8], count: usize)
-    requires { (count ≤ limit) × (used_bytes count ≤ length key.now) × (from + (1 + used_bytes count) ≤ length keys.old) × (length keys.old ≡ key_room) }
+fn put_key(keys: &mut [u8; KEY_ROOM], from: usize, key: &[u8], count: usize)
+    requires { (count ≤ limit) × (used_bytes count ≤ length key.now) × (from + (1 + used_bytes count) ≤ length keys.old) }
     ensures { keys.new ≡ sets keys.old from (count ∷ take (used_bytes count) key.now) }
 {
     keys[from] = count as u8;
@@ -54,8 +53,8 @@ fn put_key(keys: &mut [u8], from: usize, key: &[u8], count: usize)
 }
 
 // Files the key of the record at a place, whose word is readable.
-fn file_key(book: &[u8], at: usize, keys: &mut [u8])
-    requires { (length book.now ≤ book_limit) × (length keys.old ≡ key_room) × T (is_framed book.now at) × Readable (word_at book.now at) }
+fn file_key(book: &[u8], at: usize, keys: &mut [u8; KEY_ROOM])
+    requires { (length book.now ≤ book_limit) × T (is_framed book.now at) × Readable (word_at book.now at) }
     ensures { keys.new ≡ sets keys.old (used_bytes at) (filed_key (row_of (word_at book.now at))) }
 {
     let count = usize::from(book[at + 2]);
@@ -73,7 +72,7 @@ pub fn file_records(
     keys: &mut [u8; KEY_ROOM],
     starts: &mut [u16],
 ) -> usize
-    requires { Opened book.now free × (length keys.old ≡ key_room) × (most_live ≤ length starts.old) }
+    requires { Opened book.now free × (most_live ≤ length starts.old) }
     ensures { FiledRight book.now keys.old starts.old keys.new starts.new result }
 {
     let mut live = 0;

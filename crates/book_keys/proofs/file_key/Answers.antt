@@ -18,34 +18,34 @@ use Rattle.book_keys.proofs.file_key.Goals as goal
 
 pub overflow_add-at : goal.overflow_add-at
 overflow_add-at c =
-    omega (arith, (framed_true _ _ c.requires.2).room, c.requires.0)
+    omega (arith, (framed_true _ _ c.requires.1).room, c.requires.0)
 
 pub bounds-book-at : goal.bounds-book-at
 bounds-book-at c =
-    omega (arith, (framed_true _ _ c.requires.2).room, c.requires.0)
+    omega (arith, (framed_true _ _ c.requires.1).room, c.requires.0)
 
 pub overflow_add-at-2 : goal.overflow_add-at-2
 overflow_add-at-2 c =
-    omega (arith, (framed_true _ _ c.requires.2).room, c.requires.0)
+    omega (arith, (framed_true _ _ c.requires.1).room, c.requires.0)
 
 pub values_of-values-requires : goal.values_of-values-requires
 values_of-values-requires c =
-    let f = framed_true _ _ c.requires.2 in
+    let f = framed_true _ _ c.requires.1 in
     (omega (arith, f.short, c.from-count.ensures), omega (arith, f.room, c.from-count.ensures))
 
 pub slice_bounds-values-end : goal.slice_bounds-values-end
 slice_bounds-values-end c =
-    omega (arith, (framed_true _ _ c.requires.2).short, c.from-count.ensures, c.values_of-values.ensures.1)
+    omega (arith, (framed_true _ _ c.requires.1).short, c.from-count.ensures, c.values_of-values.ensures.1)
 
 pub slice_bounds-fill-end : goal.slice_bounds-fill-end
 slice_bounds-fill-end c =
     sym
     (length-take-le c.from-count.result c.values_of-values.result
-    (omega (arith, (framed_true _ _ c.requires.2).short, c.from-count.ensures, c.values_of-values.ensures.1)))
+    (omega (arith, (framed_true _ _ c.requires.1).short, c.from-count.ensures, c.values_of-values.ensures.1)))
 
 pub overflow_mul-at : goal.overflow_mul-at
 overflow_mul-at c =
-    omega (arith, (framed_true _ _ c.requires.2).room, c.requires.0)
+    omega (arith, (framed_true _ _ c.requires.1).room, c.requires.0)
 
 pub put_key-requires : goal.put_key-requires
 put_key-requires c =
@@ -53,11 +53,10 @@ put_key-requires c =
     let e : take c.from-count.result c.values_of-values.result ≡ (word_at c.args.book.now c.args.at) =
     c.values_of-values.ensures.0 ∙ ap (λ (n : ℕ). map value_of (take n (drop (c.args.at + head_size) c.args.book.now))) c.from-count.ensures in
     subst (λ (l : List ℕ). FillRight l c.fill.result c.fill.new.bytes) e c.fill.ensures in
-    let k = (key_within c.args.book.now c.args.at c.requires.0 (framed_true _ _ c.requires.2) c.requires.3).1 in (
-      filled_few (word_at c.args.book.now c.args.at) c.requires.3 c.fill.result _ filled c.in-Ok.number c.in-Ok.is,
-      filled_room (word_at c.args.book.now c.args.at) c.requires.3 c.fill.result _ filled c.in-Ok.number c.in-Ok.is,
-      omega (arith, c.requires.1, filed_key_length (row_of (word_at c.args.book.now c.args.at)), filled_count (word_at c.args.book.now c.args.at) c.requires.3 c.fill.result _ filled c.in-Ok.number c.in-Ok.is),
-      c.requires.1,
+    let k = (key_within c.args.book.now c.args.at c.requires.0 (framed_true _ _ c.requires.1) c.requires.2).1 in (
+      filled_few (word_at c.args.book.now c.args.at) c.requires.2 c.fill.result _ filled c.in-Ok.number c.in-Ok.is,
+      filled_room (word_at c.args.book.now c.args.at) c.requires.2 c.fill.result _ filled c.in-Ok.number c.in-Ok.is,
+      omega (arith, filed_key_length (row_of (word_at c.args.book.now c.args.at)), filled_count (word_at c.args.book.now c.args.at) c.requires.2 c.fill.result _ filled c.in-Ok.number c.in-Ok.is),
     )
 
 pub returns-in-Ok : goal.returns-in-Ok
@@ -67,7 +66,7 @@ returns-in-Ok c =
     c.values_of-values.ensures.0 ∙ ap (λ (n : ℕ). map value_of (take n (drop (c.args.at + head_size) c.args.book.now))) c.from-count.ensures in
     subst (λ (l : List ℕ). FillRight l c.fill.result c.fill.new.bytes) e c.fill.ensures in
     c.put_key.ensures
-    ∙ ap (sets c.args.keys.now (weight_count * c.args.at)) (filled_key (word_at c.args.book.now c.args.at) c.requires.3 c.fill.result _ filled c.in-Ok.number c.in-Ok.is)
+    ∙ ap (sets c.args.keys.now (weight_count * c.args.at)) (filled_key (word_at c.args.book.now c.args.at) c.requires.2 c.fill.result _ filled c.in-Ok.number c.in-Ok.is)
 
 pub returns-in_default : goal.returns-in_default
 returns-in_default c =
@@ -75,4 +74,4 @@ returns-in_default c =
     let e : take c.from-count.result c.values_of-values.result ≡ (word_at c.args.book.now c.args.at) =
     c.values_of-values.ensures.0 ∙ ap (λ (n : ℕ). map value_of (take n (drop (c.args.at + head_size) c.args.book.now))) c.from-count.ensures in
     subst (λ (l : List ℕ). FillRight l c.fill.result c.fill.new.bytes) e c.fill.ensures in
-    absurd (not_refused (word_at c.args.book.now c.args.at) c.requires.3 c.fill.result _ filled c.in_default.field-0 c.in_default.is)
+    absurd (not_refused (word_at c.args.book.now c.args.at) c.requires.2 c.fill.result _ filled c.in_default.field-0 c.in_default.is)

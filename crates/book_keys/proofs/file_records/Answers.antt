@@ -8,7 +8,7 @@ use Rattle.entries.specs.Limits.{head_size}
 use Rattle.entries.proofs.Records.{framed_is}
 use Rattle.entries.proofs.Walk.{Turn}
 use Rattle.book_frame.proofs.Marks.{mark_met, mark_missed}
-use Rattle.book_keys.proofs.Collecting.{collect_start, collect_as, at_record, collect_room, collect_long, turn_readable, collect_frame, collect_more}
+use Rattle.book_keys.proofs.Collecting.{collect_start, collect_as, at_record, collect_long, turn_readable, collect_frame, collect_more}
 use Rattle.book_keys.proofs.Collecting.{collect_live, collect_removed, collect_end}
 use Rattle.book_keys.proofs.file_records.Goals as goal
 use Rattle.book_keys.proofs.file_records.Goals.{then-has_mark, else-has_mark}
@@ -27,7 +27,6 @@ file_key-requires c =
     let i = c.loop-at.invariant in
     let t = at_turn in (
       i.walk.is_book.short,
-      collect_room _ _ _ _ _ _ _ _ i c.requires.1,
       framed_is _ _ t.stands.frame,
       turn_readable _ _ _ _ _ _ _ _ i t,
     )
@@ -37,21 +36,21 @@ offset_bounds-starts-live c =
     omega (
       arith,
       collect_more _ _ _ _ _ _ _ _ c.loop-at.invariant c.loop-at-test.true
-          (mark_met (get_or c.args.book.now c.loop-at.at 0) _ 0x4D 0x57 _ c.has_mark.ensures c.if-has_mark.true).1 c.requires.2,
+          (mark_met (get_or c.args.book.now c.loop-at.at 0) _ 0x4D 0x57 _ c.has_mark.ensures c.if-has_mark.true).1 c.requires.1,
       collect_long _ _ _ _ _ _ _ _ c.loop-at.invariant,
     )
 
 pub bounds-starts-live : goal.bounds-starts-live
 bounds-starts-live c =
     collect_more _ _ _ _ _ _ _ _ c.loop-at.invariant c.loop-at-test.true
-    (mark_met (get_or c.args.book.now c.loop-at.at 0) _ 0x4D 0x57 _ c.has_mark.ensures c.if-has_mark.true).1 c.requires.2
+    (mark_met (get_or c.args.book.now c.loop-at.at 0) _ 0x4D 0x57 _ c.has_mark.ensures c.if-has_mark.true).1 c.requires.1
 
 pub overflow_add-live : goal.overflow_add-live
 overflow_add-live c =
     omega (
       arith,
       collect_more _ _ _ _ _ _ _ _ c.loop-at.invariant c.loop-at-test.true
-          (mark_met (get_or c.args.book.now c.loop-at.at 0) _ 0x4D 0x57 _ c.has_mark.ensures c.if-has_mark.true).1 c.requires.2,
+          (mark_met (get_or c.args.book.now c.loop-at.at 0) _ 0x4D 0x57 _ c.has_mark.ensures c.if-has_mark.true).1 c.requires.1,
       collect_long _ _ _ _ _ _ _ _ c.loop-at.invariant,
     )
 
@@ -89,4 +88,4 @@ loop-at-preserved c =
 pub returns : goal.returns
 returns c =
     let l = c.loop-at in
-    collect_end _ _ _ _ _ _ l.live l.at l.invariant c.requires.1 c.requires.2 c.loop-at-test.false
+    collect_end _ _ _ _ _ _ l.live l.at l.invariant (omega arith) c.requires.1 c.loop-at-test.false
