@@ -1,6 +1,6 @@
 -- What add tells is told of one record alone, and its preview tells beside it what the answer has: the start, and whether add would tidy.
 -- Assumes nothing.
-use Rattle.std.proofs.Common.{◌≡◌, ap, refl, sym, Bool, true, false, ℕ, eqb, Ok, Err, arith}
+use Rattle.std.proofs.Common.{◌≡◌, refl, Bool, true, false, ℕ, eqb, Ok, Err, arith}
 use Rattle.std.specs.Prelude.{Result}
 use Rattle.refusals.specs.declared.Refusal.{Refusal}
 use Rattle.refusals.specs.Outcome.{Outcome, refuses, outcome_by}

@@ -6,17 +6,15 @@ use mathlib.Core.List.{List}
 use Prim.Native.Nat.{ℕ}
 use lib.ListN.{length}
 use lib.Seq.{length-take-le}
-use Rattle.formula.specs.Limits.{limit}
 use Rattle.refusals.specs.Outcome.{outcome_by}
 use Rattle.planning.specs.Plan.{added_told}
 use Rattle.storage.specs.Stored.{stored_form}
 use Rattle.entries.specs.Entries.{entries}
-use Rattle.entries.specs.Book.{zeros}
 use Rattle.entries.specs.Change.{Storable}
 use Rattle.entries.specs.Outcome.{add_of}
 use Rattle.book_change.specs.Written.{AddRight}
-use Rattle.wordbook.specs.Calls.{FormAt, CallAnswers, word_refused, word_stored}
-use Rattle.wordbook.proofs.Stored.{stored_storable, entered_form, entered_refused, form_fits, form_front}
+use Rattle.wordbook.specs.Calls.{CallAnswers, word_refused, word_stored}
+use Rattle.wordbook.proofs.Stored.{stored_storable, form_fits, form_front}
 use Rattle.wordbook.proofs.add.Goals as goal
 
 pub slice_bounds-values-end : goal.slice_bounds-values-end

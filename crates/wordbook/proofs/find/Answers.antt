@@ -3,13 +3,11 @@
 use Rattle.std.proofs.lemmas.Result.{err_from_is_err_and}
 use mathlib.Core.Path.{sym, ap, subst, ◌∙◌}
 use lib.Seq.{length-take-le}
-use Rattle.formula.specs.Limits.{limit}
 use Rattle.storage.specs.Stored.{stored_form}
 use Rattle.entries.specs.Entries.{entries}
-use Rattle.entries.specs.Book.{zeros}
 use Rattle.entries.specs.Outcome.{find_of}
-use Rattle.wordbook.specs.Calls.{FormAt, CallAnswers, word_refused, word_stored}
-use Rattle.wordbook.proofs.Stored.{entered_form, entered_refused, form_fits, form_front}
+use Rattle.wordbook.specs.Calls.{CallAnswers, word_refused, word_stored}
+use Rattle.wordbook.proofs.Stored.{form_fits, form_front}
 use Rattle.wordbook.proofs.find.Goals as goal
 
 pub slice_bounds-values-end : goal.slice_bounds-values-end

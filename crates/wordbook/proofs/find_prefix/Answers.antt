@@ -5,16 +5,13 @@ use mathlib.Core.Path.{refl, sym, subst}
 use mathlib.Core.List.{List}
 use Prim.Native.Nat.{ℕ}
 use lib.Seq.{length-take-le}
-use Rattle.formula.specs.Limits.{limit}
 use Rattle.recogniser.specs.Answer.{Readable}
 use Rattle.refusals.specs.Outcome.{outcome_of}
 use Rattle.refusals.specs.Output.{refused}
-use Rattle.entries.specs.Book.{zeros}
 use Rattle.book_keys.specs.Filing.{row_of}
 use Rattle.prefix_search.specs.Prefix.{PrefixRight}
-use Rattle.wordbook.specs.Calls.{FormAt}
 use Rattle.wordbook.specs.Prefix.{query_refused}
-use Rattle.wordbook.proofs.Stored.{stored_storable, entered_form, entered_refused, form_fits, form_front}
+use Rattle.wordbook.proofs.Stored.{stored_storable, form_fits, form_front}
 use Rattle.wordbook.proofs.Prefix.{queried}
 use Rattle.wordbook.proofs.find_prefix.Goals as goal
 

@@ -1,14 +1,12 @@
 -- `wordbook::preview` meets its contract: the plan is the word's refusal, or what adding its stored form would do, and no byte is written.
 -- Assumes nothing.
-use mathlib.Core.Path.{◌≡◌, refl, sym, ap, subst, ◌∙◌}
+use mathlib.Core.Path.{refl, sym, ap, subst, ◌∙◌}
 use mathlib.Core.List.{List}
 use Prim.Native.Nat.{ℕ}
 use lib.ListN.{length}
 use lib.Seq.{length-take-le}
-use Rattle.formula.specs.Limits.{limit}
 use Rattle.refusals.specs.Outcome.{outcome_by}
 use Rattle.entries.specs.Entries.{entries}
-use Rattle.entries.specs.Book.{zeros}
 use Rattle.entries.specs.Change.{Storable}
 use Rattle.entries.specs.Outcome.{add_of}
 use Rattle.std.specs.Prelude.{Result, Ok, Err}
@@ -18,8 +16,8 @@ use Rattle.planning.specs.declared.Added.{Added}
 use Rattle.planning.specs.Plan.{added_told}
 use Rattle.planning.specs.Preview.{preview_outcome}
 use Rattle.planning.proofs.Told.{preview_told}
-use Rattle.wordbook.specs.Calls.{FormAt, AddAnswers, word_refused, word_stored, PreviewPromise}
-use Rattle.wordbook.proofs.Stored.{stored_storable, entered_form, entered_refused, form_fits, form_front}
+use Rattle.wordbook.specs.Calls.{AddAnswers, word_refused, word_stored, PreviewPromise}
+use Rattle.wordbook.proofs.Stored.{stored_storable, form_fits, form_front}
 use Rattle.wordbook.proofs.preview.Goals as goal
 
 -- the preview of an answer that add gives

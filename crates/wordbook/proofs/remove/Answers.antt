@@ -5,15 +5,13 @@ use mathlib.Core.Path.{refl, sym, subst}
 use mathlib.Core.List.{List}
 use Prim.Native.Nat.{ℕ}
 use lib.Seq.{length-take-le}
-use Rattle.formula.specs.Limits.{limit}
 use Rattle.refusals.specs.Outcome.{outcome_of}
 use Rattle.storage.specs.Stored.{stored_form}
 use Rattle.entries.specs.Entries.{entries}
-use Rattle.entries.specs.Book.{zeros}
 use Rattle.entries.specs.Outcome.{remove_of}
 use Rattle.book_change.specs.Written.{RemoveRight}
-use Rattle.wordbook.specs.Calls.{FormAt, CallAnswers, word_refused, word_stored}
-use Rattle.wordbook.proofs.Stored.{entered_form, entered_refused, form_fits, form_front}
+use Rattle.wordbook.specs.Calls.{CallAnswers, word_refused, word_stored}
+use Rattle.wordbook.proofs.Stored.{form_fits, form_front}
 use Rattle.wordbook.proofs.remove.Goals as goal
 
 pub slice_bounds-values-end : goal.slice_bounds-values-end
