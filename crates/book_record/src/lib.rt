@@ -10,7 +10,6 @@ ghost use Rattle.entries.specs.Change.{Storable, with_record};
 ghost use Rattle.book_record.specs.Head.{with_head};
 
 use book_frame::HEAD;
-use memory::casts::count_byte;
 
 // A part of a stock number as a byte.
 fn stock_byte(part: u32) -> u8
@@ -36,7 +35,7 @@ fn put_head(book: &mut [u8], at: usize, count: usize, stock: u32)
     let live = b"MW";
     book[at] = live[0];
     book[at + 1] = live[1];
-    book[at + 2] = count_byte(count);
+    book[at + 2] = count as u8;
     book[at + 3] = stock_byte(stock % 256);
     book[at + 4] = stock_byte((stock / 256) % 256);
     book[at + 5] = stock_byte((stock / 65536) % 256);

@@ -1,5 +1,4 @@
-// Copies from slice to slice, moves within one, and numbers at another width.
+// Copies from slice to slice, and moves within one.
 #![tactic(auto)]
 
-pub mod casts;
 pub mod copies;

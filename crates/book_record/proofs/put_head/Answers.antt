@@ -38,5 +38,5 @@ returns c =
     let b = a.book.now in
     head_stores b a.at 0x4D 0x57 _ _ _ _ _ c.requires.1
     ∙ (λ i. take a.at b
-    ++ ((0x4D ∷ 0x57 ∷ c.count_byte.ensures i ∷ c.stock_byte.ensures i ∷ c.stock_byte-2.ensures i ∷ c.stock_byte-3.ensures i ∷ c.stock_byte-4.ensures i ∷ [])
+    ++ ((0x4D ∷ 0x57 ∷ a.count ∷ c.stock_byte.ensures i ∷ c.stock_byte-2.ensures i ∷ c.stock_byte-3.ensures i ∷ c.stock_byte-4.ensures i ∷ [])
     ++ drop (a.at + head_size) b))
