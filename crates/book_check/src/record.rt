@@ -6,7 +6,8 @@ ghost use Rattle.book_check.specs.Chain.{word_bytes};
 
 use book_frame::HEAD;
 
-// Whether the record is live, and how many bytes it has: the next one begins behind them.
+// Whether the record is live, and how many bytes it has: the next one begins behind them. A walk stays a `while` loop, no plainer as an iterator of our own,
+// since each step is as long as the record at the place.
 #[derive(Clone, Copy)]
 pub struct Record {
     pub live: bool,
