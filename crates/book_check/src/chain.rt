@@ -41,6 +41,7 @@ pub(crate) fn is_repeated(
     ensures { (entries : List Entry) → Chained book.now at entries heads.now links.now → result ≡ holds entries (word_at book.now at) }
 {
     let word = word_of(book, at);
+    // No `for`: the next of a chain is known from the one before it alone.
     let mut place = usize::from(heads[bucket]);
     while 0 < place {
         let start = place - 1;

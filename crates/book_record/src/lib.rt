@@ -47,10 +47,8 @@ fn put_word(book: &mut [u8], from: usize, word: &[u16])
     requires { (from + length word.now ≤ length book.old) × Storable word.now }
     ensures { book.new ≡ paste book.old from (map byte_of word.now) (length word.now) }
 {
-    let mut next = 0;
-    while next < word.len() {
-        book[from + next] = value_byte(word[next]);
-        next += 1;
+    for (next, &value) in word.iter().enumerate() {
+        book[from + next] = value_byte(value);
     }
 }
 

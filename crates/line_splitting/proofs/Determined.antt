@@ -4,7 +4,11 @@ use mathlib.Core.Path.{◌≡◌, refl, sym, ap, subst, ◌∙◌}
 use mathlib.Core.List.{List}
 use Prim.Native.Nat.{ℕ}
 use Rattle.refusals.specs.Outcome.{refuses}
-use Rattle.refusals.proofs.Laws.{counted_once}
+use Rattle.refusals.specs.Refusal.{number_of, place_of}
+use Rattle.refusals.specs.declared.Refusal.{Refusal}
+use Rattle.refusals.proofs.Laws.{number_place_injective}
+use Rattle.std.specs.declared.result.Result.{Result}
+use Rattle.std.specs.declared.result.Result.TheVariants.{Err}
 use Rattle.lines.proofs.Determined.{decodes_alike, line_refused_alike, decoded_not_refused}
 use Rattle.collation.specs.Keyed.{KeyRight}
 use Rattle.collation.specs.declared.key.Key.{Key}
@@ -20,15 +24,14 @@ use Rattle.line_splitting.specs.Taken.{Prints, none, more}
 abbrev pub Once : (List ℕ → List ℕ → Type 0) → Type 0
 Once Answers = (line first second : List ℕ) → Answers line first → Answers line second → first ≡ second
 
-key_once : (line : List ℕ) (a b : Key) → KeyOfLine line a → KeyOfLine line b → a ≡ b
+key_once : (line : List ℕ) (a b : Result Key Refusal) → KeyOfLine line a → KeyOfLine line b → a ≡ b
 key_once line a b (of_values {word = v} d r) (of_values {word = w} e s) =
     key_determined w a b (subst (λ (u : List ℕ). KeyRight u a) (decodes_alike line v w d e) r) s
-key_once line a b (of_values {word = v} d r) (line_refused {number = n} {place = p} l f z) = absurd (decoded_not_refused line v n p d l)
-key_once line a b (line_refused {number = n} {place = p} l f z) (of_values {word = v} d r) = absurd (decoded_not_refused line v n p d l)
-key_once line a b (line_refused {number = n} {place = p} l f z) (line_refused {number = m} {place = q} k g y) =
-    let answer : a.answer ≡ b.answer = counted_once a.answer b.answer (f ∙ line_refused_alike line n p m q l k ∙ sym g) in
-    let bytes : a.bytes ≡ b.bytes = z ∙ sym y in
-    rw (answer, bytes)
+key_once line a b (of_values {word = v} d r) (line_refused {refusal = p} l f) = absurd (decoded_not_refused line v (number_of p) (place_of p) d l)
+key_once line a b (line_refused {refusal = p} l f) (of_values {word = v} d r) = absurd (decoded_not_refused line v (number_of p) (place_of p) d l)
+key_once line a b (line_refused {refusal = p} l f) (line_refused {refusal = q} k g) =
+    let same = line_refused_alike line (number_of p) (place_of p) (number_of q) (place_of q) l k in
+    f ∙ ap Err (number_place_injective p q (cc) (cc)) ∙ sym g
 
 refused_text_once : (n p m q : ℕ) → refuses n p ≡ refuses m q → refused_text n p ≡ refused_text m q
 refused_text_once n p m q e = cc
@@ -50,7 +53,7 @@ label_text_once line first second (labels.line_refused {number = n} {place = p} 
 
 pub word_text_once : Once WordText
 word_text_once line first second a b =
-    a.is ∙ ap (λ (key : Key). answer_text key.answer key.bytes) (key_once line a.key b.key a.right.right b.right.right) ∙ sym b.is
+    a.is ∙ ap answer_text (key_once line a.answer b.answer a.right.right b.right.right) ∙ sym b.is
 
 -- what is printed for lines is one text
 pub prints_determined : {Answers : List ℕ → List ℕ → Type 0} → Once Answers → {number : ℕ} {lines : List (List ℕ)} {first second : List ℕ} → Prints Answers number lines first → Prints Answers number lines second

@@ -91,6 +91,7 @@ pub fn pass_chunk<T: Task>(
     requires { Ready chunk.now pending.old out.old progress }
     ensures { Passes T.Answers chunk.now pending.old out.old progress pending.new out.new result }
 {
+    // No `for`: each turn goes on by as much as its line took.
     let mut reached = progress;
     while reached.at < chunk.len() && reached.used + PRINTED_LIMIT <= out.len() {
         reached = take_line::<T>(chunk, pending, out, reached);

@@ -124,6 +124,7 @@ fn answer_chunk<T: Task>(
         number: current.number,
         used: 0,
     };
+    // No `for`: each turn goes on by as much as its lines took.
     let mut taken = 0;
     while reached.at < chunk.len() {
         reached = pass_chunk::<T>(chunk, pending, out, reached);

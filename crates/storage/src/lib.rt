@@ -118,6 +118,7 @@ pub fn insert_ranked<T: Copy, F: Fn(T) -> u8>(
     ensures { (value : T → ℕ) → ((y : T) (r : ℕ) → F.post rank y r → goes_behind (value x) (value y) ≡ nat_lt r own)
         → sorted.new ≡ take at sorted.old ++ insert_by value x (drop (at + 1) sorted.old) }
 {
+    // No `for`: what is passed tells how far it goes, and an iterator would borrow the list that is written.
     let mut place = at;
     while place + 1 < Word::LIMIT && rank(sorted[place + 1]) < own {
         sorted[place] = sorted[place + 1];

@@ -38,9 +38,16 @@ use Rattle.wordbook.proofs.Laws.{remove_makes_book}
 
 -- one answer only, with one output
 pub word_determined : (bytes : List ℕ) (start : ℕ) (before after final : List ℕ) (first second : Result (Perhaps RecordTold) Refusal)
+    → WordRight bytes start before after (outcome_by (tells_if_there record_told) first)
+    → WordRight bytes start before final (outcome_by (tells_if_there record_told) second)
+    → (outcome_by (tells_if_there record_told) first ≡ outcome_by (tells_if_there record_told) second) × (after ≡ final)
+word_determined bytes start before after final first second p q = (p.answer ∙ sym q.answer, p.output ∙ sym q.output)
+
+-- and so one record only, since no word has as many values as live adds
+pub record_determined : (bytes : List ℕ) (start : ℕ) (before after final : List ℕ) (first second : Result (Perhaps RecordTold) Refusal)
     → FewTold first → FewTold second → WordRight bytes start before after (outcome_by (tells_if_there record_told) first)
-    → WordRight bytes start before final (outcome_by (tells_if_there record_told) second) → (first ≡ second) × (after ≡ final)
-word_determined bytes start before after final first second few small p q = (word_once first second few small (p.answer ∙ sym q.answer), p.output ∙ sym q.output)
+    → WordRight bytes start before final (outcome_by (tells_if_there record_told) second) → first ≡ second
+record_determined bytes start before after final first second few small p q = word_once first second few small (p.answer ∙ sym q.answer)
 
 -- what is told of an entry says whether it is live: no word has as many values as live adds
 pub told_once : (e f : Entry) → GoodEntry e → GoodEntry f → entry_told e ≡ entry_told f
