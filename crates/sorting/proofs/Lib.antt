@@ -2,3 +2,4 @@ pub mod Only
 pub mod InOrder
 pub mod Sorted
 pub mod Tidied
+pub mod Merges
