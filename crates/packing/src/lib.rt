@@ -37,7 +37,8 @@ fn both(first: usize, second: usize) -> u64
     packed(0, second as u64, first as u64)
 }
 
-// A refusal, with a second number.
+// A refusal, with a second number. It stands apart in the compiled library, so that the choice among the refusals is stored once and not for each call.
+#[inline(never)]
 fn refused(refusal: Refusal, second: u64) -> u64
     ensures { result ≡ pack (answer (number_of refusal) second (place_of refusal)) }
 {
