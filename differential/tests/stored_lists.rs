@@ -30,6 +30,12 @@ const RULED: [&str; 3] = [RULES_OF, FILL, "recogniser::walk::answer_of"];
 /// Whether a value is foreign, asked where a word is refused.
 const FOREIGN_FROM: &str = "recogniser::foreign::foreign_from";
 
+/// Packs a refusal: its number and its place, which are looked up by the refusal.
+const REFUSED: &str = "packing::refused";
+
+/// The library's comparison of two lists.
+const LISTS: &str = "core::cmp::slices::RefSliceOrd::cmp";
+
 /// Code on the way from a call to the weights of heads, and what it may refer to: so many lists of
 /// medial weights, so many jump tables at most, and functions.
 type Way = (&'static str, usize, usize, &'static [&'static str]);
@@ -37,8 +43,13 @@ type Way = (&'static str, usize, usize, &'static [&'static str]);
 const WAYS: [Way; 4] = [
     (FILL, 1, 0, &[RULES_OF, FOREIGN_FROM, "memset"]),
     (WEIGH, 0, 0, &[FILL, FOREIGN_FROM, "storage::stored"]),
-    ("jogcairn_key", 0, 1, &[WEIGH, "memset", "memcpy"]),
-    (COMPARE, 0, 2, &[WEIGH, RULES_OF, FOREIGN_FROM, "storage::stored", "memset"]),
+    ("jogcairn_key", 0, 1, &[WEIGH, REFUSED, "memset", "memcpy"]),
+    (
+        COMPARE,
+        0,
+        2,
+        &[WEIGH, RULES_OF, FOREIGN_FROM, REFUSED, LISTS, "storage::stored", "memset", "memcpy"],
+    ),
 ];
 
 /// The ends of the ranges of heads. Code that names them all works out the weight of a head.
@@ -54,11 +65,14 @@ const MATCHING: [&str; 2] = ["syllable_text::part::put_part", "jogcairn_write"];
 
 /// What a program has of std to tell why a read or a write failed: its functions and texts, its kinds
 /// of errors by their numbers, and what only these lead to. No answer comes from there.
-const TELLING: [&str; 2] =
-    ["listing::running::fail", "std_io::io::error::Error::from_raw_os_error"];
+const TELLING: [&str; 3] = [
+    "listing::running::fail",
+    "listing::running::is_interrupted",
+    "std_io::io::error::Error::from_raw_os_error",
+];
 
-/// What is named there as what failed.
-const TOLD: [&str; 2] = ["standard input", "standard output"];
+/// What is named there as what failed, and how the answer to a line begins.
+const TOLD: [&str; 4] = ["standard input", "standard output", "OK ", "NO "];
 
 /// How many refusals there are (the variants of `Refusal` in crates/refusals/src/lib.rt): a call
 /// jumps by its refusal where it packs its answer.
@@ -77,9 +91,11 @@ const CHART: usize = 80;
 const ALIKE: [(usize, usize, usize); 3] =
     [(0x00, 0x20, 0x04), (0x23, 0x2A, 0x28), (0x40, 0x4F, 0x4E)];
 
-/// The function whose code a section is: each has one of its own, named after it.
+/// The function whose code a section is: each has one of its own, named after it, and a generic one
+/// after its types as well.
 fn function(section: &str) -> &str {
-    section.strip_prefix(".text.").unwrap_or(section)
+    let name = section.strip_prefix(".text.").unwrap_or(section);
+    name.split_once("::<").map_or(name, |it| it.0)
 }
 
 /// The function of whose `match` the compiler made this list; it numbers the lists.

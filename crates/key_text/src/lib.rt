@@ -69,7 +69,8 @@ fn put_hexadecimal(out: &mut [u8], at: usize, byte: u8) -> usize
     put(out, next, digit(byte % 16))
 }
 
-// Bytes in hexadecimal, one behind the other.
+// Bytes in hexadecimal, one behind the other. It stands apart in the compiled program, where it is a loop and no row of stores for each kind of element.
+#[inline(never)]
 fn put_bytes(out: &mut [u8], at: usize, bytes: &[u8]) -> usize
     requires { at + 2 * length bytes.now ≤ length out.old }
     ensures { Put out.old at (hexadecimals_of (length bytes.now) bytes.now 0) out.new result }

@@ -1,5 +1,7 @@
 // The running of a list: standard input to standard output, each by 64 KiB.
-ghost use Rattle.std.specs.Prelude.{◌≡◌, ◌≤◌, ◌<◌, length};
+ghost use Rattle.std.specs.Prelude.{◌≡◌, ◌≤◌, ◌<◌, true, length};
+ghost use Rattle.std.specs.IoError.{error_kind};
+ghost use Rattle.std.specs.declared.io.ErrorKind.TheVariants.{Interrupted};
 ghost use Rattle.listing.specs.Running.{bytes_of, ReadsOn, EndReady, Finishes, ChunkReady, ChunkAnswers};
 
 use line_printing::{Task, put_line};
@@ -54,6 +56,14 @@ fn fail(rt: &HostRuntime, what: &str, error: io::Error) {
     let _ = eprintln!(rt; "{what}: {error}");
 }
 
+// Whether a signal interrupted a call. It stands apart as `fail` does, since std tells it by its kinds of errors.
+#[inline(never)]
+fn is_interrupted(error: &io::Error) -> bool
+    ensures { (error_kind error.now ≡ Interrupted) → result ≡ true }
+{
+    error.kind() == ErrorKind::Interrupted
+}
+
 // How many bytes a read brought, or how it ended the reading: one that brings none has met the end of the input.
 fn bytes_of(answer: io::Result<usize>) -> Result<usize, End>
     ensures { result ≡ bytes_of answer }
@@ -72,7 +82,7 @@ fn read_chunk(rt: &HostRuntime, chunk: &mut [u8]) -> Input
 {
     for calls in (1..=CALLS).rev() {
         match rt.stdin().read(chunk) {
-            Err(error) if error.kind() == ErrorKind::Interrupted => {}
+            Err(error) if is_interrupted(&error) => {}
             answer => return Input { answer, calls },
         }
     }
@@ -98,7 +108,7 @@ fn write_whole(rt: &HostRuntime, bytes: &[u8]) -> usize
                 done += count;
                 continue;
             }
-            Err(error) if error.kind() == ErrorKind::Interrupted => continue,
+            Err(error) if is_interrupted(&error) => continue,
             Err(error) => error,
         };
         fail(rt, "standard output", error);
