@@ -1,5 +1,5 @@
 // The running of a list: standard input to standard output, each by 64 KiB.
-ghost use Rattle.std.specs.Prelude.{◌≡◌, ◌≤◌, ◌<◌, true, length};
+ghost use Rattle.std.specs.Prelude.{◌≡◌, ◌≤◌, ◌<◌, ◌↔◌, true, length};
 ghost use Rattle.std.specs.IoError.{error_kind};
 ghost use Rattle.std.specs.declared.io.ErrorKind.TheVariants.{Interrupted};
 ghost use Rattle.listing.specs.Running.{bytes_of, ReadsOn, EndReady, Finishes, ChunkReady, ChunkAnswers};
@@ -59,7 +59,7 @@ fn fail(rt: &HostRuntime, what: &str, error: io::Error) {
 // Whether a signal interrupted a call. It stands apart as `fail` does, since std tells it by its kinds of errors.
 #[inline(never)]
 fn is_interrupted(error: &io::Error) -> bool
-    ensures { (error_kind error.now ≡ Interrupted) → result ≡ true }
+    ensures { result ≡ true ↔ error_kind error.now ≡ Interrupted }
 {
     error.kind() == ErrorKind::Interrupted
 }
