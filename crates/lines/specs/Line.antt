@@ -1,4 +1,4 @@
--- Document 01, "Err because of what is handed in", refusals 1 and 7: the code values of a line of UTF-8 bytes.
+-- Document 01, "Refused because of what is handed in", refusals 1 and 7: the code values of a line of UTF-8 bytes.
 -- Assumes nothing.
 use Rattle.std.specs.Prelude.{◌≡◌, Bool, ◌&&◌, List, [], ◌∷◌, ◌++◌, ℕ, ◌+◌, ◌-◌, ◌*◌, ◌/◌, ◌%◌, ◌≤◌, ◌<◌, eqb, leb, length}
 use Rattle.letters.specs.Choice.{pick}
