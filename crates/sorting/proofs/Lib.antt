@@ -1,5 +1,9 @@
-pub mod Only
+pub mod Ordered
+pub mod Merges
+pub mod Keyed
+pub mod Turns
+pub mod Halves
+pub mod Rising
 pub mod InOrder
 pub mod Sorted
 pub mod Tidied
-pub mod Merges

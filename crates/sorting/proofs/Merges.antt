@@ -11,12 +11,10 @@ use Rattle.letters.specs.Choice.{pick}
 use Rattle.entries.specs.Rank.{insert}
 use Rattle.entries.proofs.Ranked.{length_insert}
 use Rattle.sorting.specs.Sorting.{in_order_onto, in_order, merged}
-
-true_not_false : {A : Type 0} → true ≡ false → A
-true_not_false e = let z : ◌≡◌ {A = ℕ} 0 1 = cc in let n : ⊥ = omega arith in absurd n
+use Rattle.sorting.proofs.Ordered.{true_not_false}
 
 module _ (less : ℕ → ℕ → Bool) where
-  insert_first : (e x : ℕ) (l : List ℕ) → less e x ≡ true → insert less e (x ∷ l) ≡ e ∷ x ∷ l
+  pub insert_first : (e x : ℕ) (l : List ℕ) → less e x ≡ true → insert less e (x ∷ l) ≡ e ∷ x ∷ l
   unfolding insert pick
   insert_first e x l q = ap (λ (t : Bool). pick t (e ∷ x ∷ l) (x ∷ insert less e l)) q
 

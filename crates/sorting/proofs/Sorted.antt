@@ -6,7 +6,7 @@ use mathlib.Core.List.{List, [], ◌∷◌, ◌++◌, map}
 use Prim.Native.Nat.{ℕ, ◌≤◌, ◌<◌}
 use native.Mathlib.Omega.{arith}
 use lib.ListN.{length, take, drop, length-append}
-use lib.Seq.{length-sets, length-take-le, take_at, take-append-le}
+use lib.Seq.{length-sets, length-take-le, take_at, drop_at, take-append-le}
 use Rattle.memory.proofs.Stores.{sets_front}
 use Rattle.letters.specs.Choice.{pick}
 use Rattle.formula.specs.Lists.{filtered}
@@ -19,18 +19,9 @@ use Rattle.entries.specs.Map.{live_ones}
 use Rattle.book_keys.specs.Filing.{AllKeyed, start_of, FiledRight}
 use Rattle.book_fitting.specs.Fitting.{fits_key, has_prefix, KeptRight}
 use Rattle.book_fitting.proofs.Fits.{kept_entries}
-use Rattle.std.specs.List.Sorted.{IsPermutation, IsSortedBy}
-use Rattle.std.specs.Ordering.{is_lt}
-use Rattle.std.specs.Cmp.{IsStrictWeakOrder}
-use Rattle.std.specs.Fn.{Called, ComparesAs}
-use Rattle.std.specs.declared.cmp.Ordering.{Ordering}
-use denote.Param.Members.{Mut}
-use denote.Ref.{Bor}
-use Rattle.book_order.proofs.Comparing.{starts_ordered}
-use Rattle.std.proofs.lemmas.Fn.{always_returns_same}
-use Rattle.book_order.specs.Order.{filed_order}
+use Rattle.sorting.specs.Sorting.{in_order, goes_before}
 use Rattle.sorting.specs.Passing.{starts_passing, PutsPassing}
-use Rattle.sorting.proofs.InOrder.{passing_count, sorted_starts}
+use Rattle.sorting.proofs.InOrder.{passing_in_order, passing_count}
 
 keyed_filtered : (bytes keys : List ℕ) (test : ℕ → Bool) (l : List ℕ) → AllKeyed bytes keys l → AllKeyed bytes keys (filtered test l)
 unfolding filtered pick
@@ -79,6 +70,9 @@ module _ {bytes keys_before starts_before_lem keys filed kept prefix : List ℕ}
         ap (filtered (has_prefix keys prefix)) (f.filed list is)
         ∙ kept_entries bytes keys prefix list is (subst (AllKeyed bytes keys) (f.filed list is) f.keyed)
 
+    sorted_chosen : in_order (goes_before bytes) chosen ≡ starts_passing (fits_key prefix) list
+    sorted_chosen = ap (in_order (goes_before bytes)) chosen_entries ∙ passing_in_order bytes list is (fits_key prefix)
+
     passing_many : length (starts_passing (fits_key prefix) list) ≡ count
     passing_many = passing_count bytes list is (fits_key prefix) ∙ ap length (sym chosen_entries) ∙ sym k.counted
 
@@ -87,24 +81,27 @@ module _ {bytes keys_before starts_before_lem keys filed kept prefix : List ℕ}
       subst (λ (n : ℕ). Puts (starts_passing (fits_key prefix) list) starts starts (refuses 5 n)) (passing_many list is)
       (no_room (omega (arith, passing_many list is)) refl)
 
-  -- what is sorted and put at the front, the rest untouched, are those that pass
-  pub put_passing : (starts after put : List ℕ) → count ≤ length starts → IsPermutation (take count (kept ++ drop live filed)) after
-      → IsSortedBy (λ (x y : ℕ). is_lt (filed_order bytes keys x y)) after → put ≡ after ++ drop count starts
-      → PutsPassing bytes (fits_key prefix) starts put (accepts count)
-  put_passing starts after put fits moved up e list is =
-      let many = passing_many list is in
-      let passing : after ≡ starts_passing (fits_key prefix) list =
-      sorted_starts bytes keys list is (fits_key prefix) chosen after (chosen_entries list is) chosen_keyed
-      (subst (λ (l : List ℕ). IsPermutation l after) (kept_front (drop live filed)) moved) up in
-      subst (λ (n : ℕ). Puts (starts_passing (fits_key prefix) list) starts put (accepts n)) many
-      (whole (omega (arith, many))
-      (e ∙ (λ i. passing i ++ drop count starts) ∙ ap (λ (n : ℕ). starts_passing (fits_key prefix) list ++ drop n starts) (sym many)))
+  -- they are copied to the front, the rest untouched
+  module _ (rest starts copied front : List ℕ) (fits : count ≤ length starts) (e : front ≡ take count (kept ++ rest)) (c : copied ≡ front ++ drop count starts) where
+    copied_there : copied ≡ chosen ++ drop count starts
+    copied_there = c ∙ ap (λ (l : List ℕ). l ++ drop count starts) (e ∙ kept_front rest)
 
--- what the library's sort leaves is in the order by which each call of the closure answers
-pub sorted_up : {F : Type 0} {g : Mut F (Bor ℕ × (Bor ℕ × Unit {0})) Ordering} {f : F} (bytes keys after : List ℕ)
-    → ((lt : ℕ → ℕ → Bool) → IsStrictWeakOrder lt → ComparesAs g lt f → IsSortedBy lt after)
-    → ((a : Bor ℕ × (Bor ℕ × Unit {0})) (r : Ordering) (f' : F) → Called g f a r f' → (r ≡ filed_order bytes keys a.0.now a.1.0.now) × (f' ≡ f))
-    → IsSortedBy (λ (x y : ℕ). is_lt (filed_order bytes keys x y)) after
-sorted_up {g = g} {f = f} bytes keys after up answers =
-    up (λ (x y : ℕ). is_lt (filed_order bytes keys x y)) (starts_ordered bytes keys)
-    (always_returns_same g (λ a r. is_lt r ≡ is_lt (filed_order bytes keys a.0.now a.1.0.now)) f (λ a r f' k. (ap is_lt (answers a r f' k).0, (answers a r f' k).1)))
+    copied_front : take count copied ≡ chosen
+    copied_front = ap (take count) copied_there ∙ take_at chosen (drop count starts) count (sym k.counted)
+
+    pub copied_keyed : AllKeyed bytes keys (take count copied)
+    copied_keyed = subst (AllKeyed bytes keys) (sym copied_front) chosen_keyed
+
+    pub copied_count : length (take count copied) ≡ count
+    copied_count = ap length copied_front ∙ sym k.counted
+
+    -- and sorted there
+    pub put_passing : (after : List ℕ) → after ≡ in_order (goes_before bytes) (take count copied) ++ drop count copied → PutsPassing bytes (fits_key prefix) starts after (accepts count)
+    put_passing after s list is =
+        let many = passing_many list is in
+        let sorted_front : in_order (goes_before bytes) (take count copied) ≡ starts_passing (fits_key prefix) list =
+        ap (in_order (goes_before bytes)) copied_front ∙ sorted_chosen list is in
+        let untouched : drop count copied ≡ drop count starts = ap (drop count) copied_there ∙ drop_at chosen (drop count starts) count (sym k.counted) in
+        subst (λ (n : ℕ). Puts (starts_passing (fits_key prefix) list) starts after (accepts n)) many
+        (whole (omega (arith, many))
+        (s ∙ (λ i. sorted_front i ++ untouched i) ∙ ap (λ (n : ℕ). starts_passing (fits_key prefix) list ++ drop n starts) (sym many)))

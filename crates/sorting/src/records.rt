@@ -4,9 +4,9 @@ ghost use Rattle.entries.specs.Book.{Opened};
 ghost use Rattle.book_fitting.specs.Fitting.{fits_key};
 ghost use Rattle.sorting.specs.Passing.{PutsPassing};
 
+use crate::merging::sort;
 use book_fitting::keep_fitting;
 use book_keys::{KEY_ROOM, MOST_LIVE, file_records};
-use book_order::order;
 use refusals::Refusal;
 
 // Puts the starts of the live records whose weights begin with these, in word order, at the front of `starts`, where there is room for them.
@@ -26,8 +26,7 @@ pub fn sort_records(
     if starts.len() < count {
         return Err(Refusal::OutputTooShort(count));
     }
-    let fitting = &mut found[..count];
-    fitting.sort_unstable_by(|first, second| order(book, &keys, *first, *second));
-    starts[..count].copy_from_slice(fitting);
+    starts[..count].copy_from_slice(&found[..count]);
+    sort(book, &keys, &mut starts[..count], &mut found);
     Ok(count)
 }

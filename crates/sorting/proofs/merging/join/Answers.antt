@@ -1,0 +1,24 @@
+-- `sorting::merging::join` meets its contract: what is copied back is the front of `room`, which is the merging of both parts; or they are in order as they
+-- stand. Assumes nothing.
+use mathlib.Core.Path.{sym, ◌∙◌}
+use native.Mathlib.Omega.{arith}
+use Prim.Native.Nat.{◌-◌}
+use Rattle.book_keys.proofs.Live.{keyed_at}
+use Rattle.sorting.specs.Sorting.{goes_before}
+use Rattle.sorting.proofs.Ordered.{goes_asymmetric, goes_level}
+use Rattle.sorting.proofs.Rising.{parts_as_stand}
+use Rattle.sorting.proofs.merging.join.Goals as goal
+
+pub goes_before-requires : goal.goes_before-requires
+goes_before-requires c =
+    let r = c.requires.0 in
+    let starts = c.args.starts.now in
+    let keyed = r.mergeable.sortable.keyed in
+    (keyed_at _ _ starts c.args.middle keyed r.second_there, keyed_at _ _ starts (c.args.middle - 1) keyed (omega (arith, r.second_there)))
+
+pub returns-else-goes_before : goal.returns-else-goes_before
+returns-else-goes_before c =
+    let r = c.requires.0 in
+    let bytes = c.args.book.now in
+    parts_as_stand (goes_before bytes) (goes_asymmetric bytes) (goes_level bytes) c.args.starts.now c.args.middle r.first_there r.second_there r.rises
+    (sym c.goes_before.ensures ∙ c.if-goes_before.false)
