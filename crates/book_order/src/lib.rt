@@ -1,25 +1,36 @@
 // Two records of a book in word order.
 #![tactic(auto)]
 
-ghost use Rattle.std.specs.Prelude.{◌≡◌};
-ghost use Rattle.weighing.specs.Order.{order_values, front_of, order};
+ghost use Rattle.std.specs.Prelude.{◌≡◌, ◌+◌, ◌≤◌, length, get_or};
+ghost use Rattle.weighing.specs.Keys.{used_bytes};
+ghost use Rattle.weighing.specs.Order.{order_values, front_of};
+ghost use Rattle.entries.specs.Limits.{book_limit, head_size};
 ghost use Rattle.entries.specs.Entries.{entry_at};
-ghost use Rattle.book_keys.specs.Filing.{HasKey};
-ghost use Rattle.book_order.specs.Order.{file_of, bytes_at, filed_order};
+ghost use Rattle.book_keys.specs.Filing.{key_room, weights_at, HasKey};
+ghost use Rattle.book_order.specs.Order.{bytes_at, before};
 
 use book_frame::HEAD;
-use book_keys::{part, weights_at};
+use book_keys::KEY_ROOM;
+use formula::Word;
 use std::cmp::Ordering;
 
+// The weights of the key that is filed for the record at a start.
+fn filed_weights(keys: &[u8; KEY_ROOM], start: usize) -> &[u8]
+    requires { used_bytes start + (1 + used_bytes (get_or keys.now (used_bytes start) 0)) ≤ key_room }
+    ensures { result.now ≡ weights_at keys.now start }
+{
+    let from = Word::WEIGHTS * start;
+    let count = usize::from(keys[from]);
+    &keys[from + 1..from + 1 + Word::WEIGHTS * count]
+}
+
 // The bytes of the word of the record at a start.
-fn bytes_at(book: &[u8], start: u16) -> &[u8]
+fn word_bytes(book: &[u8], start: usize) -> &[u8]
+    requires { (length book.now ≤ book_limit) × (start + head_size + get_or book.now (start + 2) 0 ≤ length book.now) }
     ensures { result.now ≡ bytes_at book.now start }
 {
-    let at = usize::from(start);
-    match book.get(at + 2) {
-        Some(count) => part(book, at + HEAD, usize::from(*count)),
-        None => &[],
-    }
+    let count = usize::from(book[start + 2]);
+    &book[start + HEAD..start + HEAD + count]
 }
 
 // Eight bytes as one number, the first highest, which the compiler loads at once.
@@ -53,14 +64,17 @@ fn order_keys(first: &[u8], second: &[u8]) -> Ordering
     }
 }
 
-// The order of the records at two starts: by the weights of their keys, and where these are the same by the values of their words.
-pub fn order(book: &[u8], keys: &[u8], first: u16, second: u16) -> Ordering
-    ensures filed { result ≡ filed_order book.now keys.now first second }
-    ensures by_words { HasKey book.now keys.now first → HasKey book.now keys.now second → result ≡ order (file_of (entry_at book.now first)) (file_of (entry_at book.now second)) }
+// Whether the record at one start stands before the record at another in word order: by the weights of their keys, and where these are the same by the
+// values of their words.
+pub fn is_before(book: &[u8], keys: &[u8; KEY_ROOM], first: usize, second: usize) -> bool
+    requires { (length book.now ≤ book_limit) × HasKey book.now keys.now first × HasKey book.now keys.now second }
+    ensures { result ≡ before (entry_at book.now first) (entry_at book.now second) }
 {
-    let order = order_keys(weights_at(keys, first), weights_at(keys, second));
-    if order.is_ne() {
-        return order;
+    let by_weights = order_keys(filed_weights(keys, first), filed_weights(keys, second));
+    if by_weights.is_ne() {
+        return by_weights.is_lt();
     }
-    bytes_at(book, first).cmp(bytes_at(book, second))
+    word_bytes(book, first)
+        .cmp(word_bytes(book, second))
+        .is_lt()
 }

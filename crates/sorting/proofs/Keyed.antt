@@ -50,4 +50,4 @@ module _ (bytes keys : List ℕ) where
 
 -- other starts whose keys are filed in the same place
 pub part_sortable : {bytes keys l m : List ℕ} → Sortable bytes keys l → AllKeyed bytes keys m → Sortable bytes keys m
-part_sortable s a = record { keyed = a }
+part_sortable s a = record { short = s.short; keyed = a }

@@ -4,6 +4,7 @@ use Rattle.std.specs.Prelude.{◌≡◌, Bool, true, false, List, [], ◌∷◌,
 use Rattle.std.proofs.Math.Seq.{slice}
 use Rattle.letters.specs.Choice.{pick}
 use Rattle.formula.proofs.Lists.{All}
+use Rattle.entries.specs.Limits.{book_limit}
 use Rattle.entries.specs.Entries.{entry_at}
 use Rattle.entries.specs.Rank.{insert}
 use Rattle.book_keys.specs.Filing.{AllKeyed}
@@ -62,6 +63,7 @@ merged_front bytes starts middle room = parts_merged bytes starts middle ++ drop
 
 -- starts of records whose keys are filed
 pub record Sortable (bytes keys starts : List ℕ) : Type 0 where
+  pub short : length bytes ≤ book_limit
   pub keyed : AllKeyed bytes keys starts
 
 -- such starts, in two parts

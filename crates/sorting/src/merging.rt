@@ -1,18 +1,19 @@
 // A merge sort of the starts of records, by their words.
 ghost use Rattle.std.specs.Prelude.{◌≡◌, ◌≤◌, ◌<◌, length, take};
+ghost use Rattle.entries.specs.Limits.{book_limit};
 ghost use Rattle.book_keys.specs.Filing.{HasKey};
 ghost use Rattle.sorting.specs.Sorting.{in_order, goes_before, falls, takes_next, parts_merged, merged_front};
 ghost use Rattle.sorting.specs.Sorting.{Sortable, Mergeable, MergeReady, Joinable};
 
 use book_keys::KEY_ROOM;
-use book_order::order;
+use book_order::is_before;
 
 // Whether the record at the first start goes before the one at the second.
 fn goes_before(book: &[u8], keys: &[u8; KEY_ROOM], first: u16, second: u16) -> bool
-    requires { HasKey book.now keys.now first × HasKey book.now keys.now second }
+    requires { (length book.now ≤ book_limit) × HasKey book.now keys.now first × HasKey book.now keys.now second }
     ensures { result ≡ goes_before book.now first second }
 {
-    order(book, keys, first, second).is_lt()
+    is_before(book, keys, usize::from(first), usize::from(second))
 }
 
 // Whether the next start to take is the one at `second`: where the first part is at its end, or the record at `second` goes before.

@@ -9,4 +9,4 @@ pub goes_before-requires : goal.goes_before-requires
 goes_before-requires c =
     let keyed = c.requires.keyed in
     let starts = c.args.starts.now in
-    (keyed_at _ _ starts c.loop-next.next keyed (search rules), keyed_at _ _ starts (c.loop-next.next - 1) keyed (search rules))
+    (c.requires.short, keyed_at _ _ starts c.loop-next.next keyed (search rules), keyed_at _ _ starts (c.loop-next.next - 1) keyed (search rules))

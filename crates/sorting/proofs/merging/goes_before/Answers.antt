@@ -1,11 +1,8 @@
--- `sorting::merging::goes_before` meets its contract: of records whose keys are filed the comparison is that of their words.
--- Assumes nothing.
-use mathlib.Core.Path.{ap, ◌∙◌}
-use Rattle.book_order.specs.Order.{is_less, before}
-use Rattle.book_order.proofs.Comparing.{less_told}
+-- `sorting::merging::goes_before` meets its contract: it is the comparison of the records. Assumes nothing.
+use mathlib.Core.Path.{◌∙◌}
 use Rattle.sorting.specs.Sorting.{goes_before}
 use Rattle.sorting.proofs.merging.goes_before.Goals as goal
 
 pub returns : goal.returns
-unfolding goes_before before
-returns c = c.is_lt.ensures ∙ less_told c.order.result ∙ ap is_less (c.order.ensures.by_words c.requires.0 c.requires.1)
+unfolding goes_before
+returns c = c.is_before.ensures ∙ (λ i. goes_before c.args.book.now (c.from.ensures i) (c.from-2.ensures i))

@@ -23,7 +23,7 @@ pub goes_before-requires : goal.goes_before-requires
 goes_before-requires c =
     let keyed = c.requires.mergeable.sortable.keyed in
     let starts = c.args.starts.now in
-    (keyed_at _ _ starts c.args.second keyed (search rules), keyed_at _ _ starts c.args.first keyed (search rules))
+    (c.requires.mergeable.sortable.short, keyed_at _ _ starts c.args.second keyed (search rules), keyed_at _ _ starts c.args.first keyed (search rules))
 
 pub returns : goal.returns
 returns c =

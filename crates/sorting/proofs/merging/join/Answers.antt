@@ -14,7 +14,7 @@ goes_before-requires c =
     let r = c.requires.0 in
     let starts = c.args.starts.now in
     let keyed = r.mergeable.sortable.keyed in
-    (keyed_at _ _ starts c.args.middle keyed r.second_there, keyed_at _ _ starts (c.args.middle - 1) keyed (omega (arith, r.second_there)))
+    (r.mergeable.sortable.short, keyed_at _ _ starts c.args.middle keyed r.second_there, keyed_at _ _ starts (c.args.middle - 1) keyed (omega (arith, r.second_there)))
 
 pub returns-else-goes_before : goal.returns-else-goes_before
 returns-else-goes_before c =

@@ -29,7 +29,7 @@ sort-requires c =
     let kept = c.keep_fitting-count.ensures in
     let room = c.if-starts-count.false in
     let copied = c.copy_from_slice.ensures.after in (
-      record { keyed = copied_keyed filed kept _ c.args.starts.now _ _ room copied refl },
+      record { short = c.requires.is_book.short; keyed = copied_keyed filed kept _ c.args.starts.now _ _ room copied refl },
       omega (arith, copied_count filed kept _ c.args.starts.now _ _ room copied refl, kept_fits filed kept),
     )
 
