@@ -7,7 +7,10 @@ pub fn put_all<T: Copy>(values: &[T], output: &mut [T], at: usize)
     requires { at + length values.now ≤ length output.old }
     ensures { output.new ≡ sets output.old at values.now }
 {
-    output[at..at + values.len()].copy_from_slice(values);
+    // A loop: by the library's copy from one lent list to another the archive would need `memmove` from outside.
+    for (done, value) in values.iter().enumerate() {
+        output[at + done] = *value;
+    }
 }
 
 // Moves bytes down to an earlier place of the same slice.
