@@ -8,6 +8,9 @@ ghost use Rattle.sorting.specs.Sorting.{Sortable, Mergeable, MergeReady, Joinabl
 use book_keys::KEY_ROOM;
 use book_order::is_before;
 
+// So few starts are merged without a look whether they are in order as they stand.
+const FEW: usize = 8;
+
 // Whether the record at the first start goes before the one at the second.
 fn goes_before(book: &[u8], keys: &[u8; KEY_ROOM], first: u16, second: u16) -> bool
     requires { (length book.now ≤ book_limit) × HasKey book.now keys.now first × HasKey book.now keys.now second }
@@ -60,7 +63,7 @@ fn join(book: &[u8], keys: &[u8; KEY_ROOM], starts: &mut [u16], middle: usize, r
     requires { Joinable book.now keys.now starts.old middle × (length starts.old ≤ length room.old) }
     ensures { starts.new ≡ parts_merged book.now starts.old middle }
 {
-    if goes_before(book, keys, starts[middle], starts[middle - 1]) {
+    if starts.len() <= FEW || goes_before(book, keys, starts[middle], starts[middle - 1]) {
         merge(book, keys, starts, middle, room);
         let count = starts.len();
         starts.copy_from_slice(&room[..count]);
