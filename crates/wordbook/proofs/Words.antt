@@ -36,18 +36,25 @@ use Rattle.book_word.specs.WordAt.{record_told, FewTold, entry_starting, marked_
 use Rattle.wordbook.specs.Calls.{CallAnswers, word_refused, word_stored, RemovePromise}
 use Rattle.wordbook.proofs.Laws.{remove_makes_book}
 
--- one answer only, with one output
-pub word_determined : (bytes : List ℕ) (start : ℕ) (before after final : List ℕ) (first second : Result (Perhaps RecordTold) Refusal)
+-- what is told is one, with one output, by the first clause of the promise alone
+pub word_told_once : (bytes : List ℕ) (start : ℕ) (before after final : List ℕ) (first second : Result (Perhaps RecordTold) Refusal)
     → WordRight bytes start before after (outcome_by (tells_if_there record_told) first)
     → WordRight bytes start before final (outcome_by (tells_if_there record_told) second)
     → (outcome_by (tells_if_there record_told) first ≡ outcome_by (tells_if_there record_told) second) × (after ≡ final)
-word_determined bytes start before after final first second p q = (p.answer ∙ sym q.answer, p.output ∙ sym q.output)
+word_told_once bytes start before after final first second p q = (p.answer ∙ sym q.answer, p.output ∙ sym q.output)
 
 -- and so one record only, since no word has as many values as live adds
 pub record_determined : (bytes : List ℕ) (start : ℕ) (before after final : List ℕ) (first second : Result (Perhaps RecordTold) Refusal)
     → FewTold first → FewTold second → WordRight bytes start before after (outcome_by (tells_if_there record_told) first)
     → WordRight bytes start before final (outcome_by (tells_if_there record_told) second) → first ≡ second
 record_determined bytes start before after final first second few small p q = word_once first second few small (p.answer ∙ sym q.answer)
+
+-- one answer only, with one output, by the whole promise
+pub word_determined : (bytes : List ℕ) (start : ℕ) (before after final : List ℕ) (first second : Result (Perhaps RecordTold) Refusal)
+    → WordRight bytes start before after (outcome_by (tells_if_there record_told) first) → FewTold first
+    → WordRight bytes start before final (outcome_by (tells_if_there record_told) second) → FewTold second → (first ≡ second) × (after ≡ final)
+word_determined bytes start before after final first second p few q small =
+    (record_determined bytes start before after final first second few small p q, p.output ∙ sym q.output)
 
 -- what is told of an entry says whether it is live: no word has as many values as live adds
 pub told_once : (e f : Entry) → GoodEntry e → GoodEntry f → entry_told e ≡ entry_told f
