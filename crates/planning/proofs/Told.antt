@@ -1,9 +1,11 @@
--- What add tells is told of one record alone, and its preview tells beside it what the answer has: the start, and whether add would tidy.
+-- What add tells is told of one record alone and is no refusal, so answers with equal outcomes are equal; and its preview tells beside it what the answer
+-- has: the start, and whether add would tidy.
 -- Assumes nothing.
 use Rattle.std.proofs.Common.{◌≡◌, refl, Bool, true, false, ℕ, eqb, Ok, Err, arith}
 use Rattle.std.specs.Prelude.{Result}
 use Rattle.refusals.specs.declared.Refusal.{Refusal}
 use Rattle.refusals.specs.Outcome.{Outcome, refuses, outcome_by}
+use Rattle.refusals.proofs.Laws.{answer_once}
 use Rattle.planning.specs.declared.Added.{Added}
 use Rattle.planning.specs.Plan.{added_told, tidied_told}
 use Rattle.planning.specs.Preview.{PreviewOutcome, preview_of, preview_outcome}
@@ -23,6 +25,9 @@ added_once first second e =
 
 pub added_no_refusal : (added : Added) (number place : ℕ) → added_told added ≡ refuses number place → ⊥
 added_no_refusal added number place e = let z : ◌≡◌ {A = ℕ} 0 1 = cc in omega (arith, z)
+
+pub added_answer_once : (first second : Result Added Refusal) → outcome_by added_told first ≡ outcome_by added_told second → first ≡ second
+added_answer_once = answer_once added_told added_once added_no_refusal
 
 tidies_told : (tidied : Bool) → tidied ≡ eqb (tidied_told tidied) 1
 tidies_told true = refl

@@ -3,3 +3,4 @@ pub mod Recorded
 pub mod Parted
 pub mod Joined
 pub mod Determined
+pub mod Told

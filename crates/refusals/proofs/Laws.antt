@@ -1,5 +1,5 @@
--- Number and place determine the refusal: both give it back, the number as the index of its variant. So an outcome determines an answer and an answer on two
--- words.
+-- Number and place determine the refusal: both give it back, the number as the index of its variant. So an outcome determines an answer, one of what there may
+-- be nothing of, and an answer on two words.
 -- Assumes nothing.
 use mathlib.Core.Path.{◌≡◌, refl, sym, ap}
 use mathlib.Core.List.{[], ◌∷◌}
@@ -14,8 +14,8 @@ use Rattle.std.specs.declared.option.Option.TheVariants.{Some, None}
 use Rattle.refusals.specs.Refusal.{number_of, place_of}
 use Rattle.refusals.specs.declared.PairRefusal.{PairRefusal}
 use Rattle.refusals.specs.declared.PairRefusal.TheVariants.{First, Second}
-use Rattle.refusals.specs.Outcome.{Outcome, absent, refuses, outcome_by, outcome_of, tells_if_there}
-use Rattle.refusals.specs.Pair.{PairOutcome, tells, pair_outcome_by}
+use Rattle.refusals.specs.Outcome.{Outcome, accepts, absent, refuses, outcome_by, outcome_of, tells_if_there}
+use Rattle.refusals.specs.Pair.{tells, pair_outcome_by}
 
 -- the refusal of a number and a place; `NotLive` stands where there is no refusal, at 0, 9, 10 and 16 to 20
 refusal_of : ℕ → ℕ → Refusal
@@ -72,6 +72,29 @@ module _ {A : Type 0} (tells : A → Outcome) (once : (a b : A) → tells a ≡ 
   tells_once (Some a) None e = absurd (there a e)
   tells_once None (Some b) e = absurd (there b (sym e))
   tells_once None None e = refl
+
+  -- and so are answers, where what is there is no refusal
+  module _ (no_refusal : (a : A) (number place : ℕ) → tells a ≡ refuses number place → ⊥) where
+    told_no_refusal : (a : Option A) (number place : ℕ) → tells_if_there tells a ≡ refuses number place → ⊥
+    told_no_refusal (Some a) number place e = no_refusal a number place e
+    told_no_refusal None number place e = cc
+
+    pub answer_there_once : (a b : Result (Option A) Refusal) → outcome_by (tells_if_there tells) a ≡ outcome_by (tells_if_there tells) b → a ≡ b
+    answer_there_once = answer_once (tells_if_there tells) tells_once told_no_refusal
+
+-- a number is told of one number alone, and is neither nothing nor a refusal
+pub accepts_once : (n m : ℕ) → accepts n ≡ accepts m → n ≡ m
+accepts_once n m e = cc
+
+pub accepts_not_absent : (n : ℕ) → accepts n ≡ absent → ⊥
+accepts_not_absent n e = cc
+
+pub accepts_no_refusal : (n number place : ℕ) → accepts n ≡ refuses number place → ⊥
+accepts_no_refusal n number place e = cc
+
+-- so answers of a number, where there may be none, with equal outcomes are equal
+pub counted_there_once : (a b : Result (Option ℕ) Refusal) → outcome_by (tells_if_there accepts) a ≡ outcome_by (tells_if_there accepts) b → a ≡ b
+counted_there_once = answer_there_once accepts accepts_once accepts_not_absent accepts_no_refusal
 
 -- answers on two words with equal outcomes are equal, where a number stands for one thing alone
 module _ {A : Type 0} (number : A → ℕ) (one : (a b : A) → number a ≡ number b → a ≡ b) where

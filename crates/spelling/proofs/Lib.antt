@@ -6,3 +6,4 @@ pub mod Laws
 pub mod Longest
 pub mod RoundTrip
 pub mod Earlier
+pub mod Told

@@ -7,7 +7,7 @@ use native.Mathlib.Omega.{arith}
 use Rattle.refusals.specs.Outcome.{Outcome, refuses, outcome_by, outcome_of}
 use Rattle.std.specs.declared.result.Result.{Result}
 use Rattle.refusals.specs.declared.Refusal.{Refusal}
-use Rattle.refusals.proofs.Laws.{counted_once, answer_once}
+use Rattle.refusals.proofs.Laws.{counted_once}
 use Rattle.refusals.proofs.Determined.{Same}
 use Rattle.storage.specs.Stored.{stored_form}
 use Rattle.normaliser.proofs.Determined.{store_refused_alike}
@@ -15,7 +15,7 @@ use Rattle.entries.specs.Entries.{entries}
 use Rattle.entries.specs.Outcome.{check_of, find_of}
 use Rattle.lookup.specs.declared.Found.{Found}
 use Rattle.lookup.specs.Look.{found_told}
-use Rattle.lookup.proofs.Told.{found_once, found_no_refusal}
+use Rattle.lookup.proofs.Told.{found_answer_once}
 use Rattle.tidying.specs.Tidy.{TidyRight}
 use Rattle.book_change.specs.Written.{bytes_added, bytes_removed}
 use Rattle.ranking.specs.Rank.{rank_of}
@@ -41,11 +41,11 @@ module _ (book : List ℕ) where
   check_determined a b e f = counted_once a b (e ∙ sym f)
 
   pub rank_determined : (number : ℕ) (a b : Result Found Refusal) → outcome_by found_told a ≡ rank_of (entries book) number → outcome_by found_told b ≡ rank_of (entries book) number → a ≡ b
-  rank_determined number a b e f = answer_once found_told found_once found_no_refusal a b (e ∙ sym f)
+  rank_determined number a b e f = found_answer_once a b (e ∙ sym f)
 
   pub find_determined : (word : List ℕ) (a b : Result Found Refusal) → CallAnswers word (find_of (entries book) (stored_form word)) (outcome_by found_told a)
       → CallAnswers word (find_of (entries book) (stored_form word)) (outcome_by found_told b) → a ≡ b
-  find_determined word a b c d = answer_once found_told found_once found_no_refusal a b (call_alike word (find_of (entries book) (stored_form word)) (outcome_by found_told a) (outcome_by found_told b) c d)
+  find_determined word a b c d = found_answer_once a b (call_alike word (find_of (entries book) (stored_form word)) (outcome_by found_told a) (outcome_by found_told b) c d)
 
 pub tidy_determined : (before after final : List ℕ) (first second : Result ℕ Refusal) → TidyRight before after (outcome_of first) → TidyRight before final (outcome_of second)
     → (first ≡ second) × (after ≡ final)

@@ -9,7 +9,6 @@ use lib.ListN.{length}
 use Rattle.refusals.specs.Outcome.{Outcome, accepts_both, refuses, outcome_by}
 use Rattle.std.specs.declared.result.Result.{Result}
 use Rattle.refusals.specs.declared.Refusal.{Refusal}
-use Rattle.refusals.proofs.Laws.{answer_once}
 use Rattle.storage.specs.Stored.{stored_form}
 use Rattle.entries.specs.Entries.{Entry, Entries, book, entries}
 use Rattle.entries.specs.Outcome.{finds, find_of, add_of}
@@ -18,7 +17,7 @@ use Rattle.tidying.specs.Tidy.{TidyRight}
 use Rattle.planning.specs.Preview.{PreviewOutcome, start_of, tidies_of, preview_of, preview_outcome, start_shown, tidies_shown}
 use Rattle.planning.specs.declared.Added.{Added}
 use Rattle.planning.specs.Plan.{added_told}
-use Rattle.planning.proofs.Told.{added_once, added_no_refusal}
+use Rattle.planning.proofs.Told.{added_answer_once}
 use Rattle.book_change.specs.Written.{bytes_added}
 use Rattle.book_change.proofs.Fitting.{Fitting, added_fitting}
 use Rattle.wordbook.specs.Calls.{WordStored, CallAnswers, AddAnswers, AddPromise, PreviewPromise}
@@ -28,7 +27,7 @@ use Rattle.wordbook.proofs.Room.{add_as_tidied}
 
 -- previews that come to the same are the same
 pub preview_once : (first second : Result Added Refusal) → preview_outcome first ≡ preview_outcome second → first ≡ second
-preview_once first second e = answer_once added_told added_once added_no_refusal first second (ap (λ (o : PreviewOutcome). o.answer) e)
+preview_once first second e = added_answer_once first second (ap (λ (o : PreviewOutcome). o.answer) e)
 
 -- the add that a preview foresees: each law of add holds of it
 pub foreseen : (word before : List ℕ) (stock : ℕ) (answer : Outcome) → AddAnswers word stock before answer
@@ -50,7 +49,7 @@ module _ (word : List ℕ) (stock : ℕ) (bytes shown : List ℕ) (preview : Res
       let answer : outcome_by added_told preview ≡ outcome_by added_told reply =
       call_alike word _ _ _ p.answers (subst (λ (b : List ℕ). AddAnswers word stock b (outcome_by added_told reply)) same q.answers) in
       let tells : preview_outcome preview ≡ preview_of (outcome_by added_told reply) = p.tells ∙ ap preview_of answer in (
-        answer_once added_told added_once added_no_refusal preview reply answer,
+        added_answer_once preview reply answer,
         ap (λ (o : PreviewOutcome). o.start) tells,
         ap (λ (o : PreviewOutcome). o.tidies) tells,
         p.bytes,
