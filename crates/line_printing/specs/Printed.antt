@@ -1,6 +1,6 @@
 -- Document 01, "The program `wordlist`", and the program `labels` beside it: what is printed for a line, by what is asked of it.
 -- Assumes nothing.
-use Rattle.std.specs.Prelude.{List, [], ◌∷◌, ◌++◌, ℕ, ◌+◌, ◌<◌, take}
+use Rattle.std.specs.Prelude.{◌≡◌, List, [], ◌∷◌, ◌++◌, ℕ, ◌+◌, ◌<◌, take}
 use Rattle.formula.specs.Limits.{line_limit}
 use Rattle.key_text.specs.Text.{decimal_of, decimal_limit}
 use Rattle.answer_text.specs.Answer.{answer_text_limit}
@@ -9,6 +9,10 @@ use Rattle.memory.specs.Put.{Written}
 -- the first bytes of a line that is too long are answered as the line
 abbrev pub Keeps : (List ℕ → List ℕ → Type 0) → Type 0
 Keeps Answers = (most : ℕ) → line_limit < most → (line text : List ℕ) → Answers (take most line) text → Answers line text
+
+-- a line has one answer
+abbrev pub Once : (List ℕ → List ℕ → Type 0) → Type 0
+Once Answers = (line first second : List ℕ) → Answers line first → Answers line second → first ≡ second
 
 -- "with one space between fields and 0A at the end: line number from 1", and then the answer
 unfoldable pub printed : ℕ → List ℕ → List ℕ

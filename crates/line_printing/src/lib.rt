@@ -5,9 +5,11 @@ ghost use Rattle.std.specs.Prelude.{List, ℕ, ◌+◌, ◌≤◌, length};
 ghost use Rattle.answer_text.specs.Answer.{answer_text_limit, AnswerPut};
 ghost use Rattle.printing.specs.Output.{WordText};
 ghost use Rattle.printing.proofs.Answers.{word_kept};
+ghost use Rattle.printing.proofs.Determined.{word_text_once};
 ghost use Rattle.label_printing.specs.Output.{LabelText};
 ghost use Rattle.label_printing.proofs.Labels.{label_kept};
-ghost use Rattle.line_printing.specs.Printed.{Keeps, printed_limit, LinePut};
+ghost use Rattle.label_printing.proofs.Determined.{label_text_once};
+ghost use Rattle.line_printing.specs.Printed.{Keeps, Once, printed_limit, LinePut};
 
 use answer_text::ANSWER_TEXT_LIMIT;
 use key_text::{DECIMAL_LIMIT, put, put_decimal};
@@ -29,9 +31,13 @@ pub trait Task {
 
     // The first bytes of a line that is too long are answered as the line.
     ghost kept: { Keeps Answers };
+
+    // A line has one answer.
+    ghost once: { Once Answers };
 }
 
 // The key of the word of a line.
+#[derive(Clone, Copy)]
 pub struct WordKeys;
 
 impl Task for WordKeys {
@@ -39,18 +45,23 @@ impl Task for WordKeys {
 
     ghost kept = { λ most over line text. word_kept most over line };
 
+    ghost once = { word_text_once };
+
     fn put_answer(out: &mut [u8], at: usize, line: &[u8]) -> usize {
         put_word(out, at, line)
     }
 }
 
 // The skeleton of the label of a line.
+#[derive(Clone, Copy)]
 pub struct LabelSkeletons;
 
 impl Task for LabelSkeletons {
     ghost Answers = { LabelText };
 
     ghost kept = { λ most over line text. label_kept most over line };
+
+    ghost once = { label_text_once };
 
     fn put_answer(out: &mut [u8], at: usize, line: &[u8]) -> usize {
         put_label(out, at, line)
