@@ -7,6 +7,7 @@ ghost use Rattle.sorting.specs.Sorting.{Sortable, Mergeable, MergeReady, Joinabl
 
 use book_keys::KEY_ROOM;
 use book_order::is_before;
+use memory::copies::put_all;
 
 // So few starts are merged without a look whether they are in order as they stand.
 const FEW: usize = 8;
@@ -66,7 +67,7 @@ fn join(book: &[u8], keys: &[u8; KEY_ROOM], starts: &mut [u16], middle: usize, r
     if starts.len() <= FEW || goes_before(book, keys, starts[middle], starts[middle - 1]) {
         merge(book, keys, starts, middle, room);
         let count = starts.len();
-        starts.copy_from_slice(&room[..count]);
+        put_all(&room[..count], starts, 0);
     }
 }
 
