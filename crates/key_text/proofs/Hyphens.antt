@@ -21,10 +21,10 @@ one_more : (element : ℕ → List ℕ) (others : ℕ)
 one_more element others = append_assoc (element 0) (further_text element others) (0x2D ∷ element (suc others))
 
 module _ {element : ℕ → List ℕ} {width : ℕ} {start out : List ℕ} {from next others : ℕ} (f : Further element width start from out next others) where
-  pub further_more : {middle after : List ℕ} {place end : ℕ} → Put out next (0x2D ∷ []) middle place → Put middle place (element (suc others)) after end
-      → length (element (suc others)) ≡ width → Further element width start from after end (suc others)
-  further_more hyphen p size = record {
-    put = rw (one_more element others) at (put_after f.put (put_after hyphen p));
+  pub further_more : {middle after : List ℕ} {place behind end : ℕ} → Put out next (0x2D ∷ []) middle place → behind ≡ place
+      → Put middle behind (element (suc others)) after end → length (element (suc others)) ≡ width → Further element width start from after end (suc others)
+  further_more hyphen here p size = record {
+    put = rw (one_more element others) at (put_after f.put (put_after hyphen (rw here at p)));
     wide = rw (← one_more element others, length-append) (omega (arith, f.wide, mul-suc (suc width) others));
   }
 

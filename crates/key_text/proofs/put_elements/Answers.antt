@@ -16,4 +16,5 @@ pub loop-element-preserved : goal.loop-element-preserved
 loop-element-preserved g c =
     let same = next_text g.T.Element.text c.in-Some.ensures.cases.0 c.loop-element-test.true c.element-item.is in
     let written = rw (← same) at c.put-next-in-loop-element.ensures in
-    (rw add-one (further_more c.loop-element.invariant.0 c.put-spaced.ensures written (rw same (g.T.Element.sized c.element-item.result))), omega arith)
+    let hyphen = c.put-spaced.ensures in
+    (rw add-one (further_more c.loop-element.invariant.0 hyphen (omega (arith, hyphen.next)) written (rw same (g.T.Element.sized c.element-item.result))), omega arith)
