@@ -8,6 +8,7 @@ use syllable_record::Record;
 use syllable_text::part::{part_size, put_part};
 
 // How many values the records are written with, if they are those of a row and the values are few enough.
+#[tactic(auto, using(crate::proofs::Measuring::measured_uneven))]
 pub(crate) fn measure(records: &[u8]) -> Option<usize>
     ensures { result ≡ size_of records.now }
 {

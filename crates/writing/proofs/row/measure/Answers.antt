@@ -5,11 +5,8 @@ use native.Mathlib.Omega.{arith}
 use Rattle.std.proofs.lemmas.Bool.Decides.{nat_tests}
 use Rattle.syllable_record.specs.Record.{may_follow}
 use Rattle.writing.specs.Records.{records_of}
-use Rattle.writing.proofs.Measuring.{measured_none, measured_uneven, measured_wrong, measured_long, measured_more, measured_open, measured_all}
+use Rattle.writing.proofs.Measuring.{measured_none, measured_wrong, measured_long, measured_more, measured_open, measured_all}
 use Rattle.writing.proofs.row.measure.Goals as goal
-
-pub returns-then-not-is_empty : goal.returns-then-not-is_empty
-returns-then-not-is_empty c = measured_uneven c.args.records.now (grind (arith, nat_tests))
 
 pub loop-next-init : goal.loop-next-init
 loop-next-init c = measured_none _
