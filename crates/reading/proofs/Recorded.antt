@@ -1,13 +1,13 @@
 -- The record by number is the row's: a reading holds the row's syllables, and their parts are the bytes of their records.
 -- Assumes nothing.
-use mathlib.Core.Path.{◌≡◌, refl, ap, ◌∙◌}
+use mathlib.Core.Path.{◌≡◌, refl, ap, sym, ◌∙◌}
 use mathlib.Core.List.{List, [], ◌∷◌, map}
 use Prim.Native.Nat.{ℕ, zero, suc, ◌-◌, ◌≤◌, ◌<◌}
 use native.Mathlib.Nat.{le_of_suc-le-suc, not-suc-le-zero}
 use native.Mathlib.Omega.{arith}
 use lib.Dec.{T}
 use lib.ListN.{length, get_or, take, replicate, length-map}
-use lib.Seq.{take_at}
+use lib.Seq.{take_at, get_or-take}
 use Rattle.letters.proofs.Written.{medial_written}
 use Rattle.formula.specs.Limits.{limit}
 use Rattle.formula.specs.Syllable.{Final, no_final, Syllable, syllable, bare, final_of, is_syllable}
@@ -62,3 +62,13 @@ module _ (word : List ℕ) (reading : Reading) (right : ReadRight word (Ok readi
   no_record k h =
       let r = right.answers in
       record { admissible = r.admissible; row = r.row; gives = r.gives; beyond = omega (arith, held_count, r.count); is = refl }
+
+-- the same by the reading's own list, at whose front the row's syllables stand
+module _ (word : List ℕ) (reading : Reading) (right : ReadRight word (Ok reading)) where
+  pub record_found : (k : ℕ) → k < reading.count → (d : ℕ) (bytes : List ℕ) → bytes ≡ bytes_by (get_or reading.syllables k d) → HasRecord word k bytes
+  record_found k h d bytes b =
+      has_record word reading right _ refl k (omega (arith, h, held_count word reading right _ refl)) d bytes
+      (b ∙ ap bytes_by (sym (get_or-take reading.count reading.syllables k d h)))
+
+  pub record_missing : (k : ℕ) → reading.count ≤ k → NoRecord word k no_bytes
+  record_missing k h = no_record word reading right _ refl k (omega (arith, h, held_count word reading right _ refl))

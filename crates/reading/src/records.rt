@@ -32,6 +32,7 @@ pub fn bytes_of(packed: u64) -> [u8; Word::RECORD]
 }
 
 // The record of the syllable `number`, from 0, where there is one.
+#[tactic(auto, using(std::proofs::lemmas::Grind::common_steps, crate::proofs::Recorded::record_found, crate::proofs::Recorded::record_missing))]
 pub fn record_at(word: &[u16], number: usize) -> Result<Option<[u8; Word::RECORD]>, Refusal>
     ensures { RecordRight word.now number result }
 {
