@@ -1,6 +1,7 @@
 -- `spelling::spell` meets its contract: the reading's syllables are those of the row that gives the word, and the two sizes say which case of `SpellRight` holds.
 -- Assumes nothing.
 use borrow.Author.Rules.{rules}
+use lib.Seq.{take_all}
 use Rattle.spelling.specs.Spell.{word_refused}
 use Rattle.spelling.proofs.Answers.{syllables_few, spell_values_short, spell_starts_short, spell_room, spell_done}
 use Rattle.spelling.proofs.spell.Goals as goal
@@ -15,10 +16,10 @@ pub returns-then-starts-count : goal.returns-then-starts-count
 returns-then-starts-count c = search (rules, spell_starts_short) depth 14
 
 pub put-requires : goal.put-requires
-put-requires c = search (rules, spell_room) depth 14
+put-requires c = search (rules, spell_room, take_all) depth 14
 
 pub returns : goal.returns
-returns c = search (rules, spell_done) depth 14
+returns c = search (rules, spell_done, take_all) depth 14
 
 pub returns-in_err-reading : goal.returns-in_err-reading
 returns-in_err-reading c = search (rules, word_refused) depth 14
