@@ -10,7 +10,7 @@ use book_order::is_before;
 use memory::copies::put_all;
 
 // So few starts are merged without a look whether they are in order as they stand.
-const FEW: usize = 8;
+const FEW: usize = 4;
 
 // Whether the record at the first start goes before the one at the second.
 fn goes_before(book: &[u8], keys: &[u8; KEY_ROOM], first: u16, second: u16) -> bool
