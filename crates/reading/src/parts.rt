@@ -4,10 +4,9 @@ ghost use Rattle.formula.specs.Limits.{limit};
 ghost use Rattle.refusals.specs.Outcome.{outcome_by, tells_if_there};
 ghost use Rattle.reading.specs.Parts.{end_by, part_told, PartAnswers, PartRight};
 
+use crate::read::pass;
 use formula::Word;
-use recogniser::walk::answer_at;
 use refusals::Refusal;
-use scanning::scan_word;
 
 // Where a syllable's part begins in its word, and how many values it has.
 #[derive(Clone, Copy)]
@@ -34,12 +33,7 @@ fn end_of(starts: &[u8; Word::LIMIT], count: usize, number: usize, end: usize) -
 pub fn part_place(word: &[u16], number: usize) -> Result<Option<Part>, Refusal>
     ensures { PartAnswers word.now number (outcome_by (tells_if_there part_told) result) }
 {
-    // Not by `pass`, which hands the scan back: here it stays where it was made, since its places alone are asked.
-    if Word::LIMIT < word.len() {
-        return Err(Refusal::TooLong);
-    }
-    let scan = scan_word(word);
-    answer_at(word, scan.at, scan.state, scan.count)?;
+    let scan = pass(word)?;
     if scan.count <= number {
         return Ok(None);
     }

@@ -7,10 +7,10 @@ use recogniser::walk::answer_at;
 use refusals::Refusal;
 use scanning::{Scan, scan_word};
 
-// The pass over a word of any values and any length that is a row of syllables. It is made part of its caller in the compiled library, so that what it
+// The pass over a word of any values and any length that is a row of syllables. It is made part of each caller in the compiled library, so that what it
 // scanned is not copied on the way.
 #[inline(always)]
-fn pass(word: &[u16]) -> Result<Scan, Refusal>
+pub(crate) fn pass(word: &[u16]) -> Result<Scan, Refusal>
     ensures { PassRight word.now result }
 {
     if Word::LIMIT < word.len() {

@@ -21,8 +21,6 @@ pub struct Scan {
     pub starts: [u8; Word::LIMIT],
 }
 
-// It is made part of each caller in the compiled library, so that the arrays are filled where they are asked.
-#[inline(always)]
 pub fn scan_word(word: &[u16]) -> Scan
     requires { length word.now ≤ limit }
     ensures { Scanned word.now result }
