@@ -1,12 +1,12 @@
--- Two lists compare by their first bytes, eight or six, each as one number, and then by what is left.
+-- Two lists compare by their first eight bytes, each as one number, and then by what is left.
 -- Assumes nothing.
 use mathlib.Core.Path.{◌≡◌, refl, ap, sym, ◌∙◌}
 use mathlib.Core.List.{List, [], ◌∷◌}
-use Prim.Native.Nat.{ℕ, zero, suc, ◌+◌, ◌*◌, ◌≤◌, ◌<◌}
+use Prim.Native.Nat.{ℕ, zero, suc, ◌≤◌, ◌<◌}
 use native.Mathlib.Nat.{le_of_suc-le-suc}
 use native.Mathlib.Omega.{arith}
 use lib.ListN.{length, get_or, take, drop, drop_of_length-le}
-use Rattle.std.specs.Int.{w16, w32, w64, from_be_bytes}
+use Rattle.std.specs.Int.{w64, from_be_bytes}
 use Rattle.weighing.specs.Order.{order_numbers, in_turn, order_values, front_of}
 use Rattle.std.specs.declared.cmp.Ordering.{Ordering}
 use Rattle.std.specs.declared.cmp.Ordering.TheVariants.{Less, Equal, Greater}
@@ -21,20 +21,15 @@ nothing_left Less = refl
 nothing_left Equal = refl
 nothing_left Greater = refl
 
--- and of six, in two parts
-pub six_big_endian : (a b c d e f : ℕ)
-    → from_be_bytes w32 (a ∷ b ∷ c ∷ d ∷ []) * 65536 + from_be_bytes w16 (e ∷ f ∷ []) ≡ front_of 6 (a ∷ b ∷ c ∷ d ∷ e ∷ f ∷ [])
-six_big_endian a b c d e f = omega arith
-
--- two lists of as many bytes
-pub fronts_told : (n : ℕ) (xs ys : List ℕ) → length xs ≡ n → length ys ≡ n → ((at : ℕ) → get_or xs at 0 < 256) → ((at : ℕ) → get_or ys at 0 < 256)
-    → order_numbers (front_of n xs) (front_of n ys) ≡ order_values xs ys
+-- two lists of eight bytes
+pub fronts_told : (xs ys : List ℕ) → length xs ≡ 8 → length ys ≡ 8 → ((at : ℕ) → get_or xs at 0 < 256) → ((at : ℕ) → get_or ys at 0 < 256)
+    → order_numbers (front_of 8 xs) (front_of 8 ys) ≡ order_values xs ys
 unfolding order_values
-fronts_told n xs ys h k s t =
-    let o : Ordering = order_numbers (front_of n xs) (front_of n ys) in
+fronts_told xs ys h k s t =
+    let o : Ordering = order_numbers (front_of 8 xs) (front_of 8 ys) in
     sym
-    (by_front xs ys n (omega arith) (omega arith) (λ at l. s at) (λ at l. t at)
-    ∙ (λ i. in_turn o (order_values (drop_of_length-le xs {i = n} (omega arith) i) (drop_of_length-le ys {i = n} (omega arith) i))) ∙ nothing_left o)
+    (by_front xs ys 8 (omega arith) (omega arith) (λ at l. s at) (λ at l. t at)
+    ∙ (λ i. in_turn o (order_values (drop_of_length-le xs {i = 8} (omega arith) i) (drop_of_length-le ys {i = 8} (omega arith) i))) ∙ nothing_left o)
 
 grouped : (a b c : Ordering) → in_turn a (in_turn b c) ≡ in_turn (in_turn a b) c
 grouped Less b c = refl

@@ -48,39 +48,6 @@ fn order_fronts(first: &[u8; 8], second: &[u8; 8]) -> Ordering
     front(first).cmp(&front(second))
 }
 
-// The weights of a syllable as one number, the first highest.
-#[tactic(auto, using(crate::proofs::Fronts::six_big_endian))]
-fn front_weights(weights: &[u8; Word::WEIGHTS]) -> u64
-    ensures { result ≡ front_of 6 weights.now }
-{
-    let [head, medial, letter, second_letter, vowel, tone] = *weights;
-    let high = u32::from_be_bytes([head, medial, letter, second_letter]);
-    u64::from(high) * 0x10000 + u64::from(u16::from_be_bytes([vowel, tone]))
-}
-
-// The order of the weights of two syllables.
-fn order_weights(first: &[u8; Word::WEIGHTS], second: &[u8; Word::WEIGHTS]) -> Ordering
-    ensures { result ≡ order_values first.now second.now }
-{
-    front_weights(first).cmp(&front_weights(second))
-}
-
-// The order of two keys by their first syllables at once, where both have one, and then by what is left.
-fn order_short(first: &[u8], second: &[u8]) -> Ordering
-    ensures { result ≡ order_values first.now second.now }
-{
-    match (first.split_first_chunk(), second.split_first_chunk()) {
-        (Some((one, first_rest)), Some((other, second_rest))) => {
-            let order = order_weights(one, other);
-            if order.is_ne() {
-                return order;
-            }
-            first_rest.cmp(second_rest)
-        }
-        _ => first.cmp(second),
-    }
-}
-
 // The order of two keys: where both have eight bytes or more, by these at once, and then by what is left.
 fn order_keys(first: &[u8], second: &[u8]) -> Ordering
     ensures { result ≡ order_values first.now second.now }
@@ -93,7 +60,7 @@ fn order_keys(first: &[u8], second: &[u8]) -> Ordering
             }
             first_rest.cmp(second_rest)
         }
-        _ => order_short(first, second),
+        _ => first.cmp(second),
     }
 }
 

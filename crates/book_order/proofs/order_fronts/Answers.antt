@@ -10,4 +10,4 @@ use Rattle.book_order.proofs.order_fronts.Goals as goal
 pub returns : goal.returns
 returns c =
     c.cmp.ensures ∙ numbers_compared _ _ ∙ (λ i. order_numbers (c.front.ensures i) (c.front-2.ensures i))
-    ∙ fronts_told 8 c.args.first.now c.args.second.now (omega arith) (omega arith) (λ at. omega (arith, c.fits-first at)) (λ at. omega (arith, c.fits-second at))
+    ∙ fronts_told c.args.first.now c.args.second.now (omega arith) (omega arith) (λ at. omega (arith, c.fits-first at)) (λ at. omega (arith, c.fits-second at))

@@ -30,3 +30,6 @@ returns-else-is_ne c =
     c.order_fronts-order.ensures ∙ (λ i. order_values (one.0 i) (other.0 i)) in
     c.cmp.ensures ∙ lists_compared _ _ ∙ (λ i. order_values (one.1 i) (other.1 i)) ∙ by_second _ _ _ front (sym c.is_ne.ensures ∙ c.if-is_ne.false)
     ∙ parts_told 8 xs ys (omega (arith, one.2)) (omega (arith, other.2))
+
+pub returns-in_default : goal.returns-in_default
+returns-in_default c = c.cmp-in_default.ensures ∙ lists_compared _ _
