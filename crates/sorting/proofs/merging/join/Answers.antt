@@ -2,7 +2,6 @@
 -- stand. Assumes nothing.
 use mathlib.Core.Path.{◌≡◌, sym, ap, ◌∙◌}
 use native.Mathlib.Omega.{arith}
-use Prim.Native.Nat.{◌-◌}
 use lib.ListN.{length, take, drop}
 use lib.Seq.{length-take-le}
 use Rattle.memory.proofs.Stores.{sets_whole}
@@ -18,7 +17,7 @@ goes_before-requires c =
     let r = c.requires.0 in
     let starts = c.args.starts.now in
     let keyed = r.mergeable.sortable.keyed in
-    (r.mergeable.sortable.short, keyed_at _ _ starts c.args.middle keyed r.second_there, keyed_at _ _ starts (c.args.middle - 1) keyed (omega (arith, r.second_there)))
+    (r.mergeable.sortable.short, keyed_at _ _ starts _ keyed r.second_there, keyed_at _ _ starts _ keyed (omega (arith, r.second_there)))
 
 pub returns-else-goes_before : goal.returns-else-goes_before
 returns-else-goes_before c =
