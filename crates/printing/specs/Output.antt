@@ -5,12 +5,18 @@ use Rattle.formula.specs.Limits.{limit}
 use Rattle.lines.specs.Line.{Decodes, LineRefused}
 use Rattle.refusals.specs.Refusal.{number_of, place_of}
 use Rattle.refusals.specs.declared.Refusal.{Refusal}
+use Rattle.refusals.specs.declared.Refusal.TheVariants.{NoSuchRow}
 use Rattle.std.specs.declared.result.Result.{Result}
 use Rattle.std.specs.declared.result.Result.TheVariants.{Ok, Err}
 use Rattle.collation.specs.Keyed.{KeyRight}
 use Rattle.collation.specs.declared.key.Key.{Key}
 use Rattle.key_text.specs.Text.{decimal_of, key_text}
 use Rattle.answer_text.specs.Answer.{refused_text}
+
+-- the refusal of an answer; one that is none is never asked for it
+abbrev pub refusal_in : Result Key Refusal → Refusal
+refusal_in (Err refusal) = refusal
+refusal_in (Ok key) = NoSuchRow
 
 -- "OK, syllable count, key"
 unfoldable pub accepted_text : ℕ → List ℕ → List ℕ

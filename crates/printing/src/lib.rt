@@ -1,11 +1,11 @@
 // What is printed for a line behind its number: the key of its word, or why it is refused.
 #![tactic(auto)]
 
-ghost use Rattle.std.specs.Prelude.{◌+◌, ◌≤◌, length};
+ghost use Rattle.std.specs.Prelude.{◌+◌, ◌≤◌, ◌≡◌, length};
 ghost use Rattle.formula.specs.Limits.{limit};
 ghost use Rattle.memory.specs.Put.{PutWithin};
 ghost use Rattle.answer_text.specs.Answer.{answer_text_limit, AnswerPut};
-ghost use Rattle.printing.specs.Output.{accepted_text, LineRight, WordText};
+ghost use Rattle.printing.specs.Output.{refusal_in, accepted_text, LineRight, WordText};
 
 use answer_text::put_refused;
 use collation::key::{Key, key_of};
@@ -19,6 +19,16 @@ fn answer_line(line: &[u8]) -> Result<Key, Refusal>
 {
     let word = decode(line)?;
     key_of(&word.values[..word.count])
+}
+
+// The refusal of an answer that is one.
+fn refusal_in(answer: &Result<Key, Refusal>) -> Refusal
+    ensures { result ≡ refusal_in answer.now }
+{
+    match answer {
+        Err(refusal) => *refusal,
+        Ok(_) => Refusal::NoSuchRow,
+    }
 }
 
 // What follows the number of an accepted line.
@@ -38,8 +48,9 @@ pub fn put_word(out: &mut [u8], at: usize, line: &[u8]) -> usize
     requires { at + answer_text_limit ≤ length out.old }
     ensures { AnswerPut (WordText line.now) out.old at out.new result }
 {
-    match answer_line(line) {
-        Err(refusal) => put_refused(out, at, refusal),
-        Ok(key) => put_accepted(out, at, &key),
-    }
+    let answer = answer_line(line);
+    let Ok(key) = &answer else {
+        return put_refused(out, at, refusal_in(&answer));
+    };
+    put_accepted(out, at, key)
 }
