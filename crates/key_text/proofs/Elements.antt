@@ -1,7 +1,7 @@
 -- What stands between hyphens in the text of a key and of values: the elements by their places.
 -- Assumes nothing.
 use mathlib.Core.Path.{◌≡◌, refl, ap, sym, ◌∙◌}
-use mathlib.Core.List.{List, [], ◌∷◌}
+use mathlib.Core.List.{List, []}
 use Prim.Native.Nat.{ℕ, zero, suc, ◌+◌, ◌*◌, ◌≤◌, ◌<◌}
 use native.Mathlib.Nat.{mul-suc, mul-zero, zero-add}
 use native.Mathlib.Omega.{arith}
@@ -15,10 +15,10 @@ use Rattle.key_text.specs.Text.{hexadecimals_of, hyphenated, syllable_text, key_
 use Rattle.key_text.specs.Elements.{text_at, weights_text}
 use Rattle.key_text.proofs.Hyphens.{hyphenated_same}
 
--- behind the first element stands the text of the others
-pub next_text : {A : Type 0} (text : A → List ℕ) {elements others : List A} {first item : A} {k : ℕ} → elements ≡ first ∷ others → k < length others
-    → item ≡ get_or others k item → text_at text elements (suc k) ≡ text item
-next_text text {elements} {others} {first} {item} {k} e h s = rw e (get_or-map text others k item [] h ∙ ap text (sym s))
+-- an element of a list has the text that stands at its place
+pub element_text : {A : Type 0} (text : A → List ℕ) (elements : List A) (k : ℕ) {item : A} → k < length elements → item ≡ get_or elements k item
+    → text_at text elements k ≡ text item
+element_text text elements k {item} h s = get_or-map text elements k item [] h ∙ ap text (sym s)
 
 -- so many bytes of a part are those of the whole from where the part begins
 part_hexadecimals : (count size from : ℕ) (bytes : List ℕ) → count ≤ size → hexadecimals_of count (take size (drop from bytes)) 0 ≡ hexadecimals_of count bytes from

@@ -1,6 +1,6 @@
--- What stands between hyphens in a text, for any type of it: a value, or the weights of a syllable. An inner contract cites this.
+-- What stands between hyphens in a text, for any type of it: a value, or the weights of a syllable; and such elements with any text between them. Inner contracts cite this.
 -- Assumes nothing.
-use Rattle.std.specs.Prelude.{◌≡◌, List, [], ℕ, length, map, get_or, refl}
+use Rattle.std.specs.Prelude.{◌≡◌, List, [], ◌∷◌, ◌++◌, ℕ, zero, suc, length, map, get_or, refl}
 use Rattle.formula.specs.Limits.{weight_count}
 use Rattle.key_text.specs.Text.{hexadecimals_of, value_text, syllable_text_size, value_text_size}
 
@@ -19,3 +19,13 @@ weights_length weights = refl
 pub value_length : (value : ℕ) → length (value_text value) ≡ value_text_size
 unfolding value_text
 value_length value = refl
+
+-- the elements behind the first, as many as the number says, each behind what stands between
+abbrev pub further_joined : (ℕ → List ℕ) → List ℕ → ℕ → List ℕ
+further_joined element between zero = []
+further_joined element between (suc count) = further_joined element between count ++ (between ++ element (suc count))
+
+-- the texts of so many elements with a text between them, and one hyphen for none
+abbrev pub joined : (ℕ → List ℕ) → List ℕ → ℕ → List ℕ
+joined element between zero = 0x2D ∷ []
+joined element between (suc count) = element 0 ++ further_joined element between count

@@ -3,9 +3,9 @@
 
 ghost use Rattle.std.specs.Prelude.{suc, ℕ, List, ◌+◌, ◌*◌, ◌≤◌, ◌<◌, ◌≡◌, [], ◌∷◌, length};
 ghost use Rattle.formula.specs.Limits.{limit};
-ghost use Rattle.key_text.specs.Text.{digit_of, decimal_of, hexadecimal_of, hexadecimals_of, hyphenated, key_text, value_text, values_text};
+ghost use Rattle.key_text.specs.Text.{digit_of, decimal_of, hexadecimal_of, hexadecimals_of, key_text, value_text, values_text};
 ghost use Rattle.key_text.specs.Text.{decimal_limit, syllable_text_size, key_text_limit, value_text_size};
-ghost use Rattle.key_text.specs.Elements.{text_at, weights_text, weights_length, value_length};
+ghost use Rattle.key_text.specs.Elements.{joined, text_at, weights_text, weights_length, value_length};
 ghost use Rattle.memory.specs.Put.{Put};
 
 use formula::Word;
@@ -123,37 +123,39 @@ impl Element for [u8; Word::WEIGHTS] {
     }
 }
 
-// Elements with hyphens between them, and one hyphen for none.
-fn put_elements<T: Element>(out: &mut [u8], at: usize, elements: &[T]) -> usize
-    requires { (at + suc T.size * length elements.now ≤ length out.old) × (at < length out.old) }
-    ensures { Put out.old at (hyphenated (text_at T.text elements.now) (length elements.now)) out.new result }
+// Elements with these bytes between them, and one hyphen for none.
+fn put_elements<T: Element>(out: &mut [u8], at: usize, elements: &[T], between: &[u8]) -> usize
+    requires { (at + (T.size + length between.now) * length elements.now ≤ length out.old) × (at < length out.old) }
+    ensures { Put out.old at (joined (text_at T.text elements.now) between.now (length elements.now)) out.new result }
 {
-    let Some((first, others)) = elements.split_first() else {
+    if elements.is_empty() {
         return put(out, at, b'-');
-    };
-    let mut next = first.put(out, at);
-    for element in others {
-        let spaced = put(out, next, b'-');
-        next = element.put(out, spaced);
+    }
+    let mut next = at;
+    for (number, element) in elements.iter().enumerate() {
+        next = element.put(out, next);
+        if number + 1 < elements.len() {
+            next = put_text(out, next, between);
+        }
     }
     next
 }
 
 // A key of `count` syllables, with hyphens between them.
-#[tactic(auto, using(crate::proofs::Elements::key_elements))]
+#[tactic(auto, using(crate::proofs::Elements::key_elements, crate::proofs::Hyphens::joined_hyphens))]
 pub fn put_key(out: &mut [u8], at: usize, count: usize, key: &[u8; Word::KEY]) -> usize
     requires { (at + key_text_limit ≤ length out.old) × (count ≤ limit) }
     ensures { Put out.old at (key_text count key.now) out.new result }
 {
     let (syllables, _) = key.as_chunks::<{ Word::WEIGHTS }>();
-    put_elements(out, at, &syllables[..count])
+    put_elements(out, at, &syllables[..count], b"-")
 }
 
 // Values with hyphens between them.
-#[tactic(auto, using(crate::proofs::Elements::values_elements))]
+#[tactic(auto, using(crate::proofs::Elements::values_elements, crate::proofs::Hyphens::joined_hyphens))]
 pub fn put_values(out: &mut [u8], at: usize, values: &[u16]) -> usize
     requires { (at + suc value_text_size * length values.now ≤ length out.old) × (at < length out.old) }
     ensures { Put out.old at (values_text values.now) out.new result }
 {
-    put_elements(out, at, values)
+    put_elements(out, at, values, b"-")
 }
