@@ -1,12 +1,12 @@
 // The record that starts at a place of a book: its word, its stock number, and whether it is live.
 #![tactic(auto)]
 
-ghost use Rattle.std.specs.Prelude.{◌≤◌, T, length, IfOk};
+ghost use Rattle.std.specs.Prelude.{◌≡◌, ◌≤◌, T, length, IfOk};
 ghost use Rattle.refusals.specs.Outcome.{outcome_by, tells_if_there};
 ghost use Rattle.entries.specs.Limits.{book_limit};
 ghost use Rattle.entries.specs.Entries.{is_framed, entry_at};
 ghost use Rattle.entries.specs.Book.{Opened};
-ghost use Rattle.book_word.specs.WordAt.{record_told, Few, FewTold, StartRight, ToldRight, WordRight};
+ghost use Rattle.book_word.specs.WordAt.{marked_count, record_told, Few, FewTold, StartRight, ToldRight, WordRight};
 
 use book_check::open::open_book;
 use book_check::record::Record;
@@ -20,6 +20,19 @@ pub struct RecordTold {
     pub stock: u32,
     pub count: u8,
     pub live: bool,
+}
+
+// What the number of a word's values is raised by where its record is live. No word has so many values.
+const LIVE_MARK: usize = 256;
+
+impl RecordTold {
+    // One number for how many values the word has, and for whether its record is live.
+    pub fn marked_count(self) -> usize
+        ensures { result ≡ marked_count self.live self.count }
+    {
+        let count = usize::from(self.count);
+        if self.live { count + LIVE_MARK } else { count }
+    }
 }
 
 // Whether a record of a book starts at a place.

@@ -100,14 +100,12 @@ impl Pack for Added {
     }
 }
 
-// The stock number of a record, and how many values its word has, with 256 more where the record is live: no word has so many.
+// The stock number of a record, and the one number for how many values its word has and whether it is live.
 impl Pack for RecordTold {
     ghost outcome = { record_told };
 
     fn pack(self) -> u64 {
-        let count = usize::from(self.count);
-        let marked = if self.live { count + 256 } else { count };
-        both(self.stock as usize, marked)
+        both(self.stock as usize, self.marked_count())
     }
 }
 
