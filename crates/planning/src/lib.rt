@@ -1,16 +1,17 @@
 // The answers of find, add and remove to a word in storage order, decided by reading alone.
 #![tactic(auto)]
 
-ghost use Rattle.std.specs.Prelude.{◌≡◌, List, IfOk};
+ghost use Rattle.std.specs.Prelude.{◌≡◌, List, IfOk, length};
 ghost use Rattle.refusals.specs.Outcome.{outcome_by, outcome_of};
 ghost use Rattle.entries.specs.Limits.{head_size};
 ghost use Rattle.entries.specs.Entries.{Entry, entries};
 ghost use Rattle.entries.specs.Book.{IsBook, Opened, Within};
 ghost use Rattle.entries.specs.Change.{Storable};
 ghost use Rattle.entries.specs.Tidy.{live_length};
-ghost use Rattle.entries.specs.Outcome.{find_of, remove_of};
+ghost use Rattle.entries.specs.Outcome.{find_of, add_of, remove_of};
 ghost use Rattle.lookup.specs.Look.{found_told};
 ghost use Rattle.planning.specs.Plan.{added_told, plan_told, RoomRight, PlanRight, PlacedRight};
+ghost use Rattle.planning.specs.Preview.{preview_of, preview_outcome};
 
 use book_frame::HEAD;
 use lookup::{Found, Look, look_up};
@@ -87,6 +88,15 @@ pub fn plan_add(book: &[u8], word: &[u16]) -> Result<Plan, Refusal>
         Look::Live(found) => Err(Refusal::AlreadyLive(found.start)),
         Look::Missing { free, length } => plan_record(book, free, length, HEAD + word.len()),
     }
+}
+
+// What add would tell of a record with the word: where it would start, and whether the book would be tidied for it.
+pub fn preview(book: &[u8], word: &[u16]) -> Result<Added, Refusal>
+    requires { Storable word.now }
+    ensures { preview_outcome result ≡ preview_of (add_of (entries book.now) (length book.now) word.now) }
+{
+    let plan = plan_add(book, word)?;
+    Ok(plan.added())
 }
 
 // Where the live record with the word would be removed.
