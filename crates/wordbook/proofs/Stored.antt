@@ -10,7 +10,7 @@ use lib.Seq.{take_at}
 use Rattle.letters.specs.Choice.{pick}
 use Rattle.formula.specs.Limits.{limit}
 use Rattle.refusals.specs.Refusal.{number_of, place_of}
-use Rattle.refusals.specs.Outcome.{Outcome, outcome_of}
+use Rattle.refusals.specs.Outcome.{Outcome, refuses, outcome_of}
 use Rattle.refusals.specs.declared.Refusal.{Refusal}
 use Rattle.std.specs.declared.result.Result.{Result}
 use Rattle.std.specs.declared.result.Result.TheVariants.{Ok, Err}
@@ -19,7 +19,7 @@ use Rattle.storage.specs.Stored.{sort_runs, makes_long_vowel, makes_letter, comp
 use Rattle.storage.proofs.Runs.{sort_length}
 use Rattle.normaliser.specs.Normal.{NormaliseRight}
 use Rattle.entries.specs.Change.{Storable}
-use Rattle.wordbook.specs.Calls.{WordRefused, refused, WordStored, FormAt, EnteredFor}
+use Rattle.wordbook.specs.Calls.{WordRefused, refused, WordStored, CallAnswers, word_refused, word_stored, FormAt, EnteredFor}
 
 -- rule 2 leaves something of what there is
 compose_some : (word : List ℕ) → 1 ≤ length word → 1 ≤ length (compose word)
@@ -61,6 +61,20 @@ module _ {word before after : List ℕ} {count : ℕ} (f : FormAt word before af
 
   pub form_front : take count after ≡ stored_form word
   form_front = ap (take count) f.values ∙ take_at (stored_form word) (drop count before) count (sym f.long)
+
+  pub form_storable : Storable (take count after)
+  form_storable = subst Storable (sym form_front) (stored_storable word f.stored)
+
+-- an outcome that is the refusal of the word, or what the book answers to its stored form, is the answer of a call
+module _ (word : List ℕ) (answer outcome : Outcome) where
+  pub refused_answers : (number place : ℕ) → WordRefused word number place → outcome ≡ refuses number place → CallAnswers word answer outcome
+  refused_answers number place r e = subst (CallAnswers word answer) (sym e) (word_refused r)
+
+  pub stored_answers : WordStored word → outcome ≡ answer → CallAnswers word answer outcome
+  stored_answers s e = subst (CallAnswers word answer) (sym e) (word_stored s)
+
+-- the set of rules by which the check finds that a call keeps its promise
+pub ruleset answered_by_form = (form_fits, form_front, form_storable, refused_answers, stored_answers)
 
 -- what entering a word tells by its answer: its stored form went on to the book, or the word is refused
 module _ (word before after : List ℕ) (answer : Result ℕ Refusal) (right : EnteredFor word before after (outcome_of answer)) where

@@ -13,7 +13,7 @@ ghost use Rattle.wordbook.specs.Prefix.{PrefixPromise};
 
 use formula::Word;
 use lookup::Found;
-use planning::{Added, plan_add};
+use planning::Added;
 use refusals::Refusal;
 
 mod enter; // enter.rt: the word that is handed in with a book
@@ -39,13 +39,13 @@ pub fn add(book: &mut [u8], word: &[u16], stock: u32) -> Result<Added, Refusal>
 }
 
 // What add would answer on a copy of the book: where its record would start, and whether it would tidy, or why it would refuse.
+#[tactic(auto, using(crate::proofs::Stored::answered_by_form))]
 pub fn preview(book: &[u8], word: &[u16], stock: u32) -> Result<Added, Refusal>
     ensures { PreviewPromise word.now stock book.entry.now book.exit.now (preview_outcome result) }
 {
     let mut values = [0; Word::LIMIT];
     let count = enter(word, &mut values)?;
-    let plan = plan_add(book, &values[..count])?;
-    Ok(plan.added())
+    planning::preview(book, &values[..count])
 }
 
 // Marks the live record with the word as removed, and gives its start.
