@@ -8,7 +8,7 @@ use native.Mathlib.Numerals.{add-one}
 use native.Mathlib.Omega.{arith}
 use Rattle.std.specs.List.{sum_by}
 use Rattle.std.proofs.lemmas.List.Sums.{sum_by-cons, sum_by-take-le}
-use lib.ListN.{length, get_or, take, drop, set, length-append, length-map, length-drop}
+use lib.ListN.{length, get_or, take, drop, set, length-append, length-map, length-take, length-drop}
 use lib.Seq.{take_all, take-suc, drop-cons, set_at, length-take-le, append_snoc}
 use Rattle.formula.specs.Syllable.{no_final, part}
 use Rattle.syllable_record.specs.Decode.{syllable_of}
@@ -79,6 +79,15 @@ module _ (packed number at : ℕ) (values starts bytes : List ℕ) (is : bytes �
       → SyllablePut packed number at (lists values starts) (lists after (set starts number at)) behind
   part_put after behind p = record { start = refl; values = rw (← part_spelled packed bytes is) p }
 
+-- where there is room for syllables, there is room for the first of them
+pub room_front : (syllables values starts : List ℕ) → Room syllables values starts → (few : ℕ) → Room (take few syllables) values starts
+room_front syllables values starts r few =
+    record {
+      short = omega (arith, length-take few syllables, r.short);
+      values_fit = omega (arith, size_sum (take few syllables), size_sum syllables, sum_by-take-le (λ packed. length (spelled_by packed)) syllables few, r.values_fit);
+      starts_fit = omega (arith, length-take few syllables, r.starts_fit);
+    }
+
 -- the pass that writes: both lists have the fronts of the syllables so far
 pub record Filled (syllables values starts new_values new_starts : List ℕ) (at number : ℕ) : Type 0 where
   pub within : number ≤ length syllables
@@ -98,8 +107,7 @@ module _ (syllables values starts new_values new_starts : List ℕ) (at number :
     (p : Filled syllables values starts new_values new_starts at number) (r : Room syllables values starts) where
   -- the first syllables have no more values than all
   front_fits : (few : ℕ) → length (joined (spelled_front syllables few)) ≤ length values
-  front_fits few =
-      omega (arith, size_sum (take few syllables), size_sum syllables, sum_by-take-le (λ packed. length (spelled_by packed)) syllables few, r.values_fit)
+  front_fits few = (room_front syllables values starts r few).values_fit
 
   -- the lists are as long as before
   pub values_length : length new_values ≡ length values

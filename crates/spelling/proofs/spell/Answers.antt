@@ -3,6 +3,8 @@
 use borrow.Author.Rules.{rules}
 use lib.Seq.{take_all}
 use Rattle.spelling.specs.Spell.{word_refused}
+use Rattle.spelling.specs.Put.{Room}
+use Rattle.spelling.proofs.Fronts.{room_front}
 use Rattle.spelling.proofs.Answers.{syllables_few, spell_values_short, spell_starts_short, spell_room, spell_done}
 use Rattle.spelling.proofs.spell.Goals as goal
 
@@ -16,7 +18,9 @@ pub returns-then-starts-count : goal.returns-then-starts-count
 returns-then-starts-count c = search (rules, spell_starts_short) depth 14
 
 pub put-requires : goal.put-requires
-put-requires c = search (rules, spell_room, take_all) depth 14
+put-requires c =
+    let room : Room c.row-syllables.result.now c.args.values.now c.args.starts.now = search (rules, spell_room) depth 14 in
+    search (rules, room, room_front)
 
 pub returns : goal.returns
 returns c = search (rules, spell_done, take_all) depth 14
