@@ -59,36 +59,61 @@ unfolding are_records records_of row_of
 row_joined bytes t =
     parts_joined no_final (length bytes / record_size) bytes (omega arith) (both_right (eqb (length bytes % record_size) 0) (each_follows 0 (records_of bytes)) t)
 
+-- the parts of the first records are no longer than those of all
+parts_fewer : (link : ℕ) (records : List (List ℕ)) (few : ℕ) → length (parts_behind link (take few records)) ≤ length (parts_behind link records)
+parts_fewer link [] zero = omega arith
+parts_fewer link [] (suc few) = omega arith
+parts_fewer link (next ∷ records) zero = omega arith
+parts_fewer link (next ∷ records) (suc few) =
+    omega (
+      arith,
+      parts_fewer (get_or next link_place 0) records few,
+      length-append (part_after link (syllable_of next)) (parts_behind (get_or next link_place 0) (take few records)),
+      length-append (part_after link (syllable_of next)) (parts_behind (get_or next link_place 0) records),
+    )
+
+-- an output has room for the parts of the records
+pub record PartsFit (records : List (List ℕ)) (output : List ℕ) : Type 0 where
+  pub room : length (parts_behind 0 records) ≤ length output
+
+-- where there is room for all, there is room for the first of them
+pub front_fits : (records : List (List ℕ)) (output : List ℕ) → PartsFit records output → (few : ℕ) → PartsFit (take few records) output
+front_fits records output fit few = record { room = omega (arith, fit.room, parts_fewer 0 records few) }
+
 -- at a place of the records: the values so far, at the front of the output, and with the parts from here on they are all parts
 pub record Filled (records : List (List ℕ)) (before output : List ℕ) (link count at : ℕ) : Type 0 where
   pub done : List ℕ
   pub put : PartPut before output 0 done count
   pub joined : done ++ parts_behind link (drop at records) ≡ parts_behind 0 records
+  pub fit : PartsFit records before
 
-pub filled_none : (records : List (List ℕ)) (before : List ℕ) → Filled records before before 0 0 0
-filled_none records before = record { done = []; put = record { put = refl; behind_it = refl }; joined = refl }
+pub filled_none : (records : List (List ℕ)) (before : List ℕ) → PartsFit records before → Filled records before before 0 0 0
+filled_none records before fit = record { done = []; put = record { put = refl; behind_it = refl }; joined = refl; fit = fit }
 
-module _ (bytes before output : List ℕ) (fits : RowFits bytes (length before)) (records : List (List ℕ)) (cut : records ≡ records_of bytes) (link count at : ℕ)
-    (p : Filled records before output link count at) where
+module _ (bytes before : List ℕ) (fits : RowFits bytes (length before)) (records : List (List ℕ)) (cut : records ≡ records_of bytes) where
   all_parts : parts_behind 0 records ≡ join (row_of bytes)
   all_parts = ap (parts_behind 0) cut ∙ row_joined bytes fits.are_records_lem
 
-  done_fits : length p.done ≤ length before
-  done_fits = omega (arith, fits.fits, length-append p.done (parts_behind link (drop at records)), ap length (p.joined ∙ all_parts))
-
-  -- the output is as long as before
-  pub filled_length : length output ≡ length before
-  filled_length = put_length before output 0 p.done count p.put (omega (arith, done_fits))
+  pub parts_fit : PartsFit records before
+  parts_fit = record { room = omega (arith, fits.fits, ap length all_parts) }
 
   -- at the end the values so far are the word
-  pub filled_all : length records ≤ at → RowPut bytes before output count
-  filled_all end =
+  pub filled_all : (output : List ℕ) (link count at : ℕ) → Filled records before output link count at → length records ≤ at → RowPut bytes before output count
+  filled_all output link count at p end =
       let all : p.done ≡ join (row_of bytes) =
       sym (append-nil p.done) ∙ ap (λ (rest : List (List ℕ)). p.done ++ parts_behind link rest) (sym (drop_of_length-le records end)) ∙ p.joined ∙ all_parts in
       record {
         put = rw (← all) (p.put.put ∙ rw zero-add);
         counted = omega (arith, p.put.behind_it, ap length all);
       }
+
+module _ (before output : List ℕ) (records : List (List ℕ)) (link count at : ℕ) (p : Filled records before output link count at) where
+  done_fits : length p.done ≤ length before
+  done_fits = omega (arith, p.fit.room, length-append p.done (parts_behind link (drop at records)), ap length p.joined)
+
+  -- the output is as long as before
+  pub filled_length : length output ≡ length before
+  filled_length = put_length before output 0 p.done count p.put (omega (arith, done_fits))
 
   module _ (more : at < length records) where
     next : List ℕ
@@ -109,10 +134,10 @@ module _ (bytes before output : List ℕ) (fits : RowFits bytes (length before))
     filled_room =
         omega (
           arith,
-          fits.fits,
+          p.fit.room,
           filled_length,
           p.put.behind_it,
-          ap length (joined_next ∙ all_parts),
+          ap length joined_next,
           length-append (p.done ++ part_after link (syllable_of next)) (parts_behind (get_or next link_place 0) rest),
           length-append p.done (part_after link (syllable_of next)),
         )
@@ -126,4 +151,5 @@ module _ (bytes before output : List ℕ) (fits : RowFits bytes (length before))
           done = p.done ++ part_after link (syllable_of next);
           put = put_behind before output 0 p.done count p.put after (part_after link (syllable_of next)) behind (omega (arith, filled_room, filled_length, p.put.behind_it)) q;
           joined = joined_next;
+          fit = p.fit;
         }
