@@ -1,18 +1,23 @@
 -- Two filed keys compare as the rows of weights do, and bytes of words as their values; so the records are in word order.
 -- Assumes nothing.
-use mathlib.Core.Path.{◌≡◌, refl, sym, ap, ◌∙◌}
+use mathlib.Core.Path.{◌≡◌, refl, sym, ap, subst, ◌∙◌}
 use mathlib.Core.Bool.{true, false, true≢false}
 use mathlib.Core.List.{List, [], ◌∷◌, map}
 use Prim.Native.Nat.{ℕ}
 use native.Mathlib.Omega.{arith}
-use Rattle.std.specs.Ordering.{is_lt, is_ne}
+use Rattle.std.specs.Ordering.{is_lt, is_ne, nat_cmp, ordering_then}
+use Rattle.std.specs.Cmp.{IsTotalOrder, IsStrictWeakOrder}
+use Rattle.std.specs.Cmp.Lexicographic.{slice_cmp}
+use Rattle.std.proofs.lemmas.Cmp.{on_total, then_total, nat_list_cmp_total}
+use Rattle.std.proofs.lemmas.List.Sorted.{ranks_by}
 use Rattle.weighing.specs.Order.{order_numbers, in_turn, order_values, order}
 use Rattle.std.specs.declared.cmp.Ordering.{Ordering}
 use Rattle.std.specs.declared.cmp.Ordering.TheVariants.{Less, Equal, Greater}
 use Rattle.weighing.proofs.OrderOfNumbers.{Stand, below, level, above, stand, less_numbers, equal_numbers, greater_numbers}
+use Rattle.weighing.proofs.Library.{turns, lists_compared}
 use Rattle.weighing.proofs.Laws.{keys_order}
 use Rattle.entries.specs.Entries.{value_of, word_at, entry_at}
-use Rattle.book_keys.specs.Filing.{row_of, HasKey}
+use Rattle.book_keys.specs.Filing.{row_of, weights_at, HasKey}
 use Rattle.book_keys.proofs.Rows.{keyed_weights}
 use Rattle.book_order.specs.Order.{file_of, is_less, bytes_at, filed_order}
 
@@ -41,6 +46,21 @@ ordered_words b keys first second one other =
     (λ i. in_turn (order_values (keyed_weights b keys first one i) (keyed_weights b keys second other i))
     (sym (order_of_values (bytes_at b first) (bytes_at b second)) i))
     ∙ ap (λ (w : Ordering). in_turn w (order_values (word_at b first) (word_at b second))) (keys_order (row_of (word_at b first)) (row_of (word_at b second)))
+
+-- the order of pairs of lists, the first of them first
+abbrev pairs : List ℕ × List ℕ → List ℕ × List ℕ → Ordering
+pairs p q = ordering_then (slice_cmp nat_cmp p.0 q.0) (slice_cmp nat_cmp p.1 q.1)
+
+pairs_total : IsTotalOrder pairs
+pairs_total = then_total (on_total (λ (p : List ℕ × List ℕ). p.0) nat_list_cmp_total) (on_total (λ (p : List ℕ × List ℕ). p.1) nat_list_cmp_total)
+
+-- which of any two starts is less, whatever stands there, is an order
+pub starts_ordered : (b keys : List ℕ) → IsStrictWeakOrder (λ (x y : ℕ). is_lt (filed_order b keys x y))
+starts_ordered b keys =
+    subst IsStrictWeakOrder
+    (λ i (x y : ℕ). is_lt ((turns (slice_cmp nat_cmp (weights_at keys x) (weights_at keys y)) (slice_cmp nat_cmp (bytes_at b x) (bytes_at b y))
+    ∙ (λ j. in_turn (lists_compared (weights_at keys x) (weights_at keys y) j) (lists_compared (bytes_at b x) (bytes_at b y) j))) i))
+    (ranks_by pairs_total (λ (x : ℕ). (weights_at keys x, bytes_at b x)))
 
 -- the library's test is that of the definition
 pub less_told : (o : Ordering) → is_lt o ≡ is_less o

@@ -21,11 +21,11 @@ is_less Greater = false
 unfoldable pub before : Entry → Entry → Bool
 before first second = is_less (order (file_of first) (file_of second))
 
--- an inner contract cites what follows, the bytes of the word of the record at a start;
+-- inner contracts cite what follows: the bytes of the word of the record at a start,
 abbrev pub bytes_at : List ℕ → ℕ → List ℕ
 bytes_at bytes start = take (get_or bytes (start + 2) 0) (drop (start + head_size) bytes)
 
--- and the order of the records at two starts, by their filed weights and then by these bytes, of which `proofs/Comparing.antt` speaks
+-- and the order of the records at two starts, by their filed weights and then by these bytes
 abbrev pub filed_order : List ℕ → List ℕ → ℕ → ℕ → Ordering
 filed_order bytes keys first second =
     in_turn (order_values (weights_at keys first) (weights_at keys second)) (order_values (bytes_at bytes first) (bytes_at bytes second))

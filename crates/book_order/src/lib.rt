@@ -3,14 +3,14 @@
 
 ghost use Rattle.std.specs.Prelude.{◌≡◌, ◌+◌, ◌≤◌, length, get_or};
 ghost use Rattle.weighing.specs.Keys.{used_bytes};
-ghost use Rattle.weighing.specs.Order.{order_values, front_of};
+ghost use Rattle.weighing.specs.Order.{order_values, front_of, order};
 ghost use Rattle.entries.specs.Limits.{book_limit, head_size};
 ghost use Rattle.entries.specs.Entries.{entry_at};
 ghost use Rattle.book_keys.specs.Filing.{key_room, weights_at, HasKey};
-ghost use Rattle.book_order.specs.Order.{bytes_at, before};
+ghost use Rattle.book_order.specs.Order.{file_of, bytes_at, filed_order, before};
 
 use book_frame::HEAD;
-use book_keys::KEY_ROOM;
+use book_keys::{KEY_ROOM, part, weights_at};
 use formula::Word;
 use std::cmp::Ordering;
 
@@ -77,4 +77,61 @@ pub fn is_before(book: &[u8], keys: &[u8; KEY_ROOM], first: usize, second: usize
     word_bytes(book, first)
         .cmp(word_bytes(book, second))
         .is_lt()
+}
+
+// The bytes of the word of the record at a start, or as many of them as there are.
+fn bytes_at(book: &[u8], start: u16) -> &[u8]
+    ensures { result.now ≡ bytes_at book.now start }
+{
+    let at = usize::from(start);
+    match book.get(at + 2) {
+        Some(count) => part(book, at + HEAD, usize::from(*count)),
+        None => &[],
+    }
+}
+
+// The order of the records at two starts, for a sort by any of the library's calls: by the weights that are filed, and where these are the same by the
+// bytes of their words. It asks nothing, neither of the book nor of the keys.
+pub fn order(book: &[u8], keys: &[u8], first: u16, second: u16) -> Ordering
+    ensures filed { result ≡ filed_order book.now keys.now first second }
+    ensures by_words { HasKey book.now keys.now first → HasKey book.now keys.now second → result ≡ order (file_of (entry_at book.now first)) (file_of (entry_at book.now second)) }
+{
+    let order = order_keys(weights_at(keys, first), weights_at(keys, second));
+    if order.is_ne() {
+        return order;
+    }
+    bytes_at(book, first).cmp(bytes_at(book, second))
+}
+
+#[cfg(test)]
+mod tests {
+    use super::*;
+
+    // Five records and their filed keys, with the weights of document 01: ခ at 0, က at 8, အိ at 16 and ဣ at 25, which have the same weights, and the digit ၀ at 33.
+    #[test]
+    fn weights_decide_before_values(rt: HostRuntime) {
+        let book =
+            b"MW\x01\0\0\0\0\x01MW\x01\0\0\0\0\x00MW\x02\0\0\0\0\x21\x2DMW\x01\0\0\0\0\x23MW\x01\0\0\0\0\x40";
+        let mut keys = [0u8; 210];
+        for (start, head, vowel) in [(0, 14, 0), (8, 13, 0), (16, 46, 2), (25, 46, 2), (33, 3, 0)] {
+            keys[6 * start] = 1;
+            keys[6 * start + 1] = head;
+            keys[6 * start + 5] = vowel;
+        }
+        for (first, second, want) in [
+            (8, 0, Ordering::Less),
+            (0, 8, Ordering::Greater),
+            (0, 16, Ordering::Less),
+            (33, 8, Ordering::Less),
+            (16, 25, Ordering::Less),
+            (25, 16, Ordering::Greater),
+            (16, 16, Ordering::Equal),
+        ] {
+            assert_eq!(rt;
+                order(book, &keys, first, second),
+                want,
+                "{first} and {second}"
+            );
+        }
+    }
 }
