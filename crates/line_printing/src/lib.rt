@@ -31,9 +31,11 @@ pub trait Task {
 
     // The first bytes of a line that is too long are answered as the line.
     ghost kept: { Keeps Answers };
+}
 
-    // A line has one answer.
-    ghost once: { Once Answers };
+// A task by which a line has one answer.
+pub trait DeterministicTask: Task {
+    ghost once: { Once Self.Answers };
 }
 
 // The key of the word of a line.
@@ -45,11 +47,13 @@ impl Task for WordKeys {
 
     ghost kept = { λ most over line text. word_kept most over line };
 
-    ghost once = { word_text_once };
-
     fn put_answer(out: &mut [u8], at: usize, line: &[u8]) -> usize {
         put_word(out, at, line)
     }
+}
+
+impl DeterministicTask for WordKeys {
+    ghost once = { word_text_once };
 }
 
 // The skeleton of the label of a line.
@@ -61,11 +65,13 @@ impl Task for LabelSkeletons {
 
     ghost kept = { λ most over line text. label_kept most over line };
 
-    ghost once = { label_text_once };
-
     fn put_answer(out: &mut [u8], at: usize, line: &[u8]) -> usize {
         put_label(out, at, line)
     }
+}
+
+impl DeterministicTask for LabelSkeletons {
+    ghost once = { label_text_once };
 }
 
 // Writes what is printed for a line of this number to the front of the output, and answers how many bytes that is.
@@ -77,4 +83,29 @@ pub fn put_line<T: Task>(out: &mut [u8], number: u64, line: &[u8]) -> usize
     let spaced = put(out, numbered, b' ');
     let answered = T::put_answer(out, spaced, line);
     put(out, answered, b'\n')
+}
+
+#[cfg(test)]
+mod tests {
+    use super::*;
+
+    // A task by which a line may have any answer, so that it is no `DeterministicTask`.
+    struct Dashes;
+
+    impl Task for Dashes {
+        ghost Answers = { λ line text. Unit {0} };
+
+        ghost kept = { λ most over line text given. given };
+
+        fn put_answer(out: &mut [u8], at: usize, _line: &[u8]) -> usize {
+            put(out, at, b'-')
+        }
+    }
+
+    #[test]
+    fn a_line_may_have_any_answer(rt: HostRuntime) {
+        let mut out = [0; PRINTED_LIMIT];
+        let used = put_line::<Dashes>(&mut out, 7, b"");
+        assert_eq!(rt; &out[..used], b"7 -\n".as_slice());
+    }
 }

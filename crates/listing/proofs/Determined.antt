@@ -6,9 +6,9 @@ use Prim.Native.Nat.{ℕ}
 use lib.ListN.{length}
 use Rattle.line_printing.specs.Printed.{Once}
 use Rattle.line_printing.specs.contracts.LabelSkeletonsTask.TheImpl as label_skeletons
-use Rattle.line_printing.specs.contracts.LabelSkeletonsTask.TheImpl.Laws as label_skeletons_laws
+use Rattle.line_printing.specs.contracts.LabelSkeletonsDeterministicTask.TheImpl.Laws as label_skeletons_laws
 use Rattle.line_printing.specs.contracts.WordKeysTask.TheImpl as word_keys
-use Rattle.line_printing.specs.contracts.WordKeysTask.TheImpl.Laws as word_keys_laws
+use Rattle.line_printing.specs.contracts.WordKeysDeterministicTask.TheImpl.Laws as word_keys_laws
 use Rattle.line_splitting.proofs.Determined.{prints_determined}
 use Rattle.listing.specs.Running.{EndedText}
 
