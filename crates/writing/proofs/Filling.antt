@@ -85,10 +85,17 @@ pub record Filled (records : List (List ℕ)) (before output : List ℕ) (link c
   pub done : List ℕ
   pub put : PartPut before output 0 done count
   pub joined : done ++ parts_behind link (drop at records) ≡ parts_behind 0 records
+
+pub filled_none : (records : List (List ℕ)) (before : List ℕ) → Filled records before before 0 0 0
+filled_none records before = record { done = []; put = record { put = refl; behind_it = refl }; joined = refl }
+
+-- the same, where there is room for all parts
+pub record FilledWithin (records : List (List ℕ)) (before output : List ℕ) (link count at : ℕ) : Type 0 where
+  pub filled : Filled records before output link count at
   pub fit : PartsFit records before
 
-pub filled_none : (records : List (List ℕ)) (before : List ℕ) → PartsFit records before → Filled records before before 0 0 0
-filled_none records before fit = record { done = []; put = record { put = refl; behind_it = refl }; joined = refl; fit = fit }
+pub within_none : (records : List (List ℕ)) (before : List ℕ) → PartsFit records before → FilledWithin records before before 0 0 0
+within_none records before fit = record { filled = filled_none records before; fit = fit }
 
 module _ (bytes before : List ℕ) (fits : RowFits bytes (length before)) (records : List (List ℕ)) (cut : records ≡ records_of bytes) where
   all_parts : parts_behind 0 records ≡ join (row_of bytes)
@@ -98,8 +105,9 @@ module _ (bytes before : List ℕ) (fits : RowFits bytes (length before)) (recor
   parts_fit = record { room = omega (arith, fits.fits, ap length all_parts) }
 
   -- at the end the values so far are the word
-  pub filled_all : (output : List ℕ) (link count at : ℕ) → Filled records before output link count at → length records ≤ at → RowPut bytes before output count
-  filled_all output link count at p end =
+  pub filled_all : (output : List ℕ) (link count at : ℕ) → FilledWithin records before output link count at → length records ≤ at → RowPut bytes before output count
+  filled_all output link count at within end =
+      let p : Filled records before output link count at = within.filled in
       let all : p.done ≡ join (row_of bytes) =
       sym (append-nil p.done) ∙ ap (λ (rest : List (List ℕ)). p.done ++ parts_behind link rest) (sym (drop_of_length-le records end)) ∙ p.joined ∙ all_parts in
       record {
@@ -107,13 +115,16 @@ module _ (bytes before : List ℕ) (fits : RowFits bytes (length before)) (recor
         counted = omega (arith, p.put.behind_it, ap length all);
       }
 
-module _ (before output : List ℕ) (records : List (List ℕ)) (link count at : ℕ) (p : Filled records before output link count at) where
-  done_fits : length p.done ≤ length before
-  done_fits = omega (arith, p.fit.room, length-append p.done (parts_behind link (drop at records)), ap length p.joined)
+module _ (before output : List ℕ) (records : List (List ℕ)) (link count at : ℕ) (within : FilledWithin records before output link count at) where
+  so_far : Filled records before output link count at
+  so_far = within.filled
+
+  done_fits : length so_far.done ≤ length before
+  done_fits = omega (arith, within.fit.room, length-append so_far.done (parts_behind link (drop at records)), ap length so_far.joined)
 
   -- the output is as long as before
   pub filled_length : length output ≡ length before
-  filled_length = put_length before output 0 p.done count p.put (omega (arith, done_fits))
+  filled_length = put_length before output 0 so_far.done count so_far.put (omega (arith, done_fits))
 
   module _ (more : at < length records) where
     next : List ℕ
@@ -122,11 +133,11 @@ module _ (before output : List ℕ) (records : List (List ℕ)) (link count at :
     rest : List (List ℕ)
     rest = drop (at + 1) records
 
-    joined_next : (p.done ++ part_after link (syllable_of next)) ++ parts_behind (get_or next link_place 0) rest ≡ parts_behind 0 records
+    joined_next : (so_far.done ++ part_after link (syllable_of next)) ++ parts_behind (get_or next link_place 0) rest ≡ parts_behind 0 records
     unfolding next rest
     joined_next =
         let here : drop at records ≡ next ∷ rest = rw add-one (drop-cons records at [] more) in
-        rw append_assoc (ap (λ (left : List (List ℕ)). p.done ++ parts_behind link left) (sym here) ∙ p.joined)
+        rw append_assoc (ap (λ (left : List (List ℕ)). so_far.done ++ parts_behind link left) (sym here) ∙ so_far.joined)
 
     -- there is room for the part
     pub filled_room : count + length (part_after link (syllable_of (get_or records at []))) ≤ length output
@@ -134,22 +145,24 @@ module _ (before output : List ℕ) (records : List (List ℕ)) (link count at :
     filled_room =
         omega (
           arith,
-          p.fit.room,
+          within.fit.room,
           filled_length,
-          p.put.behind_it,
+          so_far.put.behind_it,
           ap length joined_next,
-          length-append (p.done ++ part_after link (syllable_of next)) (parts_behind (get_or next link_place 0) rest),
-          length-append p.done (part_after link (syllable_of next)),
+          length-append (so_far.done ++ part_after link (syllable_of next)) (parts_behind (get_or next link_place 0) rest),
+          length-append so_far.done (part_after link (syllable_of next)),
         )
 
     -- one record more
     pub filled_more : (after : List ℕ) (behind : ℕ) → PartPut output after count (part_after link (syllable_of (get_or records at []))) behind
-        → Filled records before after (get_or (get_or records at []) link_place 0) behind (at + 1)
+        → FilledWithin records before after (get_or (get_or records at []) link_place 0) behind (at + 1)
     unfolding next rest
     filled_more after behind q =
         record {
-          done = p.done ++ part_after link (syllable_of next);
-          put = put_behind before output 0 p.done count p.put after (part_after link (syllable_of next)) behind (omega (arith, filled_room, filled_length, p.put.behind_it)) q;
-          joined = joined_next;
-          fit = p.fit;
+          filled = record {
+            done = so_far.done ++ part_after link (syllable_of next);
+            put = put_behind before output 0 so_far.done count so_far.put after (part_after link (syllable_of next)) behind (omega (arith, filled_room, filled_length, so_far.put.behind_it)) q;
+            joined = joined_next;
+          };
+          fit = within.fit;
         }
