@@ -107,14 +107,21 @@ hyphenated_same first second zero same = refl
 hyphenated_same first second (suc count) same = rw (same 0 (omega arith), further_same first second count same) refl
 
 -- elements of one width: each takes its width and a hyphen, but for the first
-module _ (element : ℕ → List ℕ) (width : ℕ) (sized : (k : ℕ) → length (element k) ≡ width) where
-  further_length : (count : ℕ) → length (further_text element count) ≡ suc width * count
-  further_length zero = omega arith
-  further_length (suc count) =
-      rw length-append (omega (arith, further_length count, sized (suc count), mul-suc (suc width) count))
+module _ (element : ℕ → List ℕ) (width : ℕ) where
+  further_length : (count : ℕ) → ((k : ℕ) → k < suc count → length (element k) ≡ width) → length (further_text element count) ≡ suc width * count
+  further_length zero sized = omega arith
+  further_length (suc count) sized =
+      let before = further_length count (λ k h. sized k (omega arith)) in
+      rw length-append (omega (arith, before, sized (suc count) (omega arith), mul-suc (suc width) count))
 
-  pub hyphenated_short : (count most : ℕ) → 1 ≤ most → count ≤ most → length (hyphenated element count) ≤ suc width * most
-  hyphenated_short zero most one h = let fits : suc width * 1 ≤ suc width * most = mul-le-mul_left (suc width) one in omega arith
-  hyphenated_short (suc count) most one h =
-      let fits : suc width * suc count ≤ suc width * most = mul-le-mul_left (suc width) h in
-      rw length-append (omega (arith, sized 0, further_length count, mul-suc (suc width) count))
+  -- so the text of one element and some others has one length
+  pub hyphenated_length : (others : ℕ) → ((k : ℕ) → k < suc others → length (element k) ≡ width)
+      → length (hyphenated element (suc others)) ≡ width + suc width * others
+  hyphenated_length others sized = rw length-append (omega (arith, sized 0 (omega arith), further_length others sized))
+
+  module _ (sized : (k : ℕ) → length (element k) ≡ width) where
+    pub hyphenated_short : (count most : ℕ) → 1 ≤ most → count ≤ most → length (hyphenated element count) ≤ suc width * most
+    hyphenated_short zero most one h = let fits : suc width * 1 ≤ suc width * most = mul-le-mul_left (suc width) one in omega arith
+    hyphenated_short (suc count) most one h =
+        let fits : suc width * suc count ≤ suc width * most = mul-le-mul_left (suc width) h in
+        omega (arith, hyphenated_length count (λ k l. sized k), mul-suc (suc width) count)
